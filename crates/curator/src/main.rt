@@ -19,7 +19,7 @@ fn main(rt: HostRuntime) -> ExitCode {
 
 /// Runs the program on the host's files, folders and standard output, and returns the exit status.
 ///
-/// Its own function, since the kit proves no call in which a lifetime that `main` infers stands for a type's.
+/// A function apart from `main`: the kit can't prove a call whose type has a lifetime that `main` infers.
 fn run_on_host<E: Sink>(
     rt: &HostRuntime,
     language: Language,
@@ -48,7 +48,7 @@ fn words_and_language(rt: &HostRuntime) -> Result<(Vec<String>, Language), Stop>
     Ok((words, language))
 }
 
-/// The language of pages, by the environment's `LANG`; English without it.
+/// The language of pages, from the environment variable `LANG`; English without it.
 fn language(rt: &HostRuntime) -> Result<Language, Stop> {
     match env::var(rt, "LANG") {
         Ok(locale) => Ok(language_of(locale.as_str())),

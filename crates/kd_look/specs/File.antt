@@ -1,4 +1,4 @@
--- What a file says: a machine, or the days of a key sheet.
+-- The content of a file: a machine, or the days of a key sheet.
 use Rattle.std.specs.Prelude.{ℕ, List, Result, Ok, if◌then◌else◌}
 use Rattle.kd_sheet.specs.Document.{◌>>=◌, document_of}
 use Rattle.kd_sheet.specs.MachineFile.{machine_of}
@@ -8,8 +8,8 @@ use Rattle.kd_findings.specs.Kind.{is_machine_file}
 use Rattle.kd_look.specs.declared.file.File.{File}
 use Rattle.kd_look.specs.declared.file.File.TheVariants as files
 
--- What the bytes of a file say, or the file's first fault. A document that is no machine file is read as a key sheet: if
--- it lacks the array `day`, this is its fault.
+-- The machine or the key sheet in a file, or the file's first fault. A document that isn't a machine file is read as a
+-- key sheet; if it has no array `day`, this is its fault.
 unfoldable pub file_of : List ℕ → Result File SheetFault
 file_of bytes = document_of bytes >>= (λ document.
     if is_machine_file document then machine_of bytes >>= (λ machine. Ok (files.Machine machine))

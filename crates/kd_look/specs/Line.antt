@@ -1,5 +1,5 @@
--- The line of a value: the first line of the file up to whose end the text is a document that has the value. A file in
--- which no line `[[day]]` and nothing of a machine file stands has the line of its first key.
+-- The line of a value: the first line such that the file up to its end is a document with this value. If the array
+-- `day` is missing, the line is that of the file's first key.
 -- Code: the document is parsed up to the end of each line in turn, once for all faults.
 -- Test: tests/cases/curator-look.toml
 use Rattle.std.specs.Prelude.{ℕ, ◌+◌, ◌==◌, ◌||◌, ◌&&◌, nat_lt, Bool, true, false, List, find, length, take, count_by}
@@ -25,7 +25,7 @@ use Rattle.kd_look.specs.declared.line.Sought.TheVariants as soughts
 abbrev pub entry_of : List Data → ℕ → Option Members
 entry_of items entry = option_and_then as_table (numbered_item items entry)
 
--- the table in which a value stands: the document, or the entry with this number of its list `day`
+-- the table in which a value stands: the document, or entry `entry` of its list `day`
 unfoldable pub table_at : Members → Option ℕ → Option Members
 table_at document None = Some document
 table_at document (Some entry) = option_and_then (λ items. entry_of items entry) (entries_of document)
@@ -35,13 +35,13 @@ abbrev pub has_any_key : Members → Bool
 has_any_key no_members = false
 has_any_key (member name value rest) = true
 
--- whether the document has what is sought: an entry, a key in the document or in an entry, or any key
+-- whether the document has what is looked for: an entry, a key of the document or of an entry, or any key
 unfoldable pub has_value : Sought → Members → Bool
 has_value (soughts.Entry entry) document = is_some (table_at document (Some entry))
 has_value (soughts.Key entry key) document = option_map_or (is_given key) (table_at document entry) false
 has_value soughts.AnyKey document = has_any_key document
 
--- whether the text is a document that has what is sought
+-- whether the text is a document that has what is looked for
 abbrev pub reads_value : Sought → List ℕ → Bool
 reads_value sought text = option_map_or (has_value sought) (result_ok (document_of text)) false
 
@@ -49,59 +49,60 @@ reads_value sought text = option_map_or (has_value sought) (result_ok (document_
 abbrev pub ends_line : List ℕ → ℕ → Bool
 ends_line text index = slice_index text index == 10 || index + 1 == length text
 
--- whether a line ends after the byte at `index`, and the text up to there has what is sought
+-- whether a line ends after the byte at `index`, and the text up to there is a document that has what is looked for
 unfoldable pub has_value_at : List ℕ → Sought → ℕ → Bool
 has_value_at text sought index = ends_line text index && reads_value sought (take (index + 1) text)
 
--- the number of the first of the lines before the byte at `end` up to whose end the text has what is sought
+-- the number of the first line, of those that end before `end`, up to whose end the text has what is looked for
 abbrev pub line_before : List ℕ → ℕ → Sought → Option ℕ
 line_before text end sought = option_map (line_at text) (find (has_value_at text sought) (range_with_len 0 end))
 
--- whether the text is longer than 65,536 bytes, or has more than 2,048 line ends: lines aren't sought in it
+-- whether the text is too long to look for lines: it has more than 65,536 bytes, or more than 2,048 line ends
 abbrev pub is_too_long : List ℕ → Bool
 is_too_long text = nat_lt 65536 (length text) || nat_lt 2048 (count_by (λ byte. byte == 10) text)
 
--- the number of the first line up to whose end the text has what is sought; none if lines aren't sought
+-- the number of the first line up to whose end the text has what is looked for; `None` if there is none, or the text is
+-- too long
 abbrev pub line_number : List ℕ → Sought → Option ℕ
 line_number text sought = if is_too_long text then None else line_before text (length text) sought
 
--- what is sought for a missing key: the entry that lacks it; for `day`, which no entry lacks, the file's first key
+-- what to look for if a key is missing: the entry without it; if the array `day` is missing, the file's first key
 abbrev pub sought_without : Option ℕ → Key → Option Sought
 sought_without (Some entry) key = Some (soughts.Entry entry)
 sought_without None keys.Day = Some soughts.AnyKey
 sought_without None key = None
 
--- what is sought for a fault
+-- what to look for to find the line of a fault
 abbrev pub sought_for : Place → SheetFault → Option Sought
 sought_for place (Missing key) = sought_without place.entry key
 sought_for place fault = Some (soughts.Key place.entry place.key)
 
--- the line of a fault
+-- the line of a fault in the file
 unfoldable pub line_of_fault : List ℕ → Place → SheetFault → Option ℕ
 line_of_fault text place fault = option_and_then (line_number text) (sought_for place fault)
 
 -- ---- Lines that are found one after another. No public contract cites these definitions.
 
--- the line of a finding
+-- the line of a finding, which is a fault and its place
 abbrev pub line_of : List ℕ → Finding → Option ℕ
 line_of text finding = line_of_fault text finding.place finding.fault
 
--- the first line of a finding before the byte at `end`
+-- the line of a finding, if it ends before `end`
 unfoldable pub line_so_far : List ℕ → ℕ → Finding → Option ℕ
 line_so_far text end finding = option_and_then (line_before text end) (sought_for finding.place finding.fault)
 
--- the first line, or the later one if there is no first
+-- the first line, if it is known; otherwise the second
 abbrev pub or_line : Option ℕ → Option ℕ → Option ℕ
 or_line (Some line) later = Some line
 or_line None later = later
 
--- the line, if the document has what is sought for the finding
+-- `line`, if the document has what the finding looks for; otherwise `None`
 unfoldable pub line_in : Members → ℕ → Finding → Option ℕ
 line_in document line finding =
     option_and_then (λ sought. if has_value sought document then Some line else None)
     (sought_for finding.place finding.fault)
 
--- the line, if the text is a document that has what is sought for the finding
+-- `line`, if the text is a document that has what the finding looks for; otherwise `None`
 abbrev pub line_in_text : List ℕ → ℕ → Finding → Option ℕ
 line_in_text text line finding =
     option_and_then (λ document. line_in document line finding) (result_ok (document_of text))

@@ -1,4 +1,4 @@
--- What `look_at` writes and answers: a report on each file, and which fault is the first.
+-- The text that `look_at` writes, a report on each file, and its answer, the first fault of all.
 -- Test: tests/cases/curator-look.toml
 use Rattle.std.specs.Prelude.{◌≡◌, ◌⊎◌, ℕ, ◌++◌, List, [], ◌∷◌, Bool, false, true, Result, Err, OnErr, IfOk}
 use Rattle.kd_tables.specs.Ports.{Port}
@@ -17,16 +17,16 @@ pub record NamedText : Type 0 where
   pub name : List ℕ
   pub bytes : List ℕ
 
--- a file that was borrowed, as name and bytes
+-- the name and the bytes of a borrowed file
 abbrev pub named_text : NamedFile → NamedText
 named_text file = record { name = file.name.now; bytes = file.bytes.now }
 
--- the first outcome, or the later one if the first is `Faultless`
+-- the first outcome; the later one if the first is `Faultless`
 abbrev pub or_later : Outcome → Outcome → Outcome
 or_later outcomes.Faultless later = later
 or_later (outcomes.Faulty fault) later = outcomes.Faulty fault
 
--- what is found in the files: the first fault of the first file that has any
+-- the outcome for all files: the first fault of the first file that has any
 abbrev pub outcome_of_all : List NamedText → Outcome
 outcome_of_all [] = outcomes.Faultless
 outcome_of_all (file ∷ rest) = or_later (outcome_of (file_of file.bytes)) (outcome_of_all rest)
@@ -36,19 +36,19 @@ abbrev pub AreReports : List NamedText → List ℕ → Type 0
 AreReports [] text = text ≡ []
 AreReports (file ∷ rest) text = BeginsWith (IsReport file.name file.bytes) (λ others. AreReports rest others) text
 
--- The text has a report on each of the files, and then maybe warnings on machines and sheets together.
+-- The text has a report on each of the files; then warnings may follow that concern several files.
 pub record IsWholeReport (files : List NamedText) (text : List ℕ) : Type 0 where
   pub reports : List ℕ
   pub warnings : List ℕ
   pub made : AreReports files reports
   pub whole : text ≡ reports ++ warnings
 
--- whether the sink failed
+-- whether the answer is that the sink failed
 abbrev pub is_device : Result Outcome LookFault → Bool
 is_device (Err Device) = true
 is_device _ = false
 
--- A report on the files was written, or a prefix of it if the sink failed. The answer is what is found in the files.
+-- A report on the files was written, or a prefix of it if the sink failed. The answer is the outcome for all files.
 pub record WritesReport (files : List NamedText) (sink : Port) (answer : Result Outcome LookFault) : Type 0 where
   pub text : List ℕ
   pub made : IsWholeReport files text
@@ -56,6 +56,6 @@ pub record WritesReport (files : List NamedText) (sink : Port) (answer : Result 
   pub answered : IfOk answer (λ found. found ≡ outcome_of_all files)
   pub device : OnErr answer (answer ≡ Err Device)
 
--- A report on the files was written; or memory ran out. No clause says that it really did.
+-- A report on the files was written; or the answer is that memory ran out, which no clause excludes.
 abbrev pub IsLookAnswer : List NamedText → Port → Result Outcome LookFault → Type 0
 IsLookAnswer files sink answer = WritesReport files sink answer ⊎ (answer ≡ Err NoMemory)

@@ -1,4 +1,4 @@
--- The report on a file: what the file says, or its first fault.
+-- The report on a file: its content in words, or its faults.
 -- Test: tests/cases/curator-look.toml
 use Rattle.std.specs.Prelude.{codes, ◌≡◌, ℕ, ◌++◌, List, Result, Ok, Err}
 use Rattle.kd_sheet.specs.declared.fault.SheetFault.{SheetFault}
@@ -12,17 +12,18 @@ use Rattle.kd_look.specs.declared.file.File.TheVariants as files
 use Rattle.kd_look.specs.declared.outcome.Outcome.{Outcome}
 use Rattle.kd_look.specs.declared.outcome.Outcome.TheVariants as outcomes
 
--- whether the file has a fault, and which is the first
+-- the outcome for a file: faultless, or the first fault
 abbrev pub outcome_of : Result File SheetFault → Outcome
 outcome_of (Ok file) = outcomes.Faultless
 outcome_of (Err fault) = outcomes.Faulty fault
 
--- the words for what a file says, after the file's name
+-- the words for a file's content, after the file's name
 unfoldable pub file_words : List ℕ → File → List ℕ
 file_words name (files.Machine machine) = name ++ codes ": a machine file without a fault\n" ++ machine_words machine
 file_words name (files.Sheet month) = name ++ codes ": a key sheet without a fault\n" ++ sheet_words month
 
--- The text has the words for what the file says, the warnings of its keys, and then warnings of days, if there are any.
+-- The text has the words for the file's content, then the warnings on its keys, then warnings on days, if there are
+-- any.
 pub record Describes (name bytes : List ℕ) (file : File) (text : List ℕ) : Type 0 where
   pub keys : List ℕ
   pub days : List ℕ
@@ -30,11 +31,11 @@ pub record Describes (name bytes : List ℕ) (file : File) (text : List ℕ) : T
   pub of_days : WarnsOfDays name days
   pub whole : text ≡ file_words name file ++ (keys ++ days)
 
--- The text says what the file says, or names the file's faults, the first of them first.
+-- The text has the words for the file's content or, if it has faults, the lines for them.
 abbrev pub SaysOrNames : List ℕ → List ℕ → Result File SheetFault → List ℕ → Type 0
 SaysOrNames name bytes (Ok file) text = Describes name bytes file text
 SaysOrNames name bytes (Err fault) text = NamesFault name bytes fault text
 
--- The text is the report on the file with this name and these bytes.
+-- The text is the report on the file called `name`, with the content `bytes`.
 abbrev pub IsReport : List ℕ → List ℕ → List ℕ → Type 0
 IsReport name bytes text = SaysOrNames name bytes (file_of bytes) text

@@ -1,6 +1,6 @@
--- Pieces of text.
+-- Texts of numbers.
 use Rattle.std.specs.Prelude.{codes, ℕ, ◌++◌, nat_lt, List, decimal, if◌then◌else◌}
 
--- a number, with a 0 before a number of one digit, as key sheets print rings
+-- a number with at least two digits, as key sheets print rings
 unfoldable pub two_digits : ℕ → List ℕ
 two_digits number = (if nat_lt number 10 then codes "0" else codes "") ++ decimal number

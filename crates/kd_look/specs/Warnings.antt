@@ -1,4 +1,4 @@
--- The warnings of a file: of a byte order mark, of its keys, and of a key sheet's days.
+-- The warnings on a file: on a byte order mark, on its keys, and on a key sheet's days.
 -- Test: tests/cases/curator-look.toml
 use Rattle.std.specs.Prelude.{codes, ◌≡◌, ℕ, ◌++◌, ◌==◌, ◌&&◌, Bool, List, [], MatchResult, slice_index, if◌then◌else◌}
 use Rattle.kd_sheet.specs.Document.{document_of}
@@ -9,27 +9,27 @@ use Rattle.kd_findings.specs.Warnings.{AreWarnings}
 unfoldable pub has_mark : List ℕ → Bool
 has_mark bytes = slice_index bytes 0 == 239 && slice_index bytes 1 == 187 && slice_index bytes 2 == 191
 
--- the warning of a byte order mark, if the file has it
+-- the warning on a byte order mark; nothing if the file has none
 unfoldable pub mark_words : List ℕ → List ℕ → List ℕ
 mark_words name bytes = if has_mark bytes
     then name ++ codes ": warning: the file begins with a byte order mark, which the desk passes over\n" else []
 
--- The text warns of a byte order mark, and of the keys of a file that is a document.
+-- The text has the warning on a byte order mark and, if the file is a document, the warnings on its keys.
 pub record AreKeyWarnings (name bytes text : List ℕ) : Type 0 where
   pub lines : List ℕ
   pub told : MatchResult (document_of bytes) (λ document. AreWarnings name document lines) (λ fault. lines ≡ [])
   pub whole : text ≡ mark_words name bytes ++ lines
 
--- a line that warns of days: `words` go on after the letters `day`
+-- a warning on days: the file's name, `day`, then `words`
 unfoldable pub day_line : List ℕ → List ℕ → List ℕ
 day_line name words = name ++ codes ": warning: day" ++ words ++ codes "\n"
 
--- The line is one that warns of days, with these words.
+-- The text is a warning on days with the words `words`, which have no line end.
 pub record IsDayLine (name words text : List ℕ) : Type 0 where
   pub plain : IsInOneLine words
   pub whole : text ≡ day_line name words
 
--- The text has warnings of days, and no other line.
+-- The text consists of warnings on days.
 pub record WarnsOfDays (name text : List ℕ) : Type 0 where
   pub words : List (List ℕ)
   pub are : ArePieces (IsDayLine name) words text

@@ -1,4 +1,4 @@
-//! Days of a key sheet that are alike but for their numbers.
+//! Days of a key sheet that differ only in their numbers.
 ghost use Rattle.std.specs.Prelude.{OnOk};
 ghost use Rattle.std.specs.String.{string_bytes};
 ghost use Rattle.kd_look.specs.Warnings.{WarnsOfDays};
@@ -24,7 +24,7 @@ fn have_same_pins(one: &SheetDay, other: &SheetDay) -> bool {
     }
 }
 
-/// Whether both days have the same pairs and groups, or rows and key list.
+/// Whether both days have the same pairs and groups or, on a Converter, the same rows and key list.
 fn have_same_lists(one: &SheetDay, other: &SheetDay) -> bool {
     one.pairs() == other.pairs()
         && one.groups() == other.groups()
@@ -32,7 +32,7 @@ fn have_same_lists(one: &SheetDay, other: &SheetDay) -> bool {
         && one.list() == other.list()
 }
 
-/// Whether the days differ in nothing but their numbers.
+/// Whether the days differ only in their numbers.
 fn are_alike(one: &SheetDay, other: &SheetDay) -> bool {
     one.model() == other.model()
         && one.reflector() == other.reflector()
@@ -46,7 +46,7 @@ fn are_alike(one: &SheetDay, other: &SheetDay) -> bool {
         && have_same_lists(one, other)
 }
 
-/// The first day before day `number` that is alike but for its number.
+/// The first day before day `number` that differs from it only in the number.
 fn first_alike(sheet: &Sheet, number: u8) -> Option<u8> {
     let day = sheet.day(number)?;
     for earlier in 1..number {
@@ -59,7 +59,7 @@ fn first_alike(sheet: &Sheet, number: u8) -> Option<u8> {
     None
 }
 
-/// Appends a warning if day `number` is like an earlier day but for its number.
+/// Appends a warning if day `number` differs from an earlier day only in the number.
 fn push_alike(
     lines: &mut String,
     alloc: Global,
@@ -77,7 +77,7 @@ fn push_alike(
     push_day_line(lines, name, words.as_str())
 }
 
-/// Appends a warning for each day that is like an earlier day but for its number.
+/// Appends a warning for each day that differs from an earlier day only in the number.
 pub fn push_alike_days(
     lines: &mut String,
     alloc: Global,

@@ -19,7 +19,7 @@ use kd_sheet::SheetFault;
 use kd_sheet::by_key::parse_table;
 use std::alloc::{AllocError, Global};
 
-/// Appends the number and the name of `fault` in parentheses, and ends the line.
+/// Appends the end of a fault's line: the fault's number and name in parentheses.
 #[tactic(auto, using(std::proofs::Common::append_assoc))]
 fn push_fault(text: &mut String, fault: SheetFault) -> Result<(), AllocError>
     ensures { OnOk result (string_bytes text.new ≡ string_bytes text.old ++ fault_end fault) }
@@ -40,7 +40,7 @@ fn push_line(text: &mut String, line: Option<usize>) -> Result<(), AllocError>
     }
 }
 
-/// Appends the line of a fault, with the words `wrong` for what is wrong.
+/// Appends the line of a fault; `wrong` are the words for what is wrong.
 #[tactic(auto, using(std::proofs::Common::append_assoc), unfolding(crate::specs::FaultWords::fault_line))]
 fn push_fault_line(
     text: &mut String,
@@ -62,7 +62,7 @@ fn push_fault_line(
     push_fault(text, fault)
 }
 
-/// Appends the line of `finding`, which is in line `line` of the file.
+/// Appends the line for `finding`, which stands in line `line` of the file.
 fn push_finding(
     text: &mut String,
     alloc: Global,
@@ -84,7 +84,7 @@ fn push_finding(
     )
 }
 
-/// Appends a line for each of `findings`, which are in these lines of the file.
+/// Appends a line for each of `findings`, which stand in the lines `lines` of the file.
 fn push_findings(
     text: &mut String,
     alloc: Global,
@@ -123,7 +123,7 @@ fn plain_line(
     Ok(text)
 }
 
-/// The lines for the faults of a file, of which `fault` is the first.
+/// The lines for the faults of a file; `fault` is the first of them.
 fn fault_lines(
     alloc: Global,
     bytes: &[u8],
@@ -153,7 +153,7 @@ fn fault_lines(
     }
 }
 
-/// The lines for the faults of a file, of which `fault` is the first, and warnings.
+/// The lines for the faults of a file, of which `fault` is the first, then the warnings on its keys.
 pub fn refusal(
     alloc: Global,
     bytes: &[u8],

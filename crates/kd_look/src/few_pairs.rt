@@ -1,4 +1,4 @@
-//! Days of a key sheet that have fewer pairs at the key `plugs` than another day of their model.
+//! Days of a key sheet that have fewer plugboard pairs than another day of their model.
 ghost use Rattle.std.specs.Prelude.{OnOk};
 ghost use Rattle.std.specs.String.{string_bytes};
 ghost use Rattle.kd_look.specs.Warnings.{WarnsOfDays};
@@ -27,7 +27,7 @@ fn pairs_of(sheet: &Sheet, model: Model, number: u8) -> Option<Pairs> {
     })
 }
 
-/// The first of the days of `model` that have the most pairs.
+/// The first day of `model` that has the most pairs, of all its days.
 fn most_pairs(sheet: &Sheet, model: Model) -> Option<Pairs> {
     let mut most: Option<Pairs> = None;
     for number in 1..32 {

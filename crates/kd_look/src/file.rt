@@ -1,4 +1,4 @@
-//! `File`: what a file says, a machine or a key sheet.
+//! `File`: the content of a file, a machine or a key sheet.
 ghost use Rattle.kd_tables.specs.Answers.{AgreesOrNoMemory};
 ghost use Rattle.kd_look.specs.File.{file_of};
 
@@ -8,7 +8,7 @@ use kd_sheet::{Sheet, SheetFault, read_machine, read_sheet};
 use kd_state::Machine;
 use std::alloc::Global;
 
-/// What a file says.
+/// The content of a file.
 #[derive(Drop)]
 pub enum File {
     Machine(Machine),

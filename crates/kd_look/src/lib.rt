@@ -1,4 +1,4 @@
-//! Says in words what machine files and key sheets say, or what is wrong with them.
+//! Puts machine files and key sheets into words, or names their faults.
 #![tactic(auto)]
 
 mod alike;

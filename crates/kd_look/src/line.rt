@@ -14,18 +14,18 @@ use kd_sheet::{Key, SheetFault};
 use std::alloc::{AllocError, Global};
 use toml::{Table, Value};
 
-/// The most bytes of a file in which lines are sought.
+/// The most bytes of a file in which the lines of faults are looked for.
 const MOST_BYTES: usize = 65_536;
 
-/// The most line ends of a file in which lines are sought: the file is parsed up to each of them.
+/// The most line ends of a file in which the lines of faults are looked for: it is parsed up to each line end.
 const MOST_LINES: usize = 2_048;
 
-/// What is sought in a document.
+/// What to look for in a document, to find the line of a fault.
 #[derive(Clone, Copy)]
 enum Sought {
     /// The entry of a key sheet with this number, counted from 1.
     Entry(usize),
-    /// A key, in the entry with this number; without a number, in the document itself.
+    /// A key in the entry with this number; without a number, in the document itself.
     Key(Option<usize>, Key),
     /// Any key of the document.
     AnyKey,
@@ -40,7 +40,7 @@ fn entry_of(items: &[Value], entry: usize) -> Option<&Table>
     item.as_table()
 }
 
-/// The table in which a value stands: `document`, or the entry with this number of its list `day`.
+/// The table in which a value stands: `document`, or entry `entry` of its list `day`.
 #[tactic(auto, unfolding(crate::specs::Line::table_at))]
 fn table_at(document: &Table, entry: Option<usize>) -> Option<&Table>
     ensures { option_map (λ table. table_view table.now) result
@@ -70,7 +70,7 @@ fn has_key(document: &Table, entry: Option<usize>, key: Key) -> bool
     }
 }
 
-/// Whether `document` has what is sought.
+/// Whether `document` has what is looked for.
 #[tactic(auto, unfolding(crate::specs::Line::has_value))]
 fn has_value(document: &Table, sought: Sought) -> bool
     ensures { result ≡ has_value sought (table_view document.now) }
@@ -82,7 +82,7 @@ fn has_value(document: &Table, sought: Sought) -> bool
     }
 }
 
-/// What is sought for a missing key: the entry that lacks it; for `day`, which no entry lacks, the file's first key.
+/// What to look for if `key` is missing: the entry without it; if the array `day` is missing, the file's first key.
 fn sought_without(entry: Option<usize>, key: Key) -> Option<Sought>
     ensures { result ≡ sought_without entry key }
 {
@@ -93,7 +93,7 @@ fn sought_without(entry: Option<usize>, key: Key) -> Option<Sought>
     }
 }
 
-/// What is sought for `finding`.
+/// What to look for to find the line of `finding`.
 fn sought_for(finding: &Finding) -> Option<Sought>
     ensures { result ≡ sought_for finding.now.place finding.now.fault }
 {
@@ -104,7 +104,7 @@ fn sought_for(finding: &Finding) -> Option<Sought>
     }
 }
 
-/// Line `line`, if `document` has what is sought for `finding`.
+/// `line`, if `document` has what `finding` looks for; otherwise `None`.
 #[tactic(auto, unfolding(crate::specs::Line::line_in))]
 fn line_in(document: &Table, line: usize, finding: &Finding) -> Option<usize>
     ensures { result ≡ line_in (table_view document.now) line finding.now }
@@ -117,7 +117,7 @@ fn line_in(document: &Table, line: usize, finding: &Finding) -> Option<usize>
     }
 }
 
-/// The line that is known, or line `line`, if `document` has what is sought for `finding`.
+/// The line `known`, if there is one; otherwise `line`, if `document` has what `finding` looks for.
 fn known_line(
     known: Option<usize>,
     document: &Table,
@@ -132,7 +132,7 @@ fn known_line(
     }
 }
 
-/// The lines of `findings`: those in `lines`, and line `line` for the others of which `document` has what is sought.
+/// The lines of `findings`: the known ones in `lines`; for the others `line`, if `document` has what they look for.
 fn next_lines(
     alloc: Global,
     document: &Table,
@@ -152,7 +152,7 @@ fn next_lines(
     Ok(next)
 }
 
-/// The lines of `findings`: those in `lines`, and line `line` for the others of which `text` has what is sought.
+/// The lines of `findings`: the known ones in `lines`; for the others `line`, if `text` has what they look for.
 fn lines_with(
     alloc: Global,
     text: &[u8],
@@ -180,7 +180,7 @@ fn ends_line(text: &[u8], index: usize) -> bool
     text[index] == b'\n' || index + 1 == text.len()
 }
 
-/// The lines of `findings`: those in `lines`, and line `line` for others, if it ends after the byte at `index`.
+/// The lines of `findings` in the text up to the byte at `index`. `lines` has those before this byte.
 fn lines_after(
     alloc: Global,
     text: &[u8],
@@ -201,14 +201,14 @@ fn lines_after(
     }
 }
 
-/// Whether `text` is too long to seek lines in it.
+/// Whether `text` is too long to look for lines in it.
 fn is_too_long(text: &[u8]) -> bool
     ensures { result ≡ is_too_long text.now }
 {
     text.len() > MOST_BYTES || text.iter().filter(|byte| **byte == b'\n').count() > MOST_LINES
 }
 
-/// No line for each of `findings`.
+/// A `None` for each of `findings`.
 fn no_lines(alloc: Global, findings: &[Finding]) -> Result<Vec<Option<usize>>, AllocError>
     ensures { IfOk result (λ lines. lines.items ≡ map (λ finding. None) findings.now) }
 {
@@ -219,7 +219,7 @@ fn no_lines(alloc: Global, findings: &[Finding]) -> Result<Vec<Option<usize>>, A
     Ok(lines)
 }
 
-/// The line of each of `findings`, sought in the whole `text`.
+/// The line of each of `findings`, looked for in the whole `text`.
 fn seek_lines(
     alloc: Global,
     text: &[u8],
@@ -239,9 +239,9 @@ fn seek_lines(
     Ok(lines)
 }
 
-/// The line of each of `findings`: the first line up to whose end `text` is a document with what is sought.
+/// The line of each of `findings`: the first line up to whose end `text` is a document with what the finding looks for.
 ///
-/// `None` if the whole text isn't such a document, or is too long.
+/// `None` if there is none, or `text` is too long.
 pub fn lines_of(
     alloc: Global,
     text: &[u8],

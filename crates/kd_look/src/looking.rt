@@ -1,4 +1,4 @@
-//! `look_at`: says in words what files say, or what is wrong with them.
+//! `look_at`: puts files into words, or names their faults.
 ghost use Rattle.std.specs.Prelude.{◌≡◌, ◌||◌, map, Err, IfOk, OnOk};
 ghost use Rattle.std.specs.String.{string_bytes};
 ghost use Rattle.kd_tables.specs.Ports.{port};
@@ -17,13 +17,13 @@ use std::alloc::{AllocError, Global};
 /// A file to look at.
 #[derive(Clone, Copy)]
 pub struct NamedFile<'f> {
-    /// The name with which lines on the file begin.
+    /// The name of the file, with which the lines on it begin.
     pub name: &'f str,
     /// The file's content.
     pub bytes: &'f [u8],
 }
 
-/// Why a report wasn't written whole.
+/// Why a report wasn't written completely.
 #[derive(Clone, Copy, Debug, PartialEq, Eq)]
 pub enum LookFault {
     /// The sink failed.
@@ -54,7 +54,7 @@ impl From<Device> for LookFault {
     }
 }
 
-/// Appends the report on `file`, and notes what the file says of models.
+/// Appends the report on `file`, and notes for which models it is.
 fn push_report<'f>(
     text: &mut String,
     summaries: &mut Vec<FileSummary<'f>>,
@@ -78,7 +78,7 @@ fn push_report<'f>(
     Ok(outcome)
 }
 
-/// Appends the reports on `files`, and notes what each of them says of models.
+/// Appends the reports on `files`, and notes for which models each of them is.
 fn push_reports<'f>(
     text: &mut String,
     summaries: &mut Vec<FileSummary<'f>>,
@@ -106,7 +106,7 @@ struct WholeReport {
     outcome: Outcome,
 }
 
-/// Makes the report on `files`: a report on each of them, and then the warnings on missing days.
+/// Makes the report on `files`: a report on each of them, then the warnings on missing days.
 fn report_all(alloc: Global, files: &[NamedFile<'_>]) -> Result<WholeReport, AllocError>
     ensures report { IfOk result (λ made.
         IsWholeReport (map named_text files.now) (string_bytes made.text)) }
@@ -119,7 +119,7 @@ fn report_all(alloc: Global, files: &[NamedFile<'_>]) -> Result<WholeReport, All
     Ok(WholeReport { text, outcome })
 }
 
-/// Writes what `files` say, or what is wrong with them.
+/// Writes the contents of `files` in words, or their faults.
 ///
 /// With `NoMemory`, nothing is written. With `Device`, a prefix of the report is written.
 pub fn look_at<W: Sink>(

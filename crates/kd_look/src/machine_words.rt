@@ -1,4 +1,4 @@
-//! Says in words how a machine stands: a line for each slot, cable, pin wheel and bar.
+//! A machine in words: a line for each slot, cable, pin wheel and bar.
 ghost use Rattle.std.specs.Prelude.{codes, ◌≡◌, ◌<◌, ◌++◌, ◌∷◌, [], OnOk, Some, None};
 ghost use Rattle.std.specs.List.{flat_map, range_with_len};
 ghost use Rattle.std.specs.String.{string_bytes};
@@ -12,7 +12,7 @@ use kd_state::Machine;
 use kd_tables::{Letter, Wheel};
 use std::alloc::AllocError;
 
-/// A kind of thing of which a machine has several, each with a number.
+/// A sort of things of which a machine has several, numbered from 1.
 #[derive(Clone, Copy)]
 pub enum Thing {
     Slot,
@@ -32,7 +32,7 @@ fn push_label(text: &mut String, name: &str, number: u8) -> Result<(), AllocErro
     text.push_str(": ")
 }
 
-/// Appends a letter, or nothing.
+/// Appends the letter; nothing without a letter.
 fn push_optional_letter(text: &mut String, letter: Option<Letter>) -> Result<(), AllocError>
     ensures { OnOk result (string_bytes text.new ≡ string_bytes text.old ++ letter_words letter) }
 {
@@ -155,7 +155,7 @@ fn push_spaced_letter(text: &mut String, letter: Letter) -> Result<(), AllocErro
     push_letter(text, letter)
 }
 
-/// Appends `letter` after a space, if its pin on pin wheel `wheel` is effective.
+/// Appends a space and `letter`, if this pin of pin wheel `wheel` is effective.
 #[tactic(auto, using(std::proofs::Common::append_assoc), unfolding(crate::specs::MachineWords::pin_words))]
 fn push_pin(
     text: &mut String,
@@ -213,7 +213,7 @@ fn push_bar(text: &mut String, machine: &Machine, bar: u8) -> Result<(), AllocEr
     text.push_str("\n")
 }
 
-/// Appends the line of the thing with the number `number`, if the machine has this thing.
+/// Appends the line of the thing of this sort with the number `number`, if the machine has it.
 #[tactic(auto, unfolding(crate::specs::MachineWords::thing_words))]
 fn push_thing(
     text: &mut String,
@@ -232,7 +232,7 @@ fn push_thing(
     }
 }
 
-/// Appends the lines of the things with the numbers 1 to `count`.
+/// Appends the lines of all things of this sort, with the numbers from 1 to `count`.
 fn push_things(
     text: &mut String,
     machine: &Machine,

@@ -1,21 +1,21 @@
-//! Warnings on machines and key sheets together: a machine for which no sheet has a day.
+//! Warnings on a machine for which no key sheet has a day.
 
 use kd_slips::model_name;
 use kd_tables::Model;
 use std::alloc::{AllocError, Global};
 
-/// What a file says of models.
+/// The models that a file is for.
 #[derive(Drop)]
 pub enum Contents {
-    /// The file is a machine file, of this model.
+    /// A machine file, of this model.
     Machine(Model),
-    /// The file is a key sheet, with days for these models.
+    /// A key sheet, with days for these models.
     Sheet(Vec<Model>),
-    /// The file has a fault.
+    /// A file with faults.
     Unknown,
 }
 
-/// What a file says of models, with the file's name.
+/// The models that a file is for, with the file's name.
 #[derive(Drop)]
 pub struct FileSummary<'f> {
     /// The file's name.
@@ -23,7 +23,7 @@ pub struct FileSummary<'f> {
     pub contents: Contents,
 }
 
-/// Whether one of the sheets has a day for `model`.
+/// Whether at least one sheet has a day for `model`.
 fn has_day(summaries: &[FileSummary<'_>], model: Model) -> bool {
     for file in summaries {
         if let Contents::Sheet(models) = &file.contents
@@ -35,7 +35,7 @@ fn has_day(summaries: &[FileSummary<'_>], model: Model) -> bool {
     false
 }
 
-/// A warning for each sheet, that it has no day for the machine `name` of this model.
+/// A warning for each sheet: it has no day for the machine `name` of this model.
 fn sheet_lines(
     alloc: Global,
     name: &str,
@@ -56,7 +56,7 @@ fn sheet_lines(
     Ok(lines)
 }
 
-/// The warnings on machines for which no sheet has a day, where there are sheets.
+/// The warnings on machines for which no sheet has a day; none if there is no sheet.
 pub fn missing_day_warnings(
     alloc: Global,
     summaries: &[FileSummary<'_>],

@@ -1,4 +1,4 @@
-//! The report on one file: what it says, or what is wrong with it.
+//! The report on one file: its content in words, or its faults.
 ghost use Rattle.std.specs.Prelude.{◌≡◌, ◌++◌, IfOk, OnOk};
 ghost use Rattle.std.specs.String.{string_bytes};
 ghost use Rattle.kd_look.specs.Report.{Describes, IsReport, file_words, outcome_of};
@@ -23,7 +23,7 @@ pub struct Report {
     pub contents: Contents,
 }
 
-/// Appends the words for what the file `name` says.
+/// Appends the words for the content of the file `name`.
 #[tactic(auto, using(std::proofs::Common::append_assoc), unfolding(crate::specs::Report::file_words))]
 fn push_file(text: &mut String, name: &str, file: &File) -> Result<(), AllocError>
     ensures { OnOk result (string_bytes text.new
@@ -42,7 +42,7 @@ fn push_file(text: &mut String, name: &str, file: &File) -> Result<(), AllocErro
     }
 }
 
-/// Words for what the file `name` says, and its warnings.
+/// The words for the content of the file `name`, then its warnings.
 fn description(alloc: Global, bytes: &[u8], name: &str, file: &File) -> Result<String, AllocError>
     ensures { IfOk result (λ text. Describes name.now bytes.now file.now (string_bytes text)) }
 {
@@ -55,7 +55,7 @@ fn description(alloc: Global, bytes: &[u8], name: &str, file: &File) -> Result<S
     Ok(text)
 }
 
-/// What `file` says of models.
+/// The models that `file` is for.
 fn contents_of(alloc: Global, file: &File) -> Result<Contents, AllocError> {
     match file {
         File::Machine(machine) => Ok(Contents::Machine(machine.model())),
@@ -63,7 +63,7 @@ fn contents_of(alloc: Global, file: &File) -> Result<Contents, AllocError> {
     }
 }
 
-/// Makes the report on the file `name` with the content `bytes`.
+/// Makes the report on the file called `name`, with the content `bytes`.
 pub fn make_report(alloc: Global, bytes: &[u8], name: &str) -> Result<Report, AllocError>
     ensures report { IfOk result (λ made. IsReport name.now bytes.now (string_bytes made.text)) }
     ensures found { IfOk result (λ made. made.outcome ≡ outcome_of (file_of bytes.now)) }

@@ -1,4 +1,4 @@
-//! Says in words what a key sheet has: the days of each model, and the days without groups.
+//! A key sheet in words: the days of each model, and the days without groups.
 ghost use Rattle.std.specs.Prelude.{codes, ◌≡◌, ◌<◌, ◌++◌, true, false, OnOk};
 ghost use Rattle.std.specs.String.{string_bytes};
 ghost use Rattle.kd_look.specs.SheetWords.{is_of_sort, has_day, day_words, numbered_day_words, sort_words};
@@ -19,7 +19,7 @@ pub enum Sort {
     WithoutGroups,
 }
 
-/// Whether `day` is of the sort `sort`.
+/// Whether `day` is of this sort.
 fn is_of_sort(sort: Sort, day: &SheetDay) -> bool
     ensures { result ≡ is_of_sort sort day.now }
 {
@@ -32,7 +32,7 @@ fn is_of_sort(sort: Sort, day: &SheetDay) -> bool
     }
 }
 
-/// Whether `sheet` has day `number`, and this day is of the sort `sort`.
+/// Whether `sheet` has day `number`, and the day is of this sort.
 #[tactic(auto, unfolding(crate::specs::SheetWords::has_day))]
 fn has_day(sheet: &Sheet, sort: Sort, number: u8) -> bool
     ensures { result ≡ has_day sheet.now sort number }
@@ -55,7 +55,7 @@ fn push_first_day(text: &mut String, title: &str, after: bool, number: u8) -> Re
     text.push_str(if after { " to " } else { "\n" })
 }
 
-/// Appends the end of a line, the last day, unless the day after it is in the line, too.
+/// Appends the end of a line, its last day, unless the next day is in the line, too.
 #[tactic(auto, using(std::proofs::Common::append_assoc), unfolding(crate::specs::SheetWords::day_words))]
 fn push_last_day(text: &mut String, title: &str, after: bool, number: u8) -> Result<(), AllocError>
     ensures { OnOk result
@@ -68,7 +68,7 @@ fn push_last_day(text: &mut String, title: &str, after: bool, number: u8) -> Res
     text.push_str("\n")
 }
 
-/// Appends what day `number` adds to the lines of the sort `sort`.
+/// Appends the words that day `number` adds to the lines of this sort.
 #[tactic(auto, unfolding(crate::specs::SheetWords::numbered_day_words))]
 fn push_day(
     text: &mut String,
@@ -92,7 +92,7 @@ fn push_day(
     }
 }
 
-/// Appends the lines of all days of the sort `sort`, with the title `title`.
+/// Appends the lines for the days of this sort, with the title `title`.
 #[tactic(auto, unfolding(crate::specs::SheetWords::sort_words))]
 fn push_sort(text: &mut String, sheet: &Sheet, title: &str, sort: Sort) -> Result<(), AllocError>
     ensures { OnOk result

@@ -16,7 +16,7 @@ pub fn push_number(text: &mut String, number: u8) -> Result<(), AllocError>
     text.push_str(buffer.format(number))
 }
 
-/// Appends `number` in decimal, with a 0 before a number of one digit.
+/// Appends `number` with at least two digits.
 #[tactic(auto, using(std::proofs::Common::append_assoc), unfolding(crate::specs::Texts::two_digits))]
 pub fn push_two_digits(text: &mut String, number: u8) -> Result<(), AllocError>
     ensures { OnOk result (string_bytes text.new ≡ string_bytes text.old ++ two_digits number) }

@@ -1,4 +1,4 @@
-//! The warnings on a file: what the desk accepts, but what was perhaps not meant.
+//! The warnings on a file: things that the desk accepts, but that may not have been meant.
 ghost use Rattle.std.specs.Prelude.{◌≡◌, ◌++◌, [], IfOk, MatchResult, OnOk};
 ghost use Rattle.std.specs.String.{string_bytes};
 ghost use Rattle.kd_sheet.specs.Document.{document_of};
@@ -21,7 +21,7 @@ fn has_mark(bytes: &[u8]) -> bool
     bytes.len() > 2 && bytes[0] == 239 && bytes[1] == 187 && bytes[2] == 191
 }
 
-/// Appends a warning of a byte order mark, if the file begins with one.
+/// Appends the warning on a byte order mark, if the file begins with one.
 #[tactic(auto, using(std::proofs::Common::append_assoc), unfolding(crate::specs::Warnings::mark_words))]
 fn push_mark(lines: &mut String, bytes: &[u8], name: &str) -> Result<(), AllocError>
     ensures { OnOk result (string_bytes lines.new

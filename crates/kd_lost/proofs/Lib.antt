@@ -6,6 +6,7 @@ pub mod PinText
 pub mod Parts
 pub mod WrongSigns
 pub mod PartShown
+pub mod FirmBytes
 pub mod KnownLetters
 pub mod WholeParts
 pub mod Forms

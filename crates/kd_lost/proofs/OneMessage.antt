@@ -1,12 +1,12 @@
 -- Parts of one message: each agrees with each later one.
 use Rattle.std.proofs.Common.{◌≡◌, ◌∙◌, ◌⊎◌, inl, inr, zero, suc, ◌&&◌, Bool, true, false, List, [], ◌∷◌, ◌++◌}
 use Rattle.std.proofs.Common.{arith, refl, subst, sym, Some}
-use Rattle.std.proofs.lemmas.Bool.{Decides.nat_tests, cases_Bool, false≢true}
+use Rattle.std.proofs.lemmas.Bool.{Decides.nat_tests, and_parts, cases_Bool}
 use Rattle.std.specs.List.{Contains}
 use Rattle.kd_lost.specs.declared.part.{DamagedPart.{DamagedPart}, PartNumbers.{PartNumbers}}
 use Rattle.kd_lost.specs.Laws.{RepetitionsAgree}
 use Rattle.kd_lost.specs.OneMessage.{agrees_with_each, are_of_one_message, bodies_agree, headings_agree, numbers_agree}
-use Rattle.kd_lost.specs.OneMessage.{ends_within, keys_agree, parts_agree, texts_agree}
+use Rattle.kd_lost.specs.OneMessage.{ends_within, heading_repeats, parts_agree, texts_agree}
 
 pub first_or_later : {X : Type 0} (one : X) (others : List X) (x : X) → Contains (one ∷ others) x
     → (one ≡ x) ⊎ Contains others x
@@ -15,10 +15,6 @@ first_or_later one others x (suc place, inside, is) = inr (place, omega (arith, 
 
 pub contains_none : {X : Type 0} (x : X) → Contains [] x → ⊥
 contains_none x (place, inside, is) = absurd (omega (arith, inside))
-
-pub both_true : (one other : Bool) → (one && other) ≡ true → (one ≡ true) × (other ≡ true)
-both_true true other is = (refl, is)
-both_true false other is = absurd (false≢true is)
 
 agree_with_it_cases : (one next part : DamagedPart) (parts : List DamagedPart) → parts_agree one next ≡ true
     → (next ≡ part) ⊎ Contains parts part → (Contains parts part → parts_agree one part ≡ true)
@@ -30,26 +26,26 @@ pub agree_with_it : (one part : DamagedPart) (parts : List DamagedPart) → agre
     → Contains parts part → parts_agree one part ≡ true
 agree_with_it one part [] agree there = absurd (contains_none part there)
 agree_with_it one part (next ∷ parts) agree there =
-    let both = both_true (parts_agree one next) (agrees_with_each one parts) agree in
+    let both = and_parts (parts_agree one next) (agrees_with_each one parts) agree in
     agree_with_it_cases one next part parts both.0 (first_or_later next parts part there)
     (λ later. agree_with_it one part parts both.1 later)
 
-same_number_agree : (one other : PartNumbers) (bodies texts : Bool) → one.part ≡ other.part
-    → numbers_agree one other (bodies && texts) ≡ true → bodies ≡ true
-same_number_agree one other bodies texts same is = grind (arith, nat_tests, cases_Bool, same, is)
+pub same_number_agree : (one other : PartNumbers) (agree : Bool) → one.part ≡ other.part
+    → numbers_agree one other agree ≡ true → agree ≡ true
+same_number_agree one other agree same is = grind (arith, nat_tests, cases_Bool, same, is)
 
 later_parts : (before after : List DamagedPart) → are_of_one_message (before ++ after) ≡ true
     → are_of_one_message after ≡ true
 later_parts [] after agree = agree
 later_parts (one ∷ before) after agree =
     later_parts before after
-    (both_true (agrees_with_each one (before ++ after)) (are_of_one_message (before ++ after)) agree).1
+    (and_parts (agrees_with_each one (before ++ after)) (are_of_one_message (before ++ after)) agree).1
 
 pub repetitions_agree : RepetitionsAgree
 repetitions_agree before after one other numbers again agree there is its same =
-    let both = both_true (agrees_with_each one after) (are_of_one_message after) (later_parts before (one ∷ after) agree) in
+    let both = and_parts (agrees_with_each one after) (are_of_one_message after) (later_parts before (one ∷ after) agree) in
     let bodies = bodies_agree one.body.items other.body.items in
-    let texts = texts_agree one.text other.text && (ends_within one other && (ends_within other one && keys_agree one other)) in
+    let texts = texts_agree one.text other.text && (ends_within one other && (ends_within other one && heading_repeats one other)) in
     let headings : headings_agree (Some numbers) (Some again) (bodies && texts) ≡ true =
     (λ i. headings_agree (sym is i) (sym its i) (bodies && texts)) ∙ agree_with_it one other after both.0 there in
-    same_number_agree numbers again bodies texts same headings
+    (and_parts bodies texts (same_number_agree numbers again (bodies && texts) same headings)).0

@@ -2,7 +2,7 @@
 use Rattle.std.proofs.Common.{All, ◌≡◌, ◌≢◌, ◌∙◌, ◌⊎◌, inl, inr, ℕ, ◌≤◌, ◌==◌, ◌&&◌, ◌||◌, nat_le, IsTrue, IsFalse}
 use Rattle.std.proofs.Common.{List, [], ◌∷◌, ◌++◌, drop, length, map, take, refl, sym, ap, subst, arith, Bool, true, false}
 use Rattle.std.proofs.Common.{Some, Ok, codes, get_or, slice_get, if◌then◌else◌}
-use Rattle.std.proofs.lemmas.Bool.{Decides.nat_tests, cases_Bool, cases_eq, false≢true}
+use Rattle.std.proofs.lemmas.Bool.{Decides.nat_tests, and_parts, cases_Bool, cases_eq, false≢true}
 use Rattle.std.proofs.lemmas.List.{take-append-drop}
 use Rattle.std.proofs.lemmas.List.Elements.{All-append, All-cons, All-head, All-nil, All-tail, All-weaker}
 use Rattle.kd_tables.specs.Text.{is_text_byte}
@@ -293,13 +293,9 @@ begun_form s form text (parts, (letters, read, is), joined) =
 no_mark : (more : List ℕ) → without_mark (codes "PART " ++ more) ≡ codes "PART " ++ more
 no_mark more = refl
 
-first_true : (one other : Bool) → (one && other) ≡ true → one ≡ true
-first_true true other is = refl
-first_true false other is = is
-
 from_first : (bytes : List ℕ) → is_heading_line bytes ≡ true → from_heading bytes ≡ bytes
 from_first bytes begins =
-    rw (first_true (is_part_line bytes) (has_digit_line bytes || has_lost_number bytes) begins) refl
+    rw (and_parts (is_part_line bytes) (has_digit_line bytes || has_lost_number bytes) begins).0 refl
 
 pub tidy_forms : FormsReadAreTidy
 tidy_forms s form text is =

@@ -39,6 +39,7 @@ use Rattle.kd_lost.specs.DamagedPart.{IsDamagedLinesAnswer, body_of, filled_byte
 use Rattle.kd_lost.specs.Laws.{AreWholeCopies, IsShownWhole, PartsReadAreShownWhole, PartsReadHaveNumbers}
 use Rattle.kd_lost.specs.declared.damaged_text.GroupTest.{GroupTest}
 use Rattle.kd_lost.specs.declared.damaged_text.GroupTest.TheVariants as tests
+use Rattle.kd_lost.proofs.FirmBytes.{AreFirm, IsFirm, firm_filled, received_all}
 use Rattle.kd_lost.proofs.KnownLetters.{always, covered_none, drop_known, found, known_completes, known_keys}
 use Rattle.kd_lost.proofs.KnownLetters.{known_length}
 use Rattle.kd_lost.proofs.KnownLetters.{lost_is_false, none_lost_in_both, not_any_lost, passed, same_known, take_known}
@@ -46,13 +47,7 @@ use Rattle.kd_lost.proofs.PinText.{end_of, keys_there, start_of}
 use Rattle.kd_lost.proofs.Parts.{lines_there}
 use Rattle.kd_lost.proofs.PartShown.{least_count}
 
--- -------- bytes that are neither lost nor small letters
-
-abbrev IsFirm : ℕ → Type 0
-IsFirm byte = IsFalse (is_lost byte) × (meant_byte byte ≡ byte)
-
-abbrev AreFirm : List ℕ → Type 0
-AreFirm bytes = All IsFirm bytes
+-- -------- bytes that are firm
 
 firm_byte : (byte : ℕ) → 10 ≤ byte → byte ≤ 90 → byte ≢ 63 → byte ≢ 45 → IsFirm byte
 firm_byte byte high low one other = grind (arith, nat_tests, cases_Bool)
@@ -109,32 +104,8 @@ firm_line line text (WithReturn is) firm =
     subst AreFirm (sym is) (firm_then 13 text [] (refl, refl) firm (All-nil IsFirm))
 firm_line line text (WithoutReturn is none) firm = subst AreFirm is firm
 
-firm_filled : (line : List ℕ) → AreFirm line → map filled_byte line ≡ line
-firm_filled [] firm = refl
-firm_filled (byte ∷ line) firm =
-    let here = All-head IsFirm byte line firm in
-    let one : filled_byte byte ≡ byte = grind (arith, here) in
-    let more = firm_filled line (All-tail IsFirm byte line firm) in
-    λ i. one i ∷ more i
-
 firm_allowed : (byte : ℕ) → IsTrue (is_text_byte byte) → IsTrue (is_body_byte byte)
 firm_allowed byte allowed = let firm = text_firm byte allowed in grind (arith, firm, allowed)
-
-received_firm : (byte : ℕ) → IsFirm byte → received_letter byte ≡ option_map Some (letter_of_byte None byte)
-received_firm byte firm = grind (arith, firm)
-
-cons_some : (given : Option ℕ) (rest : List ℕ)
-    → cons_option (option_map Some given) (map Some rest) ≡ map Some (cons_option given rest)
-cons_some None rest = refl
-cons_some (Some letter) rest = refl
-
-received_all : (body : List ℕ) → AreFirm body → received_letters body ≡ map Some (letters_from None body)
-received_all [] firm = refl
-received_all (byte ∷ body) firm =
-    ap (λ o. cons_option o (received_letters body)) (received_firm byte (All-head IsFirm byte body firm))
-    ∙ ap (cons_option (option_map Some (letter_of_byte None byte)))
-    (received_all body (All-tail IsFirm byte body firm))
-    ∙ cons_some (letter_of_byte None byte) (letters_from None body)
 
 all_allowed : (position : ℕ) (body : List ℕ) → IsBytesAnswer position body (Ok tt)
     → All (λ b. IsTrue (is_text_byte b)) body

@@ -1,4 +1,5 @@
--- What is read of a part whose count is wrong or damaged: its text, if its body has the letters that came, and no more.
+-- How a part is read if the letter count in its heading is wrong or damaged: with the number of letters that came as
+-- its count.
 -- Test: tests/cases/curator-messages.toml
 use Rattle.std.specs.Prelude.{decimal, ◌≡◌, ℕ, ◌+◌, ◌==◌, not, Bool, true, false, if◌then◌else◌, is_some}
 use Rattle.std.specs.Prelude.{List, [], ◌∷◌, ◌++◌, drop, Option, None, Some, IfSome, Result, Ok, Err}
@@ -9,29 +10,30 @@ use Rattle.kd_lost.specs.declared.damaged_text.DamagedText.{DamagedText}
 use Rattle.kd_lost.specs.declared.part.{DamagedPart.{DamagedPart}, PartNumbers.{PartNumbers}}
 use Rattle.kd_lost.specs.declared.short_line.ShortLine.{ShortLine}
 use Rattle.kd_lost.specs.DamagedPart.{AreNumbersRead, IsDamagedTextAnswer, IsPartShown, first_line}
+use Rattle.kd_lost.specs.HeadingLine.{is_blank}
 use Rattle.kd_lost.specs.Tidy.{from_line_end}
 
 -- ---- A heading with another count.
 
--- the word with which `line` begins: the bytes before its first space
+-- the word with which `line` begins: the bytes before its first blank
 abbrev pub first_word : List ℕ → List ℕ
 first_word [] = []
-first_word (byte ∷ line) = if byte == 32 then [] else byte ∷ first_word line
+first_word (byte ∷ line) = if is_blank byte then [] else byte ∷ first_word line
 
--- `line`, from its first space on
-abbrev pub from_space : List ℕ → List ℕ
-from_space [] = []
-from_space (byte ∷ line) = if byte == 32 then byte ∷ line else from_space line
+-- `line`, from its first blank on
+abbrev pub from_blank : List ℕ → List ℕ
+from_blank [] = []
+from_blank (byte ∷ line) = if is_blank byte then byte ∷ line else from_blank line
 
 -- `line`, from its second word on
 abbrev pub later_words : List ℕ → List ℕ
-later_words line = drop 1 (from_space line)
+later_words line = drop 1 (from_blank line)
 
 -- `line`, with `count` in place of its third word
 abbrev pub counted_line : ℕ → List ℕ → List ℕ
 counted_line count line =
     first_word line ++ 32 ∷ [] ++ first_word (later_words line) ++ 32 ∷ [] ++ decimal count
-    ++ from_space (later_words (later_words line))
+    ++ from_blank (later_words (later_words line))
 
 -- the part, with `count` in place of the third word of its heading
 abbrev pub counted_part : ℕ → List ℕ → List ℕ
@@ -39,26 +41,26 @@ counted_part count part = counted_line count (first_line part) ++ from_line_end 
 
 -- ---- Whether the count may be what is wrong.
 
--- how many letters the body has, by the heading
+-- the letter count in the heading; 0 if the heading is damaged
 abbrev pub heading_count : Option PartNumbers → ℕ
 heading_count (Some numbers) = numbers.letters
 heading_count None = 0
 
--- whether the heading's count is right if this line is full
+-- whether the heading's count `counted` would be right if the line `short` had all its 50 letters
 abbrev pub explains : ℕ → ℕ → ShortLine → Bool
 explains counted came short = counted + short.letters == came + 50
 
--- the line that isn't full, if it explains the heading's count
+-- the short line, if its missing letters explain the heading's count
 abbrev pub telling_line : ℕ → ℕ → Option ShortLine → Option ShortLine
 telling_line counted came None = None
 telling_line counted came (Some short) = if explains counted came short then Some short else None
 
--- the line that explains the heading's count of a part
+-- the short line of the part, if its missing letters explain the heading's count
 abbrev pub part_line : DamagedPart → Option ShortLine
 part_line part = telling_line (heading_count part.numbers) part.came part.short_line
 
--- whether the count may be what is wrong: the heading is damaged; or it counts other letters than came, and no line
--- explains that
+-- whether the heading's count may be wrong: the heading is damaged; or its count differs from the letters that came,
+-- and no short line explains why
 abbrev pub is_count_doubted : Result DamagedText PartDamage → Option ShortLine → Bool
 is_count_doubted (Ok shown) line = false
 is_count_doubted (Err damages.HeadingDamaged) line = true
@@ -67,12 +69,12 @@ is_count_doubted (Err _) line = false
 
 -- ---- What is read then.
 
--- the text, if it is read
+-- the text of a part that could be read; otherwise `None`
 abbrev pub text_of : Result DamagedText PartDamage → Option DamagedText
 text_of (Ok shown) = Some shown
 text_of (Err damage) = None
 
--- `found` is the text of the part `part`, if it has one. `numbers` are the numbers in its heading.
+-- `found` is the text of `part`, and `numbers` are the numbers in its heading; both may be `None`.
 pub record IsFoundIn (s : Day) (part : List ℕ) (numbers : Option PartNumbers) (found : Option DamagedText) : Type 0 where
   pub answer : Result DamagedText PartDamage
   pub given : AreNumbersRead s (first_line part) numbers
@@ -80,23 +82,23 @@ pub record IsFoundIn (s : Day) (part : List ℕ) (numbers : Option PartNumbers) 
   pub is_its : found ≡ text_of answer
   pub shown : IfSome found (IsPartShown s part)
 
--- The numbers of a part: those that its heading gives or, if the heading is damaged, and a text is found by the letters
--- that came, those of the heading with their number.
+-- The numbers of a part: those in its heading as it came. If this heading is damaged, and a text is found by count:
+-- those in the heading with the new count.
 abbrev pub numbers_by_count : Option PartNumbers → Option PartNumbers → Option DamagedText → Option PartNumbers
 numbers_by_count (Some given) counted found = Some given
 numbers_by_count None counted (Some shown) = counted
 numbers_by_count None counted None = None
 
--- What a part gives by the letters that came, of which there are `came`: a text `found`, and numbers. `given` are the
--- numbers that its heading gives as it stands. If its count isn't doubted, there is no text by count; otherwise the text
--- is that of the part with the number `came` in its heading.
+-- What reading `part` by count gives: the text `found` and the numbers `numbers`. `given` are the numbers in the
+-- heading as it came. If the count isn't doubted, no text is found; otherwise the text is read with `came`, the number
+-- of letters that came, in place of the heading's count.
 abbrev pub GivesByCount : Bool → Day → List ℕ → ℕ → Option PartNumbers → Option PartNumbers → Option DamagedText → Type 0
 GivesByCount false s part came given numbers found = (found ≡ None) × (numbers ≡ given)
 GivesByCount true s part came given numbers found =
     (counted : Option PartNumbers) × IsFoundIn s (counted_part came part) counted found
     × (numbers ≡ numbers_by_count given counted found)
 
--- `read` has the text and the numbers that `part` gives by the letters that came.
+-- `read` has the text and the numbers that reading `part` by count gives.
 abbrev pub IsByCount : Day → List ℕ → Option PartNumbers → DamagedPart → Type 0
 IsByCount s part given read =
     GivesByCount (is_count_doubted read.text (telling_line (heading_count given) read.came read.short_line)) s part

@@ -8,17 +8,17 @@ use Rattle.kd_lost.specs.declared.damage.PartDamage.{PartDamage}
 use Rattle.kd_lost.specs.declared.damage.PartDamage.TheVariants.{CopiesDiffer, KeyLetterLost}
 use Rattle.kd_lost.specs.Lost.{IsLetterFor}
 
--- All copies of a letter that were received are equal: some letter is each of them.
+-- The received copies of a key letter are all one letter; lost copies don't count.
 abbrev pub HaveOneLetter : List (Option ℕ) → Type 0
 HaveOneLetter copies = (letter : ℕ) × All (λ got. IsLetterFor got letter) copies
 
--- The answer for one key letter, whose number is `number`: the letter that its copies have.
+-- The answer for key letter `number`: the letter in its copies, or why there is none.
 abbrev pub IsKeyLetterAnswer : ℕ → List (Option ℕ) → AnswerRule PartDamage ℕ
 IsKeyLetterAnswer number copies = do
   _ ← Demands (HaveOneLetter copies) (CopiesDiffer number)
   Finds (λ letter. Contains copies (Some letter)) (KeyLetterLost number)
 
--- The answer for key letters that stand once in each of two copies. The first has the number `number`.
+-- The answer for key letters that have one copy in each list. The first of them has the number `number`.
 abbrev pub AreKeyLettersAnswer : ℕ → List (Option ℕ) → List (Option ℕ) → AnswerRule PartDamage (List ℕ)
 AreKeyLettersAnswer number (one ∷ start) (other ∷ end) = do
   letter ← IsKeyLetterAnswer number (one ∷ other ∷ [])
@@ -33,8 +33,8 @@ chosen_copies start end =
     slice_index_or start 0 None ∷ slice_index_or start 1 None ∷ slice_index_or end 0 None ∷ slice_index_or end 1 None
     ∷ []
 
--- The answer for the keys before and after the text: the chosen letter, which has number 0, then the external letters,
--- which have the numbers of their wheels.
+-- The answer for the keys, which stand before and after the text: first the chosen letter, number 0, then the external
+-- letters, numbered by their wheels.
 abbrev pub IsKeysAnswer : List (Option ℕ) → List (Option ℕ) → AnswerRule PartDamage PinKeys
 IsKeysAnswer start end = do
   chosen ← IsKeyLetterAnswer 0 (chosen_copies start end)

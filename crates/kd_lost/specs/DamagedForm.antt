@@ -1,5 +1,5 @@
--- How a damaged form is cut into parts, and what is read of all of them. The first part begins the form, and another each
--- later line that is taken for a heading.
+-- How a damaged form is cut into parts, and how all of them are read. The first part begins with the form, every other
+-- part with a later line that is taken for a heading.
 -- Code: the form is cut part by part.
 -- Test: tests/cases/curator-messages.toml
 use Rattle.std.specs.Prelude.{◌≡◌, ℕ, ◌+◌, ◌<◌, ◌==◌, ◌&&◌, All, Bool, if◌then◌else◌, List, [], ◌∷◌}
@@ -27,7 +27,7 @@ use Rattle.kd_lost.specs.WrongSign.{IsFirstWrongSign}
 
 -- ---- The parts of a form.
 
--- whether a part ends with `byte`, before `bytes`: at each LF before a line that is taken for a heading
+-- whether `byte` ends a part that `bytes` follow: it is an LF before a line that is taken for a heading
 abbrev pub ends_part : ℕ → List ℕ → Bool
 ends_part byte bytes = byte == 10 && is_heading_line bytes
 
@@ -38,11 +38,11 @@ cut_at_heading_lines (byte ∷ bytes) =
     if ends_part byte bytes then (byte ∷ [], (cut_at_heading_lines bytes).0 ∷ (cut_at_heading_lines bytes).1)
     else (byte ∷ (cut_at_heading_lines bytes).0, (cut_at_heading_lines bytes).1)
 
--- all parts of the bytes
+-- the bytes, cut into all their parts
 abbrev pub parts_cut : List ℕ → List (List ℕ)
 parts_cut bytes = (cut_at_heading_lines bytes).0 ∷ (cut_at_heading_lines bytes).1
 
--- all parts of a damaged form: what stands before its first heading is passed over
+-- all parts of a damaged form, cut after `tidied` has dropped the lines before its first heading
 abbrev pub form_parts : List ℕ → List (List ℕ)
 form_parts form = parts_cut (tidied form)
 
@@ -51,7 +51,7 @@ pub record PlacedPart : Type 0 where
   pub bytes : List ℕ
   pub line : ℕ
 
--- the parts and their lines, if the first begins on line `line`
+-- the parts with the lines on which they begin; the first begins on line `line`
 abbrev pub placed_from : ℕ → List (List ℕ) → List PlacedPart
 placed_from line [] = []
 placed_from line (part ∷ parts) = record { bytes = part; line = line } ∷ placed_from (line + line_breaks part) parts
@@ -62,15 +62,15 @@ damaged_parts_of form = placed_from (heading_line form) (form_parts form)
 
 -- ---- What is read of them.
 
--- `meant` is the part `part` as it is read: as it stands, if its first line is a heading; otherwise without the blanks that
--- only part the words of this line further, or stand around them.
+-- `meant` is what is read for `part`: `part` itself if its first line is a heading; otherwise `part` with single spaces
+-- between the words of this line.
 pub data IsMeant (s : Day) (part meant : List ℕ) : Type 0 where
   AsItStands : (h : Heading) → IsDamagedHeading s (first_line part) h → meant ≡ part → IsMeant s part meant
   Respaced : ((h : Heading) → ¬ (IsDamagedHeading s (first_line part) h)) → meant ≡ respaced part
       → IsMeant s part meant
 
--- `read` is what is read of `part` as it is meant: what `read_damaged_part` reads of it, and what it gives by the letters
--- that came. `given` are the numbers that its heading gives as it stands.
+-- `read` is what is read of `part` with its blanks as they are: the fields that `read_damaged_part` reads, and the text
+-- by count. `given` are the numbers in the heading as it came.
 pub record IsReadAs (s : Day) (part : List ℕ) (read : DamagedPart) : Type 0 where
   pub given : Option PartNumbers
   pub given_there : AreNumbersRead s (first_line part) given
@@ -86,18 +86,18 @@ pub record IsReadAs (s : Day) (part : List ℕ) (read : DamagedPart) : Type 0 wh
   pub as_spelled : IsTrue read.as_spelled ↔ All (λ byte. meant_byte byte ≡ byte) part
   pub is_order : read.is_order ≡ is_order part
 
--- `read` is what is read of `part`.
+-- `read` is what is read of `part`, with or without the needless blanks of its heading.
 pub record IsReadOf (s : Day) (part : List ℕ) (read : DamagedPart) : Type 0 where
   pub meant : List ℕ
   pub is_meant : IsMeant s part meant
   pub as_meant : IsReadAs s meant read
   pub respaced : IsTrue read.respaced ↔ (meant ≢ part)
 
--- `read` is what is read of `part`, with its line.
+-- `read` is what is read of `part`, and has the line on which the part begins.
 abbrev pub IsReadAt : Day → PlacedPart → DamagedPart → Type 0
 IsReadAt s part read = IsReadOf s part.bytes read × (read.line ≡ part.line)
 
--- Each part is read by itself.
+-- The second list has what is read of each part in the first, alone and in order.
 abbrev pub AreReadOf : Day → List PlacedPart → List DamagedPart → Type 0
 AreReadOf s [] [] = Unit {0}
 AreReadOf s (part ∷ parts) (read ∷ reads) = IsReadAt s part read × AreReadOf s parts reads
@@ -106,18 +106,18 @@ AreReadOf s (part ∷ parts) [] = ⊥
 
 -- ---- Parts that came several times.
 
--- the parts, of which the first has the place `index` in the form, with the letters that their copies have
+-- the parts from place `index` of the form on, with letters from their copies in place of lost ones
 abbrev pub completed_parts : List DamagedPart → ℕ → List PlacedPart → List PlacedPart
 completed_parts copies index [] = []
 completed_parts copies index (part ∷ parts) =
     record { bytes = completed_at copies index part.bytes; line = part.line } ∷ completed_parts copies (index + 1) parts
 
--- Each part of the form is read with the letters that its copies have.
+-- `reads` are the parts of `form`, each read with letters from its copies in place of lost ones.
 abbrev pub AreReadWith : Day → List DamagedPart → List ℕ → List DamagedPart → Type 0
 AreReadWith s copies form reads = AreReadOf s (completed_parts copies 0 (damaged_parts_of form)) reads
 
--- `parts` are the parts of the form. Each is read alone; and if they are of one message, each is read again, with the
--- letters that its copies have. If a part would lose a letter by that, all stay as they were read alone.
+-- `parts` are the parts of the form. Each is read alone. If all are of one message, each is read again, with letters
+-- from its copies in place of lost ones. If a part then has fewer letters, all stay as they were read alone.
 pub record AreFormParts (s : Day) (form : List ℕ) (parts : List DamagedPart) : Type 0 where
   pub alone : List DamagedPart
   pub read : AreReadOf s (damaged_parts_of form) alone
@@ -127,12 +127,12 @@ pub record AreFormParts (s : Day) (form : List ℕ) (parts : List DamagedPart) :
 
 -- ---- The letters of the texts.
 
--- the letters of a text that are shown; none, if the text isn't read
+-- the letters of a text; none if the text couldn't be read
 abbrev pub letters_in : Result DamagedText PartDamage → List (Option ℕ)
 letters_in (Ok shown) = shown.letters.items
 letters_in (Err damage) = []
 
--- the letters of all texts that are shown, one after another
+-- the letters of all texts, one text after another
 abbrev pub shown_letters : List DamagedPart → List (Option ℕ)
 shown_letters reads = flat_map (λ (read : DamagedPart). letters_in read.text) reads
 
@@ -142,7 +142,7 @@ abbrev pub shown_byte : Option ℕ → Option ℕ → ℕ
 shown_byte for_space None = 63
 shown_byte for_space (Some letter) = plaintext_byte for_space letter
 
--- Why a form with these parts isn't read: it has more than 255, or memory is short.
+-- Why a form with these parts isn't read: it has more than 255 parts, or memory is short.
 pub data IsFormFault (parts : List PlacedPart) (fault : DamagedFormFault) : Type 0 where
   TooMany : 255 < length parts → fault ≡ faults.TooManyParts → IsFormFault parts fault
   NoMemory : fault ≡ faults.NoMemory → IsFormFault parts fault

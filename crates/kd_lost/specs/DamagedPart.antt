@@ -29,11 +29,11 @@ abbrev pub body_of : List ℕ → List ℕ
 body_of [] = []
 body_of (byte ∷ bytes) = if byte == 10 then bytes else body_of bytes
 
--- the byte that is meant, with B in place of a lost letter: B isn't in the word `PART`
+-- the byte that is meant; B for a lost letter, since B can't complete a damaged word `PART`
 abbrev pub filled_byte : ℕ → ℕ
 filled_byte byte = if is_lost byte then 66 else meant_byte byte
 
--- `line` is the heading line of `h`, but for letters of the keys that were lost.
+-- `line` is the heading line of `h`, though letters of its keys may be lost.
 pub record IsDamagedHeading (s : Day) (line : List ℕ) (h : Heading) : Type 0 where
   pub is_heading : IsHeading s h
   pub text : IsLineText (map filled_byte line) (line_of (heading_words h))
@@ -44,7 +44,8 @@ is_body_byte byte = is_lost byte || is_text_byte (meant_byte byte)
 
 -- ---- The letters by which parts are compared.
 
--- what a byte of a body is compared as: a letter, a lost letter, or nothing; a sign that may not be in a body is a lost letter
+-- the letter that a byte of a body counts as when parts are compared: a letter, a lost letter (also for a sign that may
+-- not be in a body), or nothing
 abbrev pub body_letter : ℕ → Option (Option ℕ)
 body_letter byte = if is_body_byte byte then received_letter byte else Some None
 
@@ -58,20 +59,20 @@ body_letters body = take 525 (filter_map body_letter body)
 abbrev pub numbers_of : Heading → PartNumbers
 numbers_of h = record { part = h.part; parts = h.parts; letters = h.letters }
 
--- `numbers` are the numbers in the heading, if there is one.
+-- `numbers` are the numbers in the heading `line`; `None` if it isn't a heading.
 abbrev pub AreNumbersRead : Day → List ℕ → Option PartNumbers → Type 0
 AreNumbersRead s line numbers =
     MatchOption numbers ((h : Heading) → ¬ (IsDamagedHeading s line h))
     (λ given. (h : Heading) × IsDamagedHeading s line h × (given ≡ numbers_of h))
 
--- The answer for a body after the heading `h`.
+-- The answer for the body of a part with the heading `h`.
 abbrev pub IsDamagedBodyAnswer : Day → Heading → List ℕ → AnswerRule PartDamage DamagedText
 IsDamagedBodyAnswer s h body = do
   _ ← Demands (All (λ byte. IsTrue (is_body_byte byte)) body) BadByte
   _ ← Demands (length (received_letters body) ≡ h.letters) CountWrong
   IsDamagedLettersAnswer s h.indicator (received_letters body)
 
--- The answer for a part with the heading `h` in its line `line`, and the body `body`.
+-- The answer for a part whose heading `h` was received as `line`, and whose body is `body`.
 abbrev pub IsHeadedPartAnswer : Day → Heading → List ℕ → List ℕ → AnswerRule PartDamage DamagedText
 IsHeadedPartAnswer s h line body = do
   _ ← Demands (All (λ byte. IsFalse (is_lost byte)) line) HeadingKeyLost
@@ -91,8 +92,8 @@ IsDamagedTextAnswer s part = IsDamagedLinesAnswer s (first_line part) (body_of p
 
 -- ---- What the text of a part is, for all completions.
 
--- Some completion of `part` has a text. For each completion that has one, whatever its group or its list letters,
--- `shown` is the text of the completion, without the letters that were lost.
+-- Some completion of `part` has a text. For each completion that has one, whatever its group or list letters are,
+-- `shown` is this text without the lost letters.
 pub record IsPartShown (s : Day) (part : List ℕ) (shown : DamagedText) : Type 0 where
   pub whole : List ℕ
   pub heading : Heading

@@ -1,4 +1,4 @@
--- What is read of the letters of a body in which letters were lost.
+-- How the letters of a body are tested and deciphered if some of them were lost.
 -- Test: tests/messages-as-worked
 use Rattle.std.specs.Prelude.{◌≡◌, ◌⊎◌, ◌↔◌, ℕ, ◌-◌, List, [], ◌∷◌, length, map, take, drop, Any, IsTrue}
 use Rattle.std.specs.Prelude.{Option, Some, None, Ok}
@@ -28,7 +28,8 @@ use Rattle.kd_lost.specs.WholePart.{IsLettersText}
 
 -- ---- The warnings: the group or the list letters, and the copies of a Converter's indicators.
 
--- The test of the group, which was received as `received`. A group with a lost letter isn't tested.
+-- `test` is the result of comparing the group `received` with the day's groups. A group with a lost letter isn't
+-- tested.
 pub data IsGroupTest (s : Day) (received : List (Option ℕ)) (test : GroupTest) : Type 0 where
   GroupRight : (letters : List ℕ) → received ≡ map Some letters → AreADaysGroup s letters → test ≡ tests.Right
       → IsGroupTest s received test
@@ -42,8 +43,8 @@ IsLostInBoth (one ∷ start) (other ∷ end) = ((one ≡ None) × (other ≡ Non
 IsLostInBoth [] end = ⊥
 IsLostInBoth (one ∷ start) [] = ⊥
 
--- The test of the list letters `due`, of which `start` and `end` are the copies. They are wrong if a received one isn't
--- the day's. Otherwise, they aren't tested if one is lost in both copies.
+-- `test` is the result of comparing `start` and `end`, the received copies of the list letters, with the day's, `due`.
+-- It is `Wrong` if a received letter differs; otherwise `NotTested` if a letter is lost in both copies.
 pub data IsListTest (due : List ℕ) (start end : List (Option ℕ)) (test : GroupTest) : Type 0 where
   ListWrong : ¬ (Completes start due × Completes end due) → test ≡ tests.Wrong → IsListTest due start end test
   ListLost : Completes start due → Completes end due → IsLostInBoth start end → test ≡ tests.NotTested
@@ -51,12 +52,12 @@ pub data IsListTest (due : List ℕ) (start end : List (Option ℕ)) (test : Gro
   ListRight : Completes start due → Completes end due → ¬ (IsLostInBoth start end) → test ≡ tests.Right
       → IsListTest due start end test
 
--- `lost` says in which copies of the indicators, the first and the last ten letters, a letter is lost.
+-- `lost` says in which copies of the indicators (the first and the last ten letters) a letter is lost.
 pub record AreLostCopies (received : List (Option ℕ)) (lost : LostCopies) : Type 0 where
   pub at_start : IsTrue lost.at_start ↔ Any (λ got. got ≡ None) (take 10 received)
   pub at_end : IsTrue lost.at_end ↔ Any (λ got. got ≡ None) (drop (length received - 10) received)
 
--- The warnings for a body that was received as `received`.
+-- `shown` has the warnings for the body `received`.
 abbrev pub AreWarnings : Day → Option Indicator → List (Option ℕ) → DamagedText → Type 0
 AreWarnings s (Some i) received shown = IsGroupTest s (slice_range received 2 5) shown.group × (shown.copies ≡ None)
 AreWarnings s None received shown =
@@ -65,14 +66,14 @@ AreWarnings s None received shown =
 
 -- ---- The text.
 
--- the letters of a body that its text has: on a rotor machine, all but the first five; on the Converter M-209, those
--- between the indicators
+-- the letters of a body that belong to its text: on a rotor machine, all but the first five; on the Converter M-209,
+-- all between the indicators
 abbrev pub text_part : {A : Type 0} → Option Indicator → List A → List A
 text_part (Some i) letters = drop 5 letters
 text_part None letters = slice_range letters 10 (length letters - 10)
 
--- `keys` are the keys of a body that was received as `received`: on a rotor machine, those in the heading; on the
--- Converter M-209, those that both copies give, with the internal key that they give.
+-- `keys` are the keys of the body `received`: on a rotor machine, those in the heading; on the Converter M-209, those
+-- in both copies of the indicators, and the internal key that they give.
 abbrev pub AreTextKeys : Day → Option Indicator → List (Option ℕ) → TextKeys → Type 0
 AreTextKeys s (Some i) received keys = HasIndicator s (Some i) × (keys ≡ text_keys.Rotor i)
 AreTextKeys s None received keys =
@@ -86,9 +87,8 @@ abbrev pub text_window : Day → TextKeys → List ℕ
 text_window s (text_keys.Rotor i) = deciphered_key s i
 text_window s (text_keys.Pin pin) = pin.internal.items
 
--- `shown` has the text of each completion of the letters `received`, without the letters that were lost; the letters
--- `received` themselves; and the keys. From these keys, the machine gives the letters shown, whatever letters stand for
--- the lost ones.
+-- `shown` has the text of each completion of `received`, without the lost letters; `received` itself; and the keys.
+-- With these keys, the machine gives the letters shown, whatever the lost letters were.
 pub record IsTextShown (s : Day) (i : Option Indicator) (received : List (Option ℕ))
     (shown : DamagedText) : Type 0 where
   pub each : (whole text : List ℕ) → Completes received whole → IsLettersText s i whole text
@@ -100,7 +100,7 @@ pub record IsTextShown (s : Day) (i : Option Indicator) (received : List (Option
   pub warnings : AreWarnings s i received shown
 
 -- The answer for the letters of a body. On a rotor machine, they always give a text. On the Converter M-209, the tests
--- are, in order: the copies of the keys; each external letter is on its wheel; there is an internal key.
+-- are, in order: the copies give each key letter; each external letter is on its wheel; there is an internal key.
 abbrev pub IsDamagedLettersAnswer : Day → Option Indicator → List (Option ℕ) → AnswerRule PartDamage DamagedText
 IsDamagedLettersAnswer s (Some i) received = FindsAlways (IsTextShown s (Some i) received)
 IsDamagedLettersAnswer s None received = do
@@ -111,7 +111,7 @@ IsDamagedLettersAnswer s None received = do
 
 -- ---- What the code holds. No public contract cites this definition.
 
--- The answer for the keys `keys` and for `received`, the letters of the text between the indicators.
+-- The answer for `received`, the letters between the indicators, with the keys `keys`.
 abbrev pub IsKeyedTextAnswer : Day → PinKeys → List (Option ℕ) → AnswerRule PartDamage (ArrayVec (Option ℕ) × ArrayVec ℕ)
 IsKeyedTextAnswer s keys received = do
   _ ← Demands (IsWindow (sheet_key s) keys.external) KeyNotOnWheel

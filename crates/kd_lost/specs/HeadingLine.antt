@@ -1,6 +1,6 @@
--- Which lines of a damaged form are taken for headings: those that begin like `PART`, and have a digit or a slash, or a second
--- word that begins with a lost sign. So a wrong sign in a line of a body begins no part, and a heading begins one even if some
--- of its signs are lost or wrong.
+-- Which lines of a damaged form are taken for headings: those that begin like `PART`, and have a digit or a slash, or a
+-- lost sign at the start of their second word. So a wrong sign in a body begins no part, and a heading begins one even
+-- if some of its signs are lost or wrong.
 -- Test: tests/cases/curator-messages.toml
 use Rattle.std.specs.Prelude.{codes, ℕ, ◌+◌, ◌==◌, ◌&&◌, ◌||◌, nat_le, Bool, false, true, if◌then◌else◌, List, [], ◌∷◌}
 use Rattle.std.specs.Prelude.{Option, None, Some, map, not, slice_get, take}
@@ -16,25 +16,25 @@ abbrev pub after_blanks : List ℕ → List ℕ
 after_blanks [] = []
 after_blanks (byte ∷ bytes) = if is_blank byte then after_blanks bytes else byte ∷ bytes
 
--- how many signs of `bytes` mean those of `word`, each at its place
+-- how many signs of `bytes` equal the sign of `word` at the same place, if small letters mean capitals
 abbrev pub right_signs : List ℕ → List ℕ → ℕ
 right_signs (letter ∷ word) (byte ∷ bytes) = (if meant_byte byte == letter then 1 else 0) + right_signs word bytes
 right_signs [] bytes = 0
 right_signs (letter ∷ word) [] = 0
 
--- how many signs of `bytes` may be those of `word`, each at its place: the right ones, and lost ones
+-- how many signs of `bytes` equal the sign of `word` at the same place, or are lost
 abbrev pub fitting_signs : List ℕ → List ℕ → ℕ
 fitting_signs (letter ∷ word) (byte ∷ bytes) =
     (if meant_byte byte == letter || is_lost byte then 1 else 0) + fitting_signs word bytes
 fitting_signs [] bytes = 0
 fitting_signs (letter ∷ word) [] = 0
 
--- whether a letter, capital or small, stands at this place
+-- whether there is a byte, and it is a letter, capital or small
 abbrev pub is_letter : Option ℕ → Bool
 is_letter None = false
 is_letter (Some byte) = is_capital (meant_byte byte)
 
--- whether `bytes` begin with `PART`, of which at least two letters are right, and at most one is wrong; no letter follows
+-- whether `bytes` begin with `PART`: at least two of its letters are right, at most one is wrong, and no letter follows
 abbrev pub begins_with_part : List ℕ → Bool
 begins_with_part bytes =
     nat_le 2 (right_signs (codes "PART") bytes) && nat_le 3 (fitting_signs (codes "PART") bytes)
@@ -46,7 +46,7 @@ has_three bytes =
     nat_le 3 (right_signs (codes "ART") bytes) || nat_le 3 (right_signs (codes "PRT") bytes)
     || nat_le 3 (right_signs (codes "PAT") bytes) || nat_le 3 (right_signs (codes "PAR") bytes)
 
--- whether `bytes` begin with `PART`, of which one letter is left out, and the others are right; no letter follows
+-- whether `bytes` begin with `PART` without one of its letters, and no letter follows
 abbrev pub begins_with_three : List ℕ → Bool
 begins_with_three bytes = has_three bytes && not (is_letter (slice_get bytes 3))
 
@@ -60,22 +60,22 @@ has_digit_line (byte ∷ bytes) =
 abbrev pub is_part_line : List ℕ → Bool
 is_part_line bytes = begins_with_part (after_blanks bytes) || begins_with_three (after_blanks bytes)
 
--- `bytes`, from the end of their first word on: the first blank, or LF
+-- `bytes` from the blank or LF on that ends their first word
 abbrev pub after_word : List ℕ → List ℕ
 after_word [] = []
 after_word (byte ∷ bytes) = if is_blank byte || byte == 10 then byte ∷ bytes else after_word bytes
 
--- whether a lost sign stands at this place
+-- whether there is a byte, and it stands for a lost sign
 abbrev pub is_lost_sign : Option ℕ → Bool
 is_lost_sign None = false
 is_lost_sign (Some byte) = is_lost byte
 
--- whether a blank stands at this place
+-- whether there is a byte, and it is a blank
 abbrev pub is_blank_at : Option ℕ → Bool
 is_blank_at None = false
 is_blank_at (Some byte) = is_blank byte
 
--- whether the first word has three or four signs, as `PART` has, and no group of a body
+-- whether the first word has three or four signs, so that it may be `PART`, but not a group of five letters
 abbrev pub has_short_word : List ℕ → Bool
 has_short_word bytes = is_blank_at (slice_get bytes 3) || is_blank_at (slice_get bytes 4)
 
@@ -105,7 +105,7 @@ heading_signs line = map heading_sign (take 64 line)
 
 -- ---- An order in place of a form.
 
--- whether a line ends at this place
+-- whether the byte ends a line: an LF, a CR, or no byte at all
 abbrev pub ends_line : Option ℕ → Bool
 ends_line None = true
 ends_line (Some byte) = byte == 10 || byte == 13
@@ -114,12 +114,13 @@ ends_line (Some byte) = byte == 10 || byte == 13
 abbrev pub is_text_line : List ℕ → Bool
 is_text_line bytes = nat_le 4 (right_signs (codes "TEXT") bytes) && ends_line (slice_get bytes 4)
 
--- whether a line of `bytes` but the first is `TEXT`
+-- whether a line of `bytes` after the first is `TEXT`
 abbrev pub has_text_line : List ℕ → Bool
 has_text_line [] = false
 has_text_line (byte ∷ bytes) = if byte == 10 && is_text_line bytes then true else has_text_line bytes
 
--- whether `bytes` are an order: they begin with a line of keys, which has no digit, and have the line `TEXT`
+-- whether `bytes` look like an order to send: their first line begins like `PART` and has no digit, and a later line is
+-- `TEXT`
 abbrev pub is_order : List ℕ → Bool
 is_order bytes =
     begins_with_part (after_blanks bytes) && not (has_digit_line bytes) && has_text_line bytes

@@ -1,4 +1,4 @@
--- Laws of damaged parts and of the ciphers under them, and of forms of one message.
+-- What the laws of this crate state of damaged parts, of their ciphers, and of forms of one message.
 use Rattle.std.specs.Prelude.{◌≡◌, ℕ, false, List, [], ◌∷◌, ◌++◌, All, IsTrue, true, map, slice_get, Option, Some, None}
 use Rattle.std.specs.Prelude.{Result, Ok}
 use Rattle.std.specs.List.{Contains}
@@ -36,26 +36,26 @@ pub record IsShownWhole (text : List ℕ) (shown : DamagedText) : Type 0 where
   pub group : shown.group ≡ tests.Right
   pub copies : AreWholeCopies shown.copies
 
--- A part that `receive` reads is shown whole.
+-- If `receive` reads a part, this crate shows its text whole.
 abbrev pub PartsReadAreShownWhole : Type 0
 PartsReadAreShownWhole =
     (s : Day) (p : PartStart) (part : List ℕ) (read : ReadPart) (answer : Result DamagedText PartDamage)
     → IsPartAnswer s p part (Ok read) → IsDamagedTextAnswer s part answer
     → (shown : DamagedText) × (answer ≡ Ok shown) × IsShownWhole read.letters shown
 
--- The numbers of a part that `receive` reads are found.
+-- If `receive` reads a part, this crate finds its number, and the number of parts.
 abbrev pub PartsReadHaveNumbers : Type 0
 PartsReadHaveNumbers =
     (s : Day) (p : PartStart) (part : List ℕ) (read : ReadPart) (found : Option PartNumbers)
     → IsPartAnswer s p part (Ok read) → AreNumbersRead s (first_line part) found
     → (numbers : PartNumbers) × (found ≡ Some numbers) × (numbers.part ≡ p.number) × (numbers.parts ≡ read.parts)
 
--- The parts of a form that `receive` reads are those that it reads.
+-- If `receive` reads a form, this crate cuts it into the same parts.
 abbrev pub FormsReadHaveTheirParts : Type 0
 FormsReadHaveTheirParts =
     (s : Day) (form text : List ℕ) → IsTextOf s form text → form_parts form ≡ parts_of form
 
--- A form that `receive` reads has nothing before its first heading that is passed over.
+-- If `receive` reads a form, nothing before its first heading is passed over.
 abbrev pub FormsReadAreTidy : Type 0
 FormsReadAreTidy = (s : Day) (form text : List ℕ) → IsTextOf s form text → tidied form ≡ form
 
@@ -64,15 +64,15 @@ abbrev pub IsReadWell : DamagedPart → Type 0
 IsReadWell read =
     (shown : DamagedText) × (read.text ≡ Ok shown) × (shown.group ≡ tests.Right) × AreWholeCopies shown.copies
 
--- All parts of a form that `receive` reads are read, and the letters shown are together the form's text.
+-- If `receive` reads a form, all its parts are read without a warning, and the letters shown are together its text.
 abbrev pub FormsReadAreShownWhole : Type 0
 FormsReadAreShownWhole =
     (s : Day) (form text : List ℕ) (reads : List DamagedPart) → IsTextOf s form text
     → AreReadOf s (damaged_parts_of form) reads
     → All IsReadWell reads × (text ≡ map (shown_byte (space_letter s)) (shown_letters reads) ++ 10 ∷ [])
 
--- In a form of one message, the bodies of any two parts with one number agree at each place at which both have a letter,
--- whether they are read or not.
+-- In a form of one message, any two parts with one number have the same letter at each place where neither body lost
+-- it, whether the parts are read or not.
 abbrev pub RepetitionsAgree : Type 0
 RepetitionsAgree =
     (before after : List DamagedPart) (one other : DamagedPart) (numbers again : PartNumbers)

@@ -13,7 +13,7 @@ use Rattle.kd_form.specs.Sending.{letter_of_byte}
 abbrev pub is_lost : ℕ → Bool
 is_lost byte = byte == 63 || byte == 45
 
--- the byte that is meant: a capital letter by a small one, a space by a tab, otherwise the byte itself
+-- the byte that is meant: the capital letter for a small one, a space for a tab, otherwise the byte itself
 abbrev pub meant_byte : ℕ → ℕ
 meant_byte byte = if nat_le 97 byte && nat_le byte 122 then byte - 32 else if byte == 9 then 32 else byte
 
@@ -32,7 +32,7 @@ IsCompletion (byte ∷ received) [] = ⊥
 
 -- ---- Letters: `None` is a lost one.
 
--- what a byte of a body gives: a letter, a lost letter, or nothing
+-- the letter that a byte of a body stands for: `Some None` for a lost letter, `None` for no letter
 abbrev pub received_letter : ℕ → Option (Option ℕ)
 received_letter byte = if is_lost byte then Some None else option_map Some (letter_of_byte None (meant_byte byte))
 
@@ -45,14 +45,14 @@ abbrev pub IsLetterFor : Option ℕ → ℕ → Type 0
 IsLetterFor None letter = letter < 26
 IsLetterFor (Some got) letter = letter ≡ got
 
--- `whole` has a letter in place of each lost one.
+-- `whole` is the received text with some letter in place of each lost one.
 abbrev pub Completes : List (Option ℕ) → List ℕ → Type 0
 Completes [] [] = Unit {0}
 Completes (got ∷ received) (letter ∷ whole) = IsLetterFor got letter × Completes received whole
 Completes [] (letter ∷ whole) = ⊥
 Completes (got ∷ received) [] = ⊥
 
--- `text`, without the letters at the places where `received` has a lost one
+-- `text`, with `None` at each place where `received` has a lost letter
 abbrev pub covered : List (Option ℕ) → List ℕ → List (Option ℕ)
 covered (got ∷ received) (letter ∷ text) = option_map (λ _. letter) got ∷ covered received text
 covered [] text = []

@@ -1,22 +1,22 @@
 -- Whether the parts of a received form are of one message.
 use Rattle.std.specs.Prelude.{ℕ, ◌==◌, ◌&&◌, ◌||◌, not, Bool, true, false, List, [], ◌∷◌, Option, Some, None}
-use Rattle.std.specs.Prelude.{Result, Ok, Err, is_err, nat_le}
+use Rattle.std.specs.Prelude.{Result, Ok, Err, is_err, length, nat_le}
 use Rattle.kd_lost.specs.declared.damage.PartDamage.{PartDamage}
 use Rattle.kd_lost.specs.declared.damaged_text.{DamagedText.{DamagedText}, TextKeys.{TextKeys}}
 use Rattle.kd_lost.specs.declared.damaged_text.TextKeys.TheVariants as text_keys
 use Rattle.kd_lost.specs.declared.part.{DamagedPart.{DamagedPart}, PartNumbers.{PartNumbers}}
-use Rattle.kd_lost.specs.ByCount.{later_words}
+use Rattle.kd_lost.specs.ByCount.{first_word, later_words}
 use Rattle.kd_lost.specs.Lost.{is_lost}
 
 -- ---- Two parts that were read.
 
--- whether both letters may have been sent as one: they are equal, or one is lost
+-- whether both letters may stand for one sent letter: they are equal, or one is lost
 abbrev pub letter_agrees : Option ℕ → Option ℕ → Bool
 letter_agrees (Some one) (Some other) = one == other
 letter_agrees (Some one) None = true
 letter_agrees None other = true
 
--- whether two bodies have as many letters, and agree at each place
+-- whether two bodies are equally long, and agree at each place
 abbrev pub letters_agree : List (Option ℕ) → List (Option ℕ) → Bool
 letters_agree (letter ∷ one) (again ∷ other) = letter_agrees letter again && letters_agree one other
 letters_agree [] [] = true
@@ -40,7 +40,7 @@ same_keys (text_keys.Pin one) (text_keys.Pin other) =
 same_keys (text_keys.Rotor one) (text_keys.Pin other) = false
 same_keys (text_keys.Pin one) (text_keys.Rotor other) = false
 
--- whether two texts may be of the same part, sent twice. Nothing is known of a text that isn't read.
+-- whether two texts may be of the same part, sent twice. A text that couldn't be read agrees with any.
 abbrev pub texts_agree : Result DamagedText PartDamage → Result DamagedText PartDamage → Bool
 texts_agree (Ok one) (Ok other) =
     letters_agree one.received.items other.received.items && same_keys one.keys other.keys
@@ -55,19 +55,19 @@ bodies_agree (letter ∷ one) (again ∷ other) = letter_agrees letter again && 
 bodies_agree [] other = true
 bodies_agree (letter ∷ one) [] = true
 
--- whether `one` has no more letters than the other part, if this one is read
+-- whether `one` has at most as many letters as `other`, or `other` couldn't be read
 abbrev pub ends_within : DamagedPart → DamagedPart → Bool
 ends_within one other = is_err other.text || nat_le one.came other.came
 
--- the signs of a heading behind its count: on a rotor machine, the ground setting and the enciphered key
+-- the signs of a heading after its count: on a rotor machine, the ground setting and the enciphered key
 abbrev pub key_signs : List ℕ → List ℕ
 key_signs heading = later_words (later_words (later_words heading))
 
--- whether both signs may have been sent as one: they are equal, or one is lost
+-- whether both signs may stand for one sent sign: they are equal, or one is lost
 abbrev pub sign_agrees : ℕ → ℕ → Bool
 sign_agrees sign again = sign == again || (is_lost sign || is_lost again)
 
--- whether the signs agree at each place that both have
+-- whether the signs agree at each place, up to the end of the shorter list
 abbrev pub signs_agree : List ℕ → List ℕ → Bool
 signs_agree (sign ∷ one) (again ∷ other) = sign_agrees sign again && signs_agree one other
 signs_agree [] other = true
@@ -77,22 +77,39 @@ signs_agree (sign ∷ one) [] = true
 abbrev pub keys_agree : DamagedPart → DamagedPart → Bool
 keys_agree one other = signs_agree (key_signs one.heading.bytes) (key_signs other.heading.bytes)
 
--- whether two parts may be the same part, sent twice: their bodies agree and, if both are read, their texts; none has
--- letters behind the end of the other, if this is read; and the keys of their headings agree
+-- the signs of a heading's count
+abbrev pub count_signs : List ℕ → List ℕ
+count_signs heading = first_word (later_words (later_words heading))
+
+-- whether both counts have equally many signs, and these agree
+abbrev pub same_count : List ℕ → List ℕ → Bool
+same_count one other = length one == length other && signs_agree one other
+
+-- whether two parts may have equally many letters: equally many came, or the counts in their headings agree
+abbrev pub counts_agree : DamagedPart → DamagedPart → Bool
+counts_agree one other =
+    one.came == other.came || same_count (count_signs one.heading.bytes) (count_signs other.heading.bytes)
+
+-- whether the headings of two parts may be one heading, sent twice
+abbrev pub heading_repeats : DamagedPart → DamagedPart → Bool
+heading_repeats one other = counts_agree one other && keys_agree one other
+
+-- whether two parts may be the same part, sent twice: their bodies agree; if both are read, their texts agree; neither
+-- is longer than the other, if the other is read; and the counts and keys in their headings agree
 abbrev pub may_repeat : DamagedPart → DamagedPart → Bool
 may_repeat one other =
     bodies_agree one.body.items other.body.items
-    && (texts_agree one.text other.text && (ends_within one other && (ends_within other one && keys_agree one other)))
+    && (texts_agree one.text other.text && (ends_within one other && (ends_within other one && heading_repeats one other)))
 
 -- ---- The parts of a form.
 
--- Whether two headings can be of one message. Both say how many parts the message has. If they give one number, the parts
--- may be the same.
+-- Whether two headings can be of one message: they give the same number of parts, and different numbers to their parts.
+-- If `agree`, the parts may be the same, with one number.
 abbrev pub numbers_agree : PartNumbers → PartNumbers → Bool → Bool
 numbers_agree one other agree =
     one.parts == other.parts && (not (one.part == other.part) || agree)
 
--- the same, if both headings give numbers; a damaged heading contradicts none
+-- `numbers_agree`, if both headings give numbers; a damaged heading agrees with any
 abbrev pub headings_agree : Option PartNumbers → Option PartNumbers → Bool → Bool
 headings_agree (Some one) (Some other) agree = numbers_agree one other agree
 headings_agree (Some one) None agree = true
@@ -107,7 +124,7 @@ abbrev pub agrees_with_each : DamagedPart → List DamagedPart → Bool
 agrees_with_each part [] = true
 agrees_with_each part (other ∷ others) = parts_agree part other && agrees_with_each part others
 
--- whether the parts are of one message: any two of them can be
+-- whether any two of the parts can be of one message
 abbrev pub are_of_one_message : List DamagedPart → Bool
 are_of_one_message [] = true
 are_of_one_message (part ∷ parts) = agrees_with_each part parts && are_of_one_message parts

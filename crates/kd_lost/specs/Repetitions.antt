@@ -1,5 +1,5 @@
--- Parts that came several times: a letter that one copy lost is the one that another has. Copies have one number, the same
--- keys, and as many letters.
+-- Parts that came several times: a letter that is lost in one copy is taken from another. Copies have the same part
+-- number, the same keys, and equally many letters.
 -- Test: tests/cases/curator-messages.toml
 use Rattle.std.specs.Prelude.{ℕ, ◌+◌, ◌==◌, ◌&&◌, Bool, true, false, if◌then◌else◌, is_some, slice_index_or}
 use Rattle.std.specs.Prelude.{List, [], ◌∷◌, ◌++◌, length, slice_get, Option, Some, None}
@@ -13,35 +13,37 @@ use Rattle.kd_lost.specs.Tidy.{from_line_end}
 
 -- ---- Copies.
 
--- whether two headings give one number, of as many parts; or both are damaged
+-- whether two headings give the same part number and number of parts, or both are damaged
 abbrev pub is_same_part : Option PartNumbers → Option PartNumbers → Bool
 is_same_part (Some one) (Some other) = one.part == other.part && one.parts == other.parts
 is_same_part None None = true
 is_same_part (Some one) None = false
 is_same_part None (Some other) = false
 
--- whether both texts have the same keys, and as many letters came
+-- whether two texts have the same keys and equally many received letters
 abbrev pub has_keys_of : DamagedText → DamagedText → Bool
 has_keys_of one other =
     same_keys one.keys other.keys && length one.received.items == length other.received.items
 
--- the letter that came at this place of a copy of the text `shown`, whose text is `text`; none, if it isn't a copy
+-- the letter at `place` of a text; `None` if it is lost, or the text isn't a copy of `shown`. `same`: whether both
+-- parts have the same number
 abbrev pub letter_of_copy : Bool → DamagedText → ℕ → Option DamagedText → Option ℕ
 letter_of_copy same shown place None = None
 letter_of_copy same shown place (Some text) =
     if same && has_keys_of shown text then slice_index_or text.received.items place None else None
 
--- the letter that came at this place of `other`, if this is a copy of `read`, whose text is `shown`
+-- the letter at `place` of the last part; `None` if it is lost, or the part isn't a copy of `read`, whose text is
+-- `shown`
 abbrev pub copied_letter : DamagedPart → DamagedText → ℕ → DamagedPart → Option ℕ
 copied_letter read shown place other =
     letter_of_copy (is_same_part read.numbers other.numbers) shown place (shown_text other)
 
--- the letter or, if it is lost, the other one
+-- the first letter or, if it is lost, the second
 abbrev pub letter_or : Option ℕ → Option ℕ → Option ℕ
 letter_or (Some letter) other = Some letter
 letter_or None other = other
 
--- the letter at this place, of the first copy that didn't lose it
+-- the letter at this place in the first copy that didn't lose it
 abbrev pub known_letter : List DamagedPart → DamagedPart → DamagedText → ℕ → Option ℕ
 known_letter [] read shown place = None
 known_letter (copy ∷ copies) read shown place =
@@ -49,50 +51,52 @@ known_letter (copy ∷ copies) read shown place =
 
 -- ---- A part with the letters of its copies.
 
--- the byte or, if it stands for a lost letter that is known, this letter
+-- the byte; if it stands for a lost letter that a copy has, this letter
 abbrev pub completed_byte : Option ℕ → ℕ → ℕ
 completed_byte (Some letter) byte = if is_lost byte then letter + 65 else byte
 completed_byte None byte = byte
 
--- the bytes of a body, from the letter at `place` on, with the letters that are known in place of lost ones
+-- the bytes of a body from letter `place` on, with letters from copies in place of lost ones
 abbrev pub completed_from : List DamagedPart → DamagedPart → DamagedText → ℕ → List ℕ → List ℕ
 completed_from copies read shown place [] = []
 completed_from copies read shown place (byte ∷ bytes) =
     completed_byte (known_letter copies read shown place) byte
     ∷ completed_from copies read shown (if is_some (received_letter byte) then place + 1 else place) bytes
 
--- the part, of which `read` was read with the text `text`, with the letters of its copies; as it is, if it has no text
+-- the part, with letters from its copies in place of lost ones; unchanged if it has no text. `read` is what was read of
+-- the part alone.
 abbrev pub completed_with : List DamagedPart → DamagedPart → Option DamagedText → List ℕ → List ℕ
 completed_with copies read None part = part
 completed_with copies read (Some shown) part =
     first_line part ++ completed_from copies read shown 0 (from_line_end part)
 
--- the part, of which `read` was read alone, with the letters of its copies. `copies` are all parts as they were read.
+-- the part, with letters from its copies in place of lost ones. `copies` are all parts, each read alone; the second
+-- argument is what was read of this one.
 abbrev pub completed_of : List DamagedPart → Option DamagedPart → List ℕ → List ℕ
 completed_of copies None part = part
 completed_of copies (Some read) part = completed_with copies read (shown_text read) part
 
--- the same for the part at the place `index` of the form
+-- the part at place `index` of the form, with letters from its copies in place of lost ones
 abbrev pub completed_at : List DamagedPart → ℕ → List ℕ → List ℕ
 completed_at copies index part = completed_of copies (slice_get copies index) part
 
 -- ---- Which parts complete each other.
 
--- the parts that complete each other: all, if they are of one message
+-- the parts that may complete each other: all, if they are of one message; otherwise none
 abbrev pub copies_in : List DamagedPart → List DamagedPart
 copies_in parts = if are_of_one_message parts then parts else []
 
--- whether the part, read again with the letters of its copies, has the same number, and all letters that it had
+-- whether the part, read again with letters from its copies, still has its number, and all letters that it had before
 abbrev pub is_kept : DamagedPart → DamagedPart → Bool
 is_kept alone again = is_same_part alone.numbers again.numbers && text_within (shown_text alone) (shown_text again)
 
--- whether each part keeps its letters
+-- whether each part, read again, keeps its number and its letters
 abbrev pub are_kept : List DamagedPart → List DamagedPart → Bool
 are_kept [] [] = true
 are_kept (alone ∷ parts) (again ∷ others) = is_kept alone again && are_kept parts others
 are_kept [] (again ∷ others) = false
 are_kept (alone ∷ parts) [] = false
 
--- the parts read again or, if one doesn't keep its letters, as each was read alone
+-- the parts read again, if each keeps its letters; otherwise the parts as each was read alone
 abbrev pub completed_or : List DamagedPart → List DamagedPart → List DamagedPart
 completed_or alone again = if are_kept alone again then again else alone

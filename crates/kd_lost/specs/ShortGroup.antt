@@ -1,10 +1,11 @@
--- The first group of a body that hasn't five letters, before other letters. `desk send` writes groups of five.
+-- The first group of a body that doesn't have five letters, though letters follow it. `desk send` writes groups of
+-- five.
 -- Test: tests/cases/curator-messages.toml
 use Rattle.std.specs.Prelude.{◌≡◌, ◌≢◌, ℕ, ◌+◌, ◌<◌, ◌/◌, ◌%◌, List, length, slice_index, take, Option, None, MatchOption}
 use Rattle.kd_lost.specs.Lost.{received_letter}
 use Rattle.kd_lost.specs.ShortLine.{letters_on}
 
--- At `place`, a group ends that hasn't five letters: letters stand after it, and the letters before it are no whole groups.
+-- A short group ends at `place`: letters follow, and the number of letters before it isn't a multiple of five.
 pub record EndsShortGroup (body : List ℕ) (place : ℕ) : Type 0 where
   pub inside : place < length body
   pub ends : received_letter (slice_index body place) ≡ None
@@ -16,7 +17,7 @@ pub record EndsFirstShortGroup (body : List ℕ) (place : ℕ) : Type 0 where
   pub ends : EndsShortGroup body place
   pub first : (earlier : ℕ) → earlier < place → ¬ (EndsShortGroup body earlier)
 
--- `group` is the number of the first short group of the body, if it has one.
+-- `group` is the number of the first short group of the body, counted from 1; `None` if there is none.
 abbrev pub IsFirstShortGroup : List ℕ → Option ℕ → Type 0
 IsFirstShortGroup body group =
     MatchOption group ((place : ℕ) → ¬ (EndsShortGroup body place))

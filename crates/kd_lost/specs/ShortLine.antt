@@ -1,11 +1,11 @@
--- The first line of a body that has letters, but not 50, before another line with letters. `desk send` writes lines of 50.
+-- The first short line of a body: it has letters, but not 50, and letters follow it. `desk send` writes lines of 50.
 use Rattle.std.specs.Prelude.{ℕ, ◌+◌, ◌-◌, ◌==◌, ◌&&◌, not, nat_lt, Bool, if◌then◌else◌, List, [], ◌∷◌, length}
 use Rattle.std.specs.Prelude.{Option, None, Some}
 use Rattle.kd_lost.specs.declared.short_line.ShortLine.{ShortLine}
 use Rattle.kd_lost.specs.DamagedPart.{body_of, first_line}
 use Rattle.kd_lost.specs.Lost.{received_letters}
 
--- how many letters stand in the bytes, with the lost ones
+-- how many letters stand in the bytes, lost ones included
 abbrev pub letters_on : List ℕ → ℕ
 letters_on bytes = length (received_letters bytes)
 
@@ -13,13 +13,13 @@ letters_on bytes = length (received_letters bytes)
 abbrev pub is_short : ℕ → Bool
 is_short letters = not (letters == 0) && not (letters == 50)
 
--- the bytes from each later line on
+-- for each line after the first, the bytes from its start on
 abbrev pub later_lines : List ℕ → List (List ℕ)
 later_lines [] = []
 later_lines (byte ∷ bytes) = if byte == 10 then bytes ∷ later_lines bytes else later_lines bytes
 
--- The first of the lines that is short, and has letters after it. Each line is given with all bytes after it; the first has
--- the number `number`. `all`: how many letters the body has.
+-- The first short line in a list of lines, each given with all bytes after it. The first line has the number `number`;
+-- the body has `all` letters.
 abbrev pub short_line_from : ℕ → ℕ → List (List ℕ) → Option ShortLine
 short_line_from all number [] = None
 short_line_from all number (bytes ∷ others) =

@@ -1,6 +1,6 @@
 -- Which parts of a received form are shown under which numbers, and whether the form is one whole message.
 use Rattle.std.specs.Prelude.{◌≡◌, ◌≢◌, ℕ, ◌<◌, ◌==◌, if◌then◌else◌, List, [], ◌∷◌, All, Option, None, Some}
-use Rattle.std.specs.Prelude.{MatchOption, Ok, IfSome, IsTrue, is_err, is_ok, is_some, nat_lt, ◌&&◌, ◌||◌}
+use Rattle.std.specs.Prelude.{MatchOption, Ok, IfSome, IsTrue, is_err, is_ok, is_some, nat_le, nat_lt, ◌&&◌, ◌||◌}
 use Rattle.std.specs.Prelude.{Bool, true, false}
 use Rattle.std.specs.List.{count_by, range_with_len}
 use Rattle.kd_lost.specs.declared.damaged_text.DamagedText.{DamagedText}
@@ -11,17 +11,17 @@ use Rattle.kd_lost.specs.Texts.{lost_in, shown_text, text_within}
 
 -- ---- Numbers. Only a heading gives them: a part with a damaged heading has no number.
 
--- how many parts the message has by a heading; `later`, if the heading is damaged
+-- the number of parts that a heading gives; `later` if the heading is damaged
 abbrev pub parts_or : ℕ → Option PartNumbers → ℕ
 parts_or later (Some numbers) = numbers.parts
 parts_or later None = later
 
--- how many parts the message has by the first heading that isn't damaged; 0, if all are
+-- the number of parts that the first undamaged heading gives; 0 if all are damaged
 abbrev pub total_of : List DamagedPart → ℕ
 total_of [] = 0
 total_of (part ∷ parts) = parts_or (total_of parts) part.numbers
 
--- a heading's number, before the others
+-- the part number that a heading gives, if any, then the others
 abbrev pub number_before : Option PartNumbers → List ℕ → List ℕ
 number_before (Some numbers) others = numbers.part ∷ others
 number_before None others = others
@@ -31,10 +31,10 @@ abbrev pub numbers_of : List DamagedPart → List ℕ
 numbers_of [] = []
 numbers_of (part ∷ parts) = number_before part.numbers (numbers_of parts)
 
--- whether each number is greater than the one before it, and the first than `before`
-abbrev pub are_rising : ℕ → List ℕ → Bool
-are_rising before [] = true
-are_rising before (number ∷ numbers) = nat_lt before number && are_rising number numbers
+-- whether no number is less than the one before it, and the first isn't less than `before`
+abbrev pub are_in_order : ℕ → List ℕ → Bool
+are_in_order before [] = true
+are_in_order before (number ∷ numbers) = nat_le before number && are_in_order number numbers
 
 -- whether the heading gives this number
 abbrev pub is_number : ℕ → Option PartNumbers → Bool
@@ -47,25 +47,25 @@ times_of parts number = count_by (λ part. is_number number part.numbers) parts
 
 -- ---- Repetitions.
 
--- Whether the other text tells more: there is one where the first isn't, or fewer of its letters are lost; or as many, and
--- its count is right, but that of the first isn't.
+-- Whether the second text tells more: there is no first text; or fewer letters of the second are lost; or equally many,
+-- and only the second has a right count (`counted`).
 abbrev pub is_text_worse : Bool → Option DamagedText → Option DamagedText → Bool
 is_text_worse counted (Some one) (Some other) =
     nat_lt (lost_in other) (lost_in one) || (counted && lost_in other == lost_in one)
 is_text_worse counted None (Some other) = true
 is_text_worse counted one None = false
 
--- whether the other part tells more
+-- whether the second part's text tells more
 abbrev pub is_worse : DamagedPart → DamagedPart → Bool
 is_worse one other = is_text_worse (is_err one.text && is_ok other.text) (shown_text one) (shown_text other)
 
--- the part or, if it tells more, the later one
+-- the later part, if its text tells more; otherwise the first
 abbrev pub better : DamagedPart → Option DamagedPart → Option DamagedPart
 better part None = Some part
 better part (Some later) =
     if is_worse part later then Some later else Some part
 
--- the part that is shown under this number: of the parts with the number, the first that none is better than
+-- the part that is shown under this number: the one whose text tells most, or the first of several
 abbrev pub shown_under : List DamagedPart → ℕ → Option DamagedPart
 shown_under [] number = None
 shown_under (part ∷ parts) number =
@@ -76,7 +76,7 @@ abbrev pub text_in : Option DamagedPart → Option DamagedText
 text_in None = None
 text_in (Some part) = shown_text part
 
--- whether the part that is shown under these numbers has all letters of the text
+-- whether the part that is shown under this number has all letters of the text; true if there is no number
 abbrev pub is_covered_by : List DamagedPart → Option DamagedText → Option PartNumbers → Bool
 is_covered_by parts text None = true
 is_covered_by parts text (Some numbers) = text_within text (text_in (shown_under parts numbers.part))
@@ -84,7 +84,7 @@ is_covered_by parts text (Some numbers) = text_within text (text_in (shown_under
 abbrev pub is_covered : List DamagedPart → DamagedPart → Bool
 is_covered parts part = is_covered_by parts (shown_text part) part.numbers
 
--- whether the parts of `all` that are shown have all letters of the parts
+-- whether each part of the second list has its letters in the part of `all` that is shown under its number
 abbrev pub are_covered : List DamagedPart → List DamagedPart → Bool
 are_covered all [] = true
 are_covered all (part ∷ parts) = is_covered all part && are_covered all parts
@@ -95,7 +95,7 @@ is_one_message parts = are_of_one_message parts && are_covered parts parts
 
 -- ---- Whether the form is one whole message.
 
--- whether one of the parts is read, be it by count
+-- whether at least one part is read, even if only by count
 abbrev pub is_any_read : List DamagedPart → Bool
 is_any_read [] = false
 is_any_read (part ∷ parts) = is_ok part.text || is_some part.by_count || is_any_read parts
@@ -105,11 +105,11 @@ abbrev pub IsReadWhole : DamagedPart → Type 0
 IsReadWhole part =
     (shown : DamagedText) × (part.text ≡ Ok shown) × All (λ got. got ≢ None) shown.letters.items
 
--- A part with this number came, and the one that is shown is read whole.
+-- A part is shown under this number, and no letter of its text is lost.
 abbrev pub IsNumberWhole : List DamagedPart → ℕ → Type 0
 IsNumberWhole parts number = MatchOption (shown_under parts number) ⊥ IsReadWhole
 
--- The part isn't of another day or network, as far as its group or its list letters tell.
+-- Neither the group nor the list letters show that the part is of another day or network.
 abbrev pub MayBeOfTheDay : DamagedPart → Type 0
 MayBeOfTheDay part = IfSome (shown_text part) (λ shown. shown.group ≢ Wrong)
 

@@ -19,7 +19,7 @@ shown_text part = text_or part.text part.by_count
 abbrev pub lost_in : DamagedText → ℕ
 lost_in shown = count_by (λ letter. is_none letter) shown.letters.items
 
--- whether the letter is lost, or the other one is the same
+-- whether the first letter is lost, or the second is the same
 abbrev pub letter_within : Option ℕ → Option ℕ → Bool
 letter_within None again = true
 letter_within (Some letter) (Some again) = letter == again
@@ -31,7 +31,7 @@ letters_within [] other = true
 letters_within (letter ∷ one) (again ∷ other) = letter_within letter again && letters_within one other
 letters_within (letter ∷ one) [] = is_none letter && letters_within one []
 
--- whether the other text has each letter of the first, and no more lost letters; none is needed for no text
+-- whether the second text has each letter of the first, and no more lost letters; true if there is no first text
 abbrev pub text_within : Option DamagedText → Option DamagedText → Bool
 text_within None other = true
 text_within (Some one) (Some other) =

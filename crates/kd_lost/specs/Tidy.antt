@@ -1,7 +1,7 @@
--- A form without noise: what copying a form or typing around it leaves there, and no operator sent. A byte order mark
--- is left out, and so are the lines before the first heading, unless one of them may have been a heading: it begins like
--- `PART`, or has a slash. In a heading, blanks are left out that only part its words further, or stand around them. Bodies may have any
--- spaces and line ends.
+-- A form without noise, which copying a form or typing around it leaves there, and no operator sent. A byte order mark
+-- is dropped, and so are the lines before the first heading, unless one of them may have been a heading: it begins like
+-- `PART`, or has a slash. In a heading, blanks around its words are dropped, and all but one between two words. Bodies
+-- may have any spaces and line ends.
 -- Test: tests/cases/curator-messages.toml
 use Rattle.std.specs.Prelude.{ℕ, ◌==◌, ◌&&◌, ◌||◌, Bool, true, if◌then◌else◌, List, [], ◌∷◌, ◌++◌, take, drop}
 use Rattle.std.specs.Prelude.{Option, None, Some, unwrap_or}
@@ -15,18 +15,19 @@ use Rattle.kd_lost.specs.DamagedPart.{first_line}
 abbrev pub without_mark : List ℕ → List ℕ
 without_mark form = if bytes_eq (take 3 form) (239 ∷ 187 ∷ 191 ∷ []) then drop 3 form else form
 
--- whether a heading may have stood here that is none now: at a slash, and before a line that begins like `PART`
+-- whether a damaged heading may stand here: at a slash, or before a line that begins like `PART`
 abbrev pub was_heading : ℕ → List ℕ → Bool
 was_heading byte bytes = byte == 47 || byte == 10 && is_part_line bytes
 
--- `bytes`, from the first later line on that is taken for a heading, if no other may have been one before it
+-- `bytes` from the first heading after their first line on; `None` if there is none, or a damaged heading may stand
+-- before it
 abbrev pub later_heading : List ℕ → Option (List ℕ)
 later_heading [] = None
 later_heading (byte ∷ bytes) =
     if byte == 10 && is_heading_line bytes then Some bytes
     else if was_heading byte bytes then None else later_heading bytes
 
--- `bytes`, from the first heading on; all of them, if no line is taken for a heading, or another may have been one before it
+-- `bytes` from the first heading on; all of them if there is none, or a damaged heading may stand before it
 abbrev pub from_heading : List ℕ → List ℕ
 from_heading bytes = if is_part_line bytes then bytes else unwrap_or (later_heading bytes) bytes
 
@@ -36,7 +37,7 @@ tidied form = from_heading (without_mark form)
 
 -- ---- The heading of a part.
 
--- whether the byte parts words: a blank, or CR
+-- whether the byte is a gap between words: a blank, or CR
 abbrev pub is_gap : ℕ → Bool
 is_gap byte = is_blank byte || byte == 13
 
@@ -49,11 +50,12 @@ ends_word (byte ∷ line) = is_gap byte
 abbrev pub as_space : ℕ → ℕ
 as_space byte = if is_gap byte then 32 else byte
 
--- what is kept of `byte`, before `line`: nothing of a gap before another one or at the end, and a space of other gaps
+-- what stays of `byte` before `line`: nothing of a gap before another gap or the end, a space of any other gap,
+-- otherwise `byte`
 abbrev pub spaced_byte : ℕ → List ℕ → List ℕ
 spaced_byte byte line = if is_gap byte && ends_word line then [] else as_space byte ∷ []
 
--- `line`, with one space in place of all gaps between two words, and without the gaps at its end
+-- `line`, with one space for all gaps between two words, and without the gaps at its end
 abbrev pub spaced_from : List ℕ → List ℕ
 spaced_from [] = []
 spaced_from (byte ∷ line) = spaced_byte byte line ++ spaced_from line

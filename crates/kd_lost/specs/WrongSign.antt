@@ -1,5 +1,5 @@
--- The first wrong sign of a part's body: a byte that is neither a letter nor a lost one, nor a blank or part of a line end.
--- It is named by its line, by its place among the letters of this line, and by its place among all letters of the body.
+-- The first wrong sign of a part's body: a byte that isn't a letter, a lost letter, a blank, or part of a line end. It
+-- is given with its line, its place among the letters of the line, and its place among all letters of the body.
 -- Test: tests/cases/curator-messages.toml
 use Rattle.std.specs.Prelude.{◌≡◌, ◌⊎◌, ℕ, ◌+◌, ◌==◌, IsTrue, IsFalse, List, [], ◌∷◌, ◌++◌, length, All}
 use Rattle.std.specs.Prelude.{Option, MatchOption}
@@ -9,15 +9,15 @@ use Rattle.kd_lost.specs.declared.wrong_sign.WrongSign.{WrongSign}
 use Rattle.kd_lost.specs.Lost.{received_letters}
 use Rattle.kd_lost.specs.DamagedPart.{is_body_byte}
 
--- `bytes` are whole lines, then `line`, in which no LF stands.
+-- `line` is the last line of `bytes`: whole lines stand before it, and no LF stands in it.
 pub record IsLastLine (bytes line : List ℕ) : Type 0 where
   pub before : List ℕ
   pub joined : bytes ≡ before ++ line
   pub whole : (before ≡ []) ⊎ ((front : List ℕ) × (before ≡ front ++ 10 ∷ []))
   pub without : IsWithout 10 line
 
--- All of `front` may be in a body. It has the lines before line `number` of a part, whose body begins on line 2, and of
--- this line the bytes before the letter with number `letter`.
+-- `front` is a prefix of a body, with valid bytes only. It ends on line `number` of the part, before letter `letter` of
+-- this line. The body begins on line 2.
 pub record IsReadTo (front : List ℕ) (number letter : ℕ) : Type 0 where
   pub line : List ℕ
   pub allowed : All (λ byte. IsTrue (is_body_byte byte)) front
@@ -26,7 +26,7 @@ pub record IsReadTo (front : List ℕ) (number letter : ℕ) : Type 0 where
   pub at_letter : letter ≡ length (received_letters line) + 1
 
 -- `sign` is the first byte of `body` that may not be in a body, with its line, and its places among the letters of the
--- line and among those of the body.
+-- line and of the body.
 pub record IsWrongSign (body : List ℕ) (sign : WrongSign) : Type 0 where
   pub front : List ℕ
   pub rest : List ℕ
@@ -35,6 +35,6 @@ pub record IsWrongSign (body : List ℕ) (sign : WrongSign) : Type 0 where
   pub at_place : sign.place ≡ length (received_letters front) + 1
   pub wrong : IsFalse (is_body_byte sign.byte)
 
--- `sign` is the first wrong sign of `body`, if it has one.
+-- `sign` is the first wrong sign of `body`; `None` if there is none.
 abbrev pub IsFirstWrongSign : List ℕ → Option WrongSign → Type 0
 IsFirstWrongSign body sign = MatchOption sign (All (λ byte. IsTrue (is_body_byte byte)) body) (IsWrongSign body)

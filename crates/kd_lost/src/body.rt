@@ -22,7 +22,7 @@ use kd_form::keys::PinKeys;
 use kd_state::SheetDay;
 use kd_tables::Letter;
 
-/// Deciphers the letters of a rotor machine's part, without those that were lost.
+/// Deciphers the letters of a rotor machine's part; lost letters stay lost.
 #[tactic(auto, using(kd_form::proofs::MadeParts::key_is_window))]
 pub(crate) fn decipher_rotor(
     day: &SheetDay,
@@ -49,7 +49,7 @@ pub(crate) fn decipher_rotor(
     }
 }
 
-/// Deciphers the letters of a Converter's part, without those that were lost.
+/// Deciphers the letters of a Converter's part; lost letters stay lost.
 pub(crate) fn decipher_pin(
     day: &SheetDay,
     received: &[Option<Letter>],
@@ -79,7 +79,7 @@ pub(crate) fn decipher_pin(
     })
 }
 
-/// The letters as a list of their own.
+/// Copies the letters into a vector.
 fn list_of(received: &[Option<Letter>]) -> ArrayVec<Option<Letter>, 520>
     requires { length received.now ≤ 520 }
     ensures { result.items ≡ received.now }
@@ -89,7 +89,7 @@ fn list_of(received: &[Option<Letter>]) -> ArrayVec<Option<Letter>, 520>
     list
 }
 
-/// Deciphers `received`, the letters of a Converter's text, with `keys`, without those that were lost.
+/// Deciphers `received`, the letters of a Converter's text, with `keys`; lost letters stay lost.
 ///
 /// Returns the internal key as well.
 fn decipher_with_keys(
@@ -113,7 +113,7 @@ fn decipher_with_keys(
     }
 }
 
-/// Deciphers `received`, with the letters of `window` in the windows, without the letters that were lost.
+/// Deciphers `received` with the letters of `window` in the windows; lost letters stay lost.
 fn decipher_covered(
     machine: &mut DayMachine,
     window: &[Letter],
@@ -142,7 +142,7 @@ fn filled(received: &[Option<Letter>]) -> ArrayVec<Letter, 500>
     letters
 }
 
-/// Appends the letters of `text`, without those at the places where `received` has a lost letter.
+/// Appends the letters of `text`, with `None` where `received` has a lost letter.
 fn push_covered(
     shown: &mut ArrayVec<Option<Letter>, 500>,
     received: &[Option<Letter>],

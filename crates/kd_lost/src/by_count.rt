@@ -1,11 +1,12 @@
-//! Reads a part whose count is wrong or damaged by the letters that came.
+//! Reads a part whose letter count is wrong or damaged: with the number of letters that came as its count.
 ghost use Rattle.std.specs.Prelude.{◌≡◌, ◌++◌, drop, flat_map, MatchResult};
-ghost use Rattle.kd_lost.specs.ByCount.{IsFoundIn, counted_part, explains, first_word, from_space, heading_count, later_words};
+ghost use Rattle.kd_lost.specs.ByCount.{IsFoundIn, counted_part, explains, first_word, from_blank, heading_count, later_words};
 ghost use Rattle.kd_lost.specs.ByCount.{is_count_doubted, numbers_by_count, part_line, telling_line};
 
 use crate::damage::PartDamage;
 use crate::damaged_text::DamagedText;
 use crate::form::DamagedFormFault;
+use crate::heading_line::is_blank;
 use crate::part::{DamagedPart, PartNumbers, read_damaged_part};
 use crate::short_line::ShortLine;
 use crate::tidy::line_and_rest;
@@ -13,7 +14,7 @@ use itoa::Buffer;
 use kd_state::SheetDay;
 use std::alloc::Global;
 
-/// The line of a part that isn't full, if the heading's count is right once this line is full.
+/// The short line of `part`, if its missing letters explain the heading's count.
 pub fn part_line(part: &DamagedPart) -> Option<ShortLine>
     ensures { result ≡ part_line part.now }
 {
@@ -29,14 +30,14 @@ fn telling_line(counted: usize, came: usize, short: &Option<ShortLine>) -> Optio
     }
 }
 
-/// Whether the heading's count is right if the line is full.
+/// Whether the heading's count `counted` would be right if the line `short` had all its 50 letters.
 fn explains(counted: usize, came: usize, short: ShortLine) -> bool
     ensures { result ≡ explains counted came short }
 {
     counted as u128 + short.letters as u128 == came as u128 + 50
 }
 
-/// How many letters the body has, by the heading.
+/// The letter count in the heading; 0 if the heading is damaged.
 fn heading_count(numbers: &Option<PartNumbers>) -> usize
     ensures { result ≡ heading_count numbers.now }
 {
@@ -46,7 +47,7 @@ fn heading_count(numbers: &Option<PartNumbers>) -> usize
     }
 }
 
-/// Whether the count may be what is wrong with a part.
+/// Whether the count in the heading may be what is wrong with `part`.
 pub(crate) fn is_count_doubted(part: &DamagedPart) -> bool
     ensures { result ≡ is_count_doubted part.now.text (part_line part.now) }
 {
@@ -57,7 +58,7 @@ pub(crate) fn is_count_doubted(part: &DamagedPart) -> bool
     }
 }
 
-/// The numbers in the heading of `part`, and its text, if `count` stands in place of the heading's count.
+/// Reads the heading's numbers and the text of `part`, with `count` in place of the heading's count.
 pub(crate) fn find_by_count(
     alloc: Global,
     day: &SheetDay,
@@ -78,7 +79,8 @@ pub(crate) fn find_by_count(
     }
 }
 
-/// The numbers of a part: those that its heading gives as it stands or, if a text was found by count, those found.
+/// The numbers of a part: those in its heading as it came. If this heading is damaged, and a text was found by count:
+/// those found with the text.
 pub(crate) fn numbers_by_count(
     given: Option<PartNumbers>,
     counted: Option<PartNumbers>,
@@ -128,17 +130,25 @@ fn push_all(bytes: &mut Vec<u8>, pieces: &[&[u8]]) -> Result<(), DamagedFormFaul
     Ok(())
 }
 
-/// The first word of `line`, and the bytes from its first space on.
+/// The first word of `line`, and the bytes from its first blank on.
 fn split_word(line: &[u8]) -> (&[u8], &[u8])
     ensures word { result.0.now ≡ first_word line.now }
-    ensures rest { result.1.now ≡ from_space line.now }
+    ensures rest { result.1.now ≡ from_blank line.now }
 {
     for (index, byte) in line.iter().enumerate() {
-        if *byte == b' ' {
+        if is_blank(*byte) {
             return line.split_at(index);
         }
     }
     line.split_at(line.len())
+}
+
+/// The first word of `line`.
+pub(crate) fn first_word(line: &[u8]) -> &[u8]
+    ensures { result.now ≡ first_word line.now }
+{
+    let (word, _) = split_word(line);
+    word
 }
 
 /// `line` from its second word on.

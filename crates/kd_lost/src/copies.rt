@@ -10,7 +10,7 @@ use arrayvec::ArrayVec;
 use kd_form::keys::PinKeys;
 use kd_tables::Letter;
 
-/// The keys before the text, `start`, and after it, `end`, put together: each has the eight letters of the keys.
+/// Puts the keys together from `start` and `end`, the eight letters of the keys before and after the text.
 pub(crate) fn keys_of_copies(
     start: &[Option<Letter>],
     end: &[Option<Letter>],
@@ -36,7 +36,7 @@ fn six_letters(letters: &[Letter]) -> [Letter; 6]
     <[Letter; 6]>::try_from(letters).unwrap()
 }
 
-/// Appends the letters that stand once in each of two copies. The first has the number `number`.
+/// Appends the key letters that have one copy in `start` and one in `end`. The first of them has the number `number`.
 fn push_key_letters(
     letters: &mut ArrayVec<Letter, 6>,
     number: u8,
@@ -60,7 +60,7 @@ fn push_key_letters(
     Ok(())
 }
 
-/// The key letter with number `number`, of which `copies` are all copies.
+/// Key letter `number`, from all its copies, or why there is none.
 fn key_letter(number: u8, copies: &[Option<Letter>]) -> Result<Letter, PartDamage>
     ensures { IsKeyLetterAnswer number copies.now result }
 {
@@ -87,7 +87,7 @@ fn first_received(copies: &[Option<Letter>]) -> Option<Letter>
     None
 }
 
-/// Whether one of `copies` was received as another letter than `letter`.
+/// Whether a received letter of `copies` isn't `letter`.
 fn has_other(copies: &[Option<Letter>], letter: Letter) -> bool
     ensures other { OnTrue result (Any (λ got. ¬ (IsLetterFor got letter)) copies.now) }
     ensures none { OnFalse result (All (λ got. IsLetterFor got letter) copies.now) }

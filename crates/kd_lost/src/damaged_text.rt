@@ -1,13 +1,8 @@
-//! `DamagedText`: what can be read of the text of a part, with two warnings.
-ghost use Rattle.std.specs.Prelude.{◌≡◌, map};
-ghost use Rattle.kd_form.specs.Sending.{space_letter};
-ghost use Rattle.kd_lost.specs.DamagedForm.{shown_byte};
+//! `DamagedText`: what can be read of the text of a part, with its warnings.
 
 use arrayvec::ArrayVec;
 use kd_form::heading::Indicator;
 use kd_form::keys::PinKeys;
-use kd_form::text_bytes::space_letter;
-use kd_state::SheetDay;
 use kd_tables::Letter;
 
 /// What can be read of the text of a part in which letters were lost.
@@ -34,7 +29,7 @@ pub enum TextKeys {
     Pin(PinTextKeys),
 }
 
-/// The keys of a text on the Converter M-209.
+/// The keys with which a text on the Converter M-209 was deciphered.
 #[derive(Drop)]
 pub struct PinTextKeys {
     /// The chosen letter and the external letters, put together from both copies.
@@ -46,11 +41,11 @@ pub struct PinTextKeys {
 /// Whether the letters by which a receiver knows the day are the day's.
 #[derive(Clone, Copy, Debug, PartialEq, Eq)]
 pub enum GroupTest {
-    /// They are.
+    /// These letters are the day's.
     Right,
-    /// They aren't: the part was made with another day's settings, or these letters were changed on the air.
+    /// They aren't the day's: the part was made with another day's settings, or they were changed on the air.
     Wrong,
-    /// One of them is lost.
+    /// They weren't compared: a letter of the group, or a list letter in both copies, is lost.
     NotTested,
 }
 
@@ -61,29 +56,4 @@ pub struct LostCopies {
     pub at_start: bool,
     /// Whether a letter is lost in the copy after the text.
     pub at_end: bool,
-}
-
-impl DamagedText {
-    /// The text as bytes: capital letters, and `?` for each lost letter; on the Converter M-209, a space for each Z.
-    pub fn bytes(&self, day: &SheetDay) -> ArrayVec<u8, 500>
-        ensures { result.items ≡ map (shown_byte (space_letter day.now)) self.now.letters.items }
-    {
-        let for_space = space_letter(day);
-        let mut bytes = ArrayVec::new();
-        for letter in self.letters.as_slice() {
-            bytes.push(shown_byte(&for_space, letter));
-        }
-        bytes
-    }
-}
-
-/// The byte for `letter`: `?` for a lost letter, a space if the letter is `for_space`, otherwise the capital letter.
-fn shown_byte(for_space: &Option<Letter>, letter: &Option<Letter>) -> u8
-    ensures { result ≡ shown_byte for_space.now letter.now }
-{
-    match (for_space, letter) {
-        (_, None) => b'?',
-        (Some(for_space), Some(letter)) if *for_space == *letter => b' ',
-        (_, Some(letter)) => letter.byte(),
-    }
 }

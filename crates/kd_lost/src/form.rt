@@ -20,7 +20,7 @@ use crate::tidy::{respaced, tidied};
 use kd_state::SheetDay;
 use std::alloc::Global;
 
-/// How many parts of a form are read at most. The headings count at most 99; some may be doubled.
+/// The most parts that are read of a form. A message has at most 99 parts, but some may come twice.
 const MOST_PARTS: usize = 255;
 
 /// Why a form in which letters were lost isn't read.
@@ -32,11 +32,11 @@ pub enum DamagedFormFault {
     TooManyParts,
 }
 
-/// Reads each part of `form`, without the letters that were lost, and with those that a copy of the part has.
+/// Reads each part of `form`. A letter that is lost in one copy of a part is taken from another copy.
 ///
-/// Each line that is taken for a heading begins a part: it begins like `PART`, and has a digit or a slash, or a lost sign
-/// in place of its number. Lines before the first heading are passed over, unless one of them may have been a heading. For
-/// a form that `receive` reads, these are its parts.
+/// A part begins at each line that is taken for a heading: it begins like `PART`, and has a digit or a slash, or a lost
+/// sign in place of its number. Lines before the first heading are passed over, unless one of them may have been a
+/// heading. A form that `receive` reads is cut into the same parts.
 pub fn read_damaged_form(
     alloc: Global,
     day: &SheetDay,
@@ -59,7 +59,8 @@ pub fn read_damaged_form(
     }
 }
 
-/// Reads each part of `form`, with the letters that its copies have. `copies` are its parts, each read alone, or none.
+/// Reads each part of `form`, with letters from `copies` in place of lost ones. `copies` are the parts of the form,
+/// each read alone, or none.
 fn read_parts(
     alloc: Global,
     day: &SheetDay,
@@ -91,7 +92,8 @@ fn read_parts(
     Ok(parts)
 }
 
-/// Reads the part at the place `index` of its form, where it begins on line `line`, with the letters that its copies have.
+/// Reads the part at place `index` of its form, where it begins on line `line`, with letters from its copies in place
+/// of lost ones.
 fn read_one(
     alloc: Global,
     day: &SheetDay,
@@ -140,7 +142,7 @@ fn read_placed(
     }
 }
 
-/// Reads `part`; if its first line isn't a heading, without the blanks there that mean nothing.
+/// Reads `part` as it stands or, if its first line isn't a heading, with single spaces between the words of this line.
 fn read_as_meant(
     alloc: Global,
     day: &SheetDay,
@@ -222,7 +224,7 @@ pub(crate) fn split_part(form: &[u8]) -> (&[u8], Option<&[u8]>)
     (form, None)
 }
 
-/// Whether a part ends with `byte`, before `rest`.
+/// Whether `byte` ends a part that `rest` follows.
 pub(crate) fn ends_part(byte: u8, rest: &[u8]) -> bool
     ensures { result ≡ ends_part byte rest.now }
 {

@@ -12,7 +12,7 @@ use arrayvec::ArrayString;
 
 /// Whether the first line of `bytes` is taken for a heading.
 ///
-/// It is one if it begins like `PART`, and has a digit or a slash, which no body has, or has lost its number.
+/// The line begins like `PART`, and has a digit or a slash, which no body has, or a lost sign in place of its number.
 pub(crate) fn is_heading_line(bytes: &[u8]) -> bool
     ensures { result ≡ is_heading_line bytes.now }
 {
@@ -27,14 +27,14 @@ fn has_lost_number(bytes: &[u8]) -> bool
     has_short_word(line) && begins_lost(after_blanks(after_word(line)))
 }
 
-/// Whether the first word has three or four signs, as `PART` has, and no group of a body.
+/// Whether the first word has three or four signs, so that it may be `PART`, but not a group of five letters.
 fn has_short_word(bytes: &[u8]) -> bool
     ensures { result ≡ has_short_word bytes.now }
 {
     is_blank_at(bytes.get(3).copied()) || is_blank_at(bytes.get(4).copied())
 }
 
-/// Whether a blank stands at this place.
+/// Whether there is a byte, and it is a blank.
 fn is_blank_at(byte: Option<u8>) -> bool
     ensures { result ≡ is_blank_at byte }
 {
@@ -53,7 +53,7 @@ fn begins_lost(bytes: &[u8]) -> bool
     }
 }
 
-/// `bytes` from the end of their first word on: the first blank, or LF.
+/// `bytes` from the blank or LF on that ends their first word.
 fn after_word(bytes: &[u8]) -> &[u8]
     ensures { result.now ≡ after_word bytes.now }
 {
@@ -120,21 +120,21 @@ fn has_three(bytes: &[u8]) -> bool
         || are_right(3, b"PAR", bytes)
 }
 
-/// Whether at least `least` signs of `bytes` are those of `word`, each at its place.
+/// Whether at least `least` signs of `bytes` equal the sign of `word` at the same place.
 fn are_right(least: usize, word: &[u8], bytes: &[u8]) -> bool
     ensures { result ≡ nat_le least (right_signs word.now bytes.now) }
 {
     right_signs(word, bytes) >= least
 }
 
-/// Whether at least `least` signs of `bytes` may be those of `word`, each at its place.
+/// Whether at least `least` signs of `bytes` equal the sign of `word` at the same place, or are lost.
 fn are_fitting(least: usize, word: &[u8], bytes: &[u8]) -> bool
     ensures { result ≡ nat_le least (fitting_signs word.now bytes.now) }
 {
     fitting_signs(word, bytes) >= least
 }
 
-/// How many signs of `bytes` are those of `word`, each at its place.
+/// How many signs of `bytes` equal the sign of `word` at the same place.
 fn right_signs(word: &[u8], bytes: &[u8]) -> usize
     ensures signs { result ≡ right_signs word.now bytes.now }
     ensures few { result ≤ length word.now }
@@ -148,7 +148,7 @@ fn right_signs(word: &[u8], bytes: &[u8]) -> usize
     0
 }
 
-/// How many signs of `bytes` may be those of `word`, each at its place.
+/// How many signs of `bytes` equal the sign of `word` at the same place, or are lost.
 fn fitting_signs(word: &[u8], bytes: &[u8]) -> usize
     ensures signs { result ≡ fitting_signs word.now bytes.now }
     ensures few { result ≤ length word.now }
@@ -162,7 +162,7 @@ fn fitting_signs(word: &[u8], bytes: &[u8]) -> usize
     0
 }
 
-/// Whether a letter, capital or small, stands at this place.
+/// Whether there is a byte, and it is a letter, capital or small.
 fn is_letter(byte: Option<u8>) -> bool
     ensures { result ≡ is_letter byte }
 {
@@ -217,14 +217,15 @@ fn is_heading_byte(byte: u8) -> bool
     byte.is_ascii_uppercase() || (byte >= b'/' && byte <= b'9') || is_lost(byte) || byte == b' '
 }
 
-/// Whether `bytes` are an order: they begin with a line of keys, which has no digit, and have the line `TEXT`.
+/// Whether `bytes` look like an order to send: their first line begins like `PART` and has no digit, and a later line
+/// is `TEXT`.
 pub(crate) fn is_order(bytes: &[u8]) -> bool
     ensures { result ≡ is_order bytes.now }
 {
     begins_with_part(after_blanks(bytes)) && !has_digit_line(bytes) && has_text_line(bytes)
 }
 
-/// Whether a line of `bytes` but the first is `TEXT`.
+/// Whether a line of `bytes` after the first is `TEXT`.
 fn has_text_line(bytes: &[u8]) -> bool
     ensures { result ≡ has_text_line bytes.now }
 {
@@ -244,7 +245,7 @@ fn is_text_line(bytes: &[u8]) -> bool
     are_right(4, b"TEXT", bytes) && ends_line(bytes.get(4).copied())
 }
 
-/// Whether a line ends at this place.
+/// Whether the byte ends a line: an LF, a CR, or no byte at all.
 fn ends_line(byte: Option<u8>) -> bool
     ensures { result ≡ ends_line byte }
 {

@@ -1,20 +1,20 @@
-//! Laws of damaged parts, of the ciphers under them, and of forms of one message.
+//! Laws of damaged parts, of their ciphers, and of forms of one message.
 ghost use Rattle.kd_lost.specs.Laws.{CiphersAgreeWhereTextsDo, PartsReadAreShownWhole, PartsReadHaveNumbers};
 ghost use Rattle.kd_lost.specs.Laws.{FormsReadAreShownWhole, FormsReadAreTidy, FormsReadHaveTheirParts, RepetitionsAgree};
 
-/// Equal letters at one place of two texts become equal letters, whatever the other letters are.
+/// Equal letters at one place of two texts are enciphered to equal letters, whatever the other letters are.
 #[tactic(auto, using(crate::proofs::Ciphers::ciphers_agree))]
 pub fn ciphers_agree_where_texts_do()
     ensures { CiphersAgreeWhereTextsDo }
 {}
 
-/// A part that `receive` reads is read so, to the letter, and without a warning.
+/// If `receive` reads a part, this crate reads the same text, without a warning.
 pub fn parts_read_are_shown_whole()
     ensures shown { PartsReadAreShownWhole }
     ensures numbers { PartsReadHaveNumbers }
 {}
 
-/// A form that `receive` reads is cut into its parts, and read so, to the letter, and without a warning.
+/// If `receive` reads a form, this crate cuts it into the same parts and reads the same text, without a warning.
 ///
 /// Nothing before its first heading is passed over.
 pub fn forms_read_are_shown_whole()
@@ -23,7 +23,7 @@ pub fn forms_read_are_shown_whole()
     ensures shown { FormsReadAreShownWhole }
 {}
 
-/// No part of a form of one message is another message under the same number.
+/// In a form of one message, parts with one number have no different letters at one place.
 #[tactic(auto, using(crate::proofs::OneMessage::repetitions_agree))]
 pub fn repetitions_agree()
     ensures { RepetitionsAgree }

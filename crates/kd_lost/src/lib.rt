@@ -1,8 +1,8 @@
 //! Forms in which letters were lost on the air: everything that can be read of them without guessing.
 //!
 //! A lost letter is a `?` or `-`, and a small letter means its capital. The text of a part is shown without the letters
-//! that were lost; a part whose keys were lost isn't read. Parts may have come twice or in another order: which of them are
-//! shown, and whether they are one whole message, is said here, too.
+//! that were lost; a part whose keys were lost isn't read. Parts may come twice or in another order: this crate also
+//! says which of them are shown, and whether they are one whole message.
 #![tactic(auto)]
 
 mod body;
@@ -34,7 +34,7 @@ pub use one_message::are_of_one_message;
 pub use part::{DamagedPart, PartNumbers, read_damaged_part};
 pub use short_line::ShortLine;
 pub use shown_parts::{
-    are_rising, is_any_read, is_one_message, is_whole, shown_under, times_of, total_of,
+    are_in_order, is_any_read, is_one_message, is_whole, shown_under, times_of, total_of,
 };
 pub use texts::shown_text;
 pub use wrong_sign::WrongSign;

@@ -3,9 +3,10 @@ ghost use Rattle.std.specs.Prelude.{◌≡◌};
 ghost use Rattle.kd_lost.specs.OneMessage.{agrees_with_each, are_of_one_message, headings_agree, letter_agrees};
 ghost use Rattle.kd_lost.specs.OneMessage.{letters_agree, numbers_agree, parts_agree, same_keys, same_letters};
 ghost use Rattle.kd_lost.specs.OneMessage.{bodies_agree, ends_within, key_signs, keys_agree, may_repeat};
+ghost use Rattle.kd_lost.specs.OneMessage.{count_signs, counts_agree, heading_repeats, same_count};
 ghost use Rattle.kd_lost.specs.OneMessage.{sign_agrees, signs_agree, texts_agree};
 
-use crate::by_count::later_words;
+use crate::by_count::{first_word, later_words};
 use crate::damage::PartDamage;
 use crate::damaged_text::{DamagedText, TextKeys};
 use crate::part::{DamagedPart, PartNumbers};
@@ -49,7 +50,36 @@ fn may_repeat(one: &DamagedPart, other: &DamagedPart) -> bool
         && texts_agree(&one.text, &other.text)
         && ends_within(one, other)
         && ends_within(other, one)
-        && keys_agree(one, other)
+        && heading_repeats(one, other)
+}
+
+/// Whether the headings of two parts may be one heading, sent twice.
+fn heading_repeats(one: &DamagedPart, other: &DamagedPart) -> bool
+    ensures { result ≡ heading_repeats one.now other.now }
+{
+    counts_agree(one, other) && keys_agree(one, other)
+}
+
+/// Whether two parts may have equally many letters: equally many came, or the counts in their headings agree.
+fn counts_agree(one: &DamagedPart, other: &DamagedPart) -> bool
+    ensures { result ≡ counts_agree one.now other.now }
+{
+    one.came == other.came || has_count_of(one, other)
+}
+
+fn has_count_of(one: &DamagedPart, other: &DamagedPart) -> bool
+    ensures { result ≡ same_count (count_signs one.now.heading.bytes) (count_signs other.now.heading.bytes) }
+{
+    let one = count_signs(one.heading.as_str().as_bytes());
+    let other = count_signs(other.heading.as_str().as_bytes());
+    one.len() == other.len() && signs_agree(one, other)
+}
+
+/// The signs of a heading's count.
+fn count_signs(heading: &[u8]) -> &[u8]
+    ensures { result.now ≡ count_signs heading.now }
+{
+    first_word(later_words(later_words(heading)))
 }
 
 /// Whether the headings of two parts may have the same keys.
@@ -60,14 +90,14 @@ fn keys_agree(one: &DamagedPart, other: &DamagedPart) -> bool
     signs_agree(one, key_signs(other.heading.as_str().as_bytes()))
 }
 
-/// The signs of a heading behind its count.
+/// The signs of a heading after its count: on a rotor machine, the ground setting and the enciphered key.
 fn key_signs(heading: &[u8]) -> &[u8]
     ensures { result.now ≡ key_signs heading.now }
 {
     later_words(later_words(later_words(heading)))
 }
 
-/// Whether the signs agree at each place that both have.
+/// Whether the signs agree at each place, up to the end of the shorter slice.
 fn signs_agree(one: &[u8], other: &[u8]) -> bool
     ensures { result ≡ signs_agree one.now other.now }
 {
@@ -79,14 +109,14 @@ fn signs_agree(one: &[u8], other: &[u8]) -> bool
     true
 }
 
-/// Whether both signs may have been sent as one: they are equal, or one is lost.
+/// Whether both signs may stand for one sent sign: they are equal, or one is lost.
 fn sign_agrees(sign: u8, again: u8) -> bool
     ensures { result ≡ sign_agrees sign again }
 {
     sign == again || is_lost(sign) || is_lost(again)
 }
 
-/// Whether `one` has no more letters than the other part, if this one is read.
+/// Whether `one` has at most as many letters as `other`, or `other` couldn't be read.
 fn ends_within(one: &DamagedPart, other: &DamagedPart) -> bool
     ensures { result ≡ ends_within one.now other.now }
 {
@@ -128,7 +158,7 @@ fn texts_agree(
     }
 }
 
-/// Whether two bodies have as many letters, and agree at each place.
+/// Whether two bodies are equally long, and agree at each place.
 fn letters_agree(one: &[Option<Letter>], other: &[Option<Letter>]) -> bool
     ensures { result ≡ letters_agree one.now other.now }
 {
@@ -140,7 +170,7 @@ fn letters_agree(one: &[Option<Letter>], other: &[Option<Letter>]) -> bool
     one.is_empty() && other.is_empty()
 }
 
-/// Whether both letters may have been sent as one: they are equal, or one is lost.
+/// Whether both letters may stand for one sent letter: they are equal, or one is lost.
 fn letter_agrees(one: &Option<Letter>, other: &Option<Letter>) -> bool
     ensures { result ≡ letter_agrees one.now other.now }
 {

@@ -33,30 +33,31 @@ use kd_tables::Letter;
 /// What can be read of a part of a form in which letters were lost.
 #[derive(Drop)]
 pub struct DamagedPart {
-    /// The numbers in the heading; `None` if the heading is damaged. If only its count is damaged, and the part is read
-    /// by the letters that came, their number stands for the count.
+    /// The numbers in the heading; `None` if the heading is damaged. If only the count is damaged, and the part is read
+    /// by count, the number of letters that came stands for the count.
     pub numbers: Option<PartNumbers>,
     /// The first signs of the heading line as it came, at most 64, with `?` for each that may not stand in a heading.
     pub heading: ArrayString<64>,
-    /// How many letters of the body came, with the lost ones.
+    /// How many letters of the body came, lost ones included.
     pub came: usize,
-    /// The first letters of the body, at most 525. For each sign that may not be in a body, there is a lost letter.
+    /// The first letters of the body, at most 525. A sign that may not be in a body counts as a lost letter.
     pub body: ArrayVec<Option<Letter>, 525>,
     /// The text, or why it can't be read.
     pub text: Result<DamagedText, PartDamage>,
     /// The first wrong sign of the body, if it has one.
     pub wrong_sign: Option<WrongSign>,
-    /// The text by the letters that came, if the count in the heading is wrong or damaged.
+    /// The text, read with the number of letters that came as the count, if the heading's count is wrong or damaged.
     pub by_count: Option<DamagedText>,
-    /// The first line of the body that isn't full, and isn't the last, if there is one.
+    /// The first line of the body that has letters, but not 50, and isn't the last with letters; `None` if there is
+    /// none.
     pub short_line: Option<ShortLine>,
-    /// The number of the first group of the body that hasn't five letters, and isn't the last, if there is one.
+    /// The number of the first group that doesn't have five letters and isn't the last; `None` if there is none.
     pub short_group: Option<usize>,
-    /// Whether blanks in the part's first line were passed over, since it is no heading with them.
+    /// Whether blanks in the part's first line were dropped, because it isn't a heading with them.
     pub respaced: bool,
     /// Whether each byte of the part is meant as it stands: none is a small letter or a tab.
     pub as_spelled: bool,
-    /// Whether the part is an order in place of a form.
+    /// Whether the part looks like an order to send instead of a received form.
     pub is_order: bool,
     /// The line of the form on which the part begins, counted from 1; 1, if the part is read by itself.
     pub line: usize,
@@ -99,7 +100,7 @@ pub fn read_damaged_part(day: &SheetDay, part: &[u8]) -> DamagedPart
     read
 }
 
-/// Reads a part, but for how it is spelled, and whether it is an order.
+/// Reads a part; the fields `as_spelled` and `is_order` are still to be set.
 fn read_split_part(day: &SheetDay, part: &[u8]) -> DamagedPart
     ensures numbers { AreNumbersRead day.now (first_line part.now) result.numbers }
     ensures heading { result.heading.bytes ≡ heading_signs (first_line part.now) }

@@ -1,4 +1,4 @@
-//! The bytes of a part as they were received: lost letters, small letters, and what a body's bytes give.
+//! The bytes of a part as they were received: which letters they stand for, and which of them are lost.
 ghost use Rattle.std.specs.Prelude.{◌≡◌, ◌≤◌, ◌++◌, ◌↔◌, List, length, map, take, All, Any, Contains, None, IsTrue, IsFalse, is_some};
 ghost use Rattle.std.specs.List.{count_by};
 ghost use Rattle.std.specs.Option.{option_to_list};
@@ -18,7 +18,7 @@ pub(crate) fn is_lost(byte: u8) -> bool
     byte == b'?' || byte == b'-'
 }
 
-/// The byte that is meant by `byte`: a capital letter by a small one, a space by a tab, otherwise `byte` itself.
+/// The byte that `byte` means: the capital letter for a small one, a space for a tab, otherwise `byte` itself.
 pub(crate) fn meant_byte(byte: u8) -> u8
     ensures { result ≡ meant_byte byte }
 {
@@ -31,7 +31,7 @@ pub(crate) fn meant_byte(byte: u8) -> u8
     }
 }
 
-/// The byte that is meant by `byte`, with B in place of a lost letter.
+/// The byte that `byte` means; B for a lost letter.
 fn filled_byte(byte: u8) -> u8
     ensures { result ≡ filled_byte byte }
 {
@@ -100,7 +100,7 @@ pub(crate) fn received_letters(body: &[u8]) -> ArrayVec<Option<Letter>, 525>
     letters
 }
 
-/// The first letters of a body, at most 525, with a lost one for each sign that may not be there.
+/// The first letters of a body, at most 525. A sign that may not be in a body counts as a lost letter.
 #[tactic(auto, using(crate::proofs::Bytes::body_more, crate::proofs::Bytes::kept_already))]
 pub(crate) fn body_letters(body: &[u8]) -> ArrayVec<Option<Letter>, 525>
     ensures { result.items ≡ body_letters body.now }
@@ -112,7 +112,7 @@ pub(crate) fn body_letters(body: &[u8]) -> ArrayVec<Option<Letter>, 525>
     letters
 }
 
-/// What a byte of a body gives: a letter, a lost letter, or nothing. A sign that may not be there gives a lost letter.
+/// The letter that a byte of a body counts as: `Some(None)` for a lost letter, or for a sign that may not be in a body.
 fn body_letter(byte: u8) -> Option<Option<Letter>>
     ensures { result ≡ body_letter byte }
 {
@@ -123,7 +123,7 @@ fn body_letter(byte: u8) -> Option<Option<Letter>>
     }
 }
 
-/// How many letters a body has, with the lost ones.
+/// How many letters a body has, lost ones included.
 pub(crate) fn letter_count(body: &[u8]) -> usize
     ensures count { result ≡ count_by (λ byte. is_some (received_letter byte)) body.now }
     ensures few { result ≤ length body.now }
@@ -138,7 +138,7 @@ pub(crate) fn is_received(byte: &u8) -> bool
     received_letter(*byte).is_some()
 }
 
-/// Appends `letter`, which may be a lost one, if there is one and room for it.
+/// Appends `letter`, if it is there, and there is room for it. It may be a lost letter.
 fn keep_letter(letters: &mut ArrayVec<Option<Letter>, 525>, letter: Option<Option<Letter>>)
     ensures { letters.old.items ≡ take 525 letters.old.items
         → letters.new.items ≡ take 525 (letters.old.items ++ option_to_list letter) }
@@ -148,7 +148,7 @@ fn keep_letter(letters: &mut ArrayVec<Option<Letter>, 525>, letter: Option<Optio
     }
 }
 
-/// What a byte of a body gives: a letter, a lost letter, or nothing.
+/// The letter that a byte of a body stands for: `Some(None)` for a lost letter, `None` for no letter.
 fn received_letter(byte: u8) -> Option<Option<Letter>>
     ensures { result ≡ received_letter byte }
 {

@@ -1,4 +1,4 @@
-//! Parts that came several times: a letter that one copy lost is the one that another has.
+//! Parts that came several times: a letter that is lost in one copy is taken from another.
 ghost use Rattle.std.specs.Prelude.{◌≡◌, ◌++◌, MatchResult, None, Some, slice_index_or};
 ghost use Rattle.kd_lost.specs.Repetitions.{are_kept, completed_byte, completed_from, completed_with, copied_letter};
 ghost use Rattle.kd_lost.specs.Repetitions.{has_keys_of, is_kept, is_same_part, known_letter};
@@ -13,8 +13,8 @@ use crate::tidy::line_and_rest;
 use kd_tables::Letter;
 use std::alloc::Global;
 
-/// The bytes of `part`, with the letters that its copies have in place of lost ones. `read` and `shown`: the part as it was
-/// read alone, and its text.
+/// The bytes of `part`, with letters from its copies in place of lost ones. `read` is the part as it was read alone,
+/// and `shown` is its text.
 pub(crate) fn completed_part(
     alloc: Global,
     copies: &[DamagedPart],
@@ -37,7 +37,7 @@ pub(crate) fn completed_part(
     Ok(bytes)
 }
 
-/// Appends the bytes of a body, with the letters of the part's copies for lost ones.
+/// Appends the bytes of a body, with letters from the part's copies in place of lost ones.
 fn push_completed(
     bytes: &mut Vec<u8>,
     copies: &[DamagedPart],
@@ -61,7 +61,7 @@ fn push_completed(
     Ok(())
 }
 
-/// `byte` or, if it stands for a lost letter that a copy has, this letter.
+/// `byte`; if it stands for a lost letter that a copy has, this letter.
 fn completed_byte(
     copies: &[DamagedPart],
     read: &DamagedPart,
@@ -80,7 +80,7 @@ fn completed_byte(
     }
 }
 
-/// The letter at `place`, of the first copy that didn't lose it.
+/// The letter at `place` in the first copy that didn't lose it.
 fn known_letter(
     copies: &[DamagedPart],
     read: &DamagedPart,
@@ -98,7 +98,7 @@ fn known_letter(
     }
 }
 
-/// The letter that came at `place` of `other`, if this is a copy of `read`, whose text is `shown`.
+/// The letter at `place` of `other`; `None` if it is lost, or `other` isn't a copy of `read`, whose text is `shown`.
 fn copied_letter(
     read: &DamagedPart,
     shown: &DamagedText,
@@ -124,14 +124,14 @@ fn letter_at(text: &DamagedText, place: usize) -> Option<Letter>
     }
 }
 
-/// Whether both texts have the same keys, and as many letters came.
+/// Whether two texts have the same keys and equally many received letters.
 fn has_keys_of(one: &DamagedText, other: &DamagedText) -> bool
     ensures { result ≡ has_keys_of one.now other.now }
 {
     same_keys(&one.keys, &other.keys) && one.received.len() == other.received.len()
 }
 
-/// Whether two headings give one number, of as many parts; or both are damaged.
+/// Whether two headings give the same part number and number of parts, or both are damaged.
 fn is_same_part(one: &Option<PartNumbers>, other: &Option<PartNumbers>) -> bool
     ensures { result ≡ is_same_part one.now other.now }
 {
@@ -142,7 +142,7 @@ fn is_same_part(one: &Option<PartNumbers>, other: &Option<PartNumbers>) -> bool
     }
 }
 
-/// Whether each part, read again with the letters of its copies, keeps its number and its letters.
+/// Whether each part, read again with letters from its copies, keeps its number and its letters.
 pub(crate) fn are_kept(alone: &[DamagedPart], again: &[DamagedPart]) -> bool
     ensures { result ≡ are_kept alone.now again.now }
 {

@@ -1,4 +1,4 @@
-//! The first group of a body that hasn't five letters.
+//! The first group of a body that doesn't have five letters, though letters follow it.
 ghost use Rattle.std.specs.Prelude.{◌≡◌, ◌≤◌, ◌^◌, ◌+◌, ◌<◌, if◌then◌else◌, is_some};
 ghost use Rattle.kd_lost.specs.Lost.{received_letter};
 ghost use Rattle.kd_lost.specs.ShortGroup.{IsFirstShortGroup};
@@ -6,7 +6,7 @@ ghost use Rattle.kd_lost.specs.ShortGroup.{IsFirstShortGroup};
 use crate::received::is_received;
 use crate::short_line::letters_on;
 
-/// The number of the first group of `body` that hasn't five letters, before other letters, counted from 1.
+/// The number, counted from 1, of the first group of `body` that doesn't have five letters, though letters follow it.
 pub(crate) fn first_short_group(body: &[u8]) -> Option<usize>
     ensures { IsFirstShortGroup body.now result }
 {
@@ -21,7 +21,7 @@ pub(crate) fn first_short_group(body: &[u8]) -> Option<usize>
     None
 }
 
-/// How many letters stand up to `byte`, if `letters` stand before it.
+/// How many letters stand up to and including `byte`, if `letters` stand before it.
 fn letters_after(letters: usize, byte: u8) -> usize
     requires { letters < 2 ^ 63 + 2 }
     ensures { result ≡ (if is_some (received_letter byte) then letters + 1 else letters) }

@@ -1,16 +1,16 @@
-//! `ShortLine`: the first line of a body that isn't full, and isn't the last.
+//! `ShortLine`: a line of a body that has letters, but not 50, though letters follow it.
 ghost use Rattle.std.specs.Prelude.{◌≡◌, ◌&&◌, nat_lt};
 ghost use Rattle.kd_lost.specs.ShortLine.{is_short, letters_on, short_line};
 
 use crate::received::letter_count;
 use kd_state::split_once;
 
-/// A line of a body that has letters, but not 50, before another line with letters.
+/// A line of a body that has letters, but not 50, though letters follow it.
 #[derive(Clone, Copy, Debug, PartialEq, Eq)]
 pub struct ShortLine {
     /// The line of the part, counted from 1. On line 1 stands the heading.
     pub line: usize,
-    /// How many letters the line has, with the lost ones.
+    /// How many letters the line has, lost ones included.
     pub letters: usize,
     /// How many letters of the body stand before the line.
     pub before: usize,
@@ -54,7 +54,7 @@ fn is_short(letters: usize) -> bool
     letters != 0 && letters != 50
 }
 
-/// How many letters stand in `bytes`, with the lost ones.
+/// How many letters stand in `bytes`, lost ones included.
 #[tactic(auto, using(crate::proofs::Bytes::letters_counted))]
 pub(crate) fn letters_on(bytes: &[u8]) -> usize
     ensures { result ≡ letters_on bytes.now }

@@ -2,7 +2,7 @@
 ghost use Rattle.std.specs.Prelude.{◌≡◌, ◌≢◌, ◌↔◌, ◌≤◌, ◌+◌, All, IsTrue, MatchOption, None, Some, length};
 ghost use Rattle.std.specs.List.{range_with_len};
 ghost use Rattle.kd_lost.specs.ShownParts.{IsNumberWhole, IsReadWhole, IsWhole, MayBeOfTheDay, are_covered};
-ghost use Rattle.kd_lost.specs.ShownParts.{are_rising, is_any_read, is_covered, is_number, is_one_message, is_worse};
+ghost use Rattle.kd_lost.specs.ShownParts.{are_in_order, is_any_read, is_covered, is_number, is_one_message, is_worse};
 ghost use Rattle.kd_lost.specs.ShownParts.{numbers_of, shown_under, times_of, total_of};
 
 use crate::damaged_text::GroupTest;
@@ -11,7 +11,7 @@ use crate::part::{DamagedPart, PartNumbers};
 use crate::texts::{is_text_within, lost_in, shown_text};
 use kd_tables::Letter;
 
-/// How many parts the message has by the first heading that isn't damaged; 0, if all are.
+/// The number of parts that the first undamaged heading gives; 0 if all are damaged.
 pub fn total_of(parts: &[DamagedPart]) -> u8
     ensures { result ≡ total_of parts.now }
 {
@@ -24,14 +24,16 @@ pub fn total_of(parts: &[DamagedPart]) -> u8
     }
 }
 
-/// Whether the parts that have numbers came in the order of their numbers, and the first has one above `before`.
-pub fn are_rising(before: u8, parts: &[DamagedPart]) -> bool
-    ensures { result ≡ are_rising before (numbers_of parts.now) }
+/// Whether no number of a part is less than the one before it, and the first isn't less than `before`.
+///
+/// Parts without a number don't count.
+pub fn are_in_order(before: u8, parts: &[DamagedPart]) -> bool
+    ensures { result ≡ are_in_order before (numbers_of parts.now) }
 {
     match parts {
         [part, rest @ ..] => match &part.numbers {
-            Some(numbers) => before < numbers.part && are_rising(numbers.part, rest),
-            None => are_rising(before, rest),
+            Some(numbers) => before <= numbers.part && are_in_order(numbers.part, rest),
+            None => are_in_order(before, rest),
         },
         [] => true,
     }
@@ -57,7 +59,7 @@ pub fn times_of(parts: &[DamagedPart], number: u16) -> usize
         .count()
 }
 
-/// The part that is shown under this number: of the parts with the number, the first that none is better than.
+/// The part that is shown under this number: the one whose text tells most, or the first of several.
 pub fn shown_under(parts: &[DamagedPart], number: u16) -> Option<&DamagedPart>
     ensures { MatchOption result
         (shown_under parts.now number ≡ None)
@@ -76,7 +78,7 @@ pub fn shown_under(parts: &[DamagedPart], number: u16) -> Option<&DamagedPart>
     }
 }
 
-/// Whether the other part tells more: it has a text where the first has none, or fewer lost letters; or as many, and its
+/// Whether the text of `other` tells more: `one` has no text; or fewer letters are lost; or equally many, and only its
 /// count is right.
 fn is_worse(one: &DamagedPart, other: &DamagedPart) -> bool
     ensures { result ≡ is_worse one.now other.now }
@@ -91,14 +93,14 @@ fn is_worse(one: &DamagedPart, other: &DamagedPart) -> bool
     }
 }
 
-/// Whether the parts are shown as one message: any two can be of one, and none has a letter that isn't shown.
+/// Whether the parts are shown as one message: any two can be of one message, and none has a letter that isn't shown.
 pub fn is_one_message(parts: &[DamagedPart]) -> bool
     ensures { result ≡ is_one_message parts.now }
 {
     are_of_one_message(parts) && are_covered(parts, parts)
 }
 
-/// Whether the parts that are shown have all letters of `parts`. `all`: all parts of the form.
+/// Whether each part of `parts` has its letters in the part of `all` that is shown under its number.
 fn are_covered(all: &[DamagedPart], parts: &[DamagedPart]) -> bool
     ensures { result ≡ are_covered all.now parts.now }
 {
@@ -121,7 +123,7 @@ fn is_covered(all: &[DamagedPart], part: &DamagedPart) -> bool
     }
 }
 
-/// Whether one of the parts is read, be it by count.
+/// Whether at least one part is read, even if only by count.
 pub fn is_any_read(parts: &[DamagedPart]) -> bool
     ensures { result ≡ is_any_read parts.now }
 {
@@ -153,7 +155,7 @@ fn are_numbered(parts: &[DamagedPart]) -> bool
     }
 }
 
-/// Whether no part is of another day or network, as far as its group or its list letters tell.
+/// Whether neither group nor list letters show that a part is of another day or network.
 fn may_be_of_the_day(parts: &[DamagedPart]) -> bool
     ensures { IsTrue result ↔ All MayBeOfTheDay parts.now }
 {
@@ -175,7 +177,7 @@ fn may_be(part: &DamagedPart) -> bool
     }
 }
 
-/// Whether no letter is lost under the `count` numbers from `number` on.
+/// Whether a part with no lost letter is shown under each of the `count` numbers from `number` on.
 fn are_whole(parts: &[DamagedPart], number: u16, count: u16) -> bool
     requires { number + count ≤ 256 }
     ensures { IsTrue result

@@ -19,7 +19,7 @@ pub fn shown_text(part: &DamagedPart) -> Option<&DamagedText>
     }
 }
 
-/// Whether the text shown of `other` has each letter of the one shown of `one`, and no more lost letters.
+/// Whether the text of `other` has each letter of the text of `one`, and no more lost letters.
 pub(crate) fn is_text_within(one: &DamagedPart, other: &DamagedPart) -> bool
     ensures { result ≡ text_within (shown_text one.now) (shown_text other.now) }
 {

@@ -1,4 +1,4 @@
-//! Forms without noise: what copying a form or typing around it leaves there, and no operator sent.
+//! Forms without noise, which copying a form or typing around it leaves there, and no operator sent.
 ghost use Rattle.std.specs.Prelude.{◌≡◌, ◌++◌, None, Some, MatchOption, MatchResult};
 ghost use Rattle.kd_lost.specs.DamagedPart.{first_line};
 ghost use Rattle.kd_lost.specs.Tidy.{as_space, ends_word, from_line_end, is_gap, later_heading, respaced};
@@ -8,7 +8,8 @@ use crate::form::{DamagedFormFault, ends_part};
 use crate::heading_line::{after_blanks, is_blank, is_part_line};
 use std::alloc::Global;
 
-/// `form` without a byte order mark, and without the lines before its first heading, if none of them may have been one.
+/// `form` without a byte order mark, and without the lines before its first heading, unless one may be a damaged
+/// heading.
 pub(crate) fn tidied(form: &[u8]) -> &[u8]
     ensures { result.now ≡ tidied form.now }
 {
@@ -38,9 +39,10 @@ fn without_mark(form: &[u8]) -> &[u8]
     }
 }
 
-/// `bytes` from the first later line on that is taken for a heading; `None` if another may have been one before it.
+/// `bytes` from the first heading after their first line on; `None` if there is none, or a damaged heading may stand
+/// before it.
 ///
-/// The part under a heading that is damaged so far isn't to be lost in silence.
+/// The part under a damaged heading mustn't be dropped in silence.
 fn later_heading(bytes: &[u8]) -> Option<&[u8]>
     ensures { MatchOption result
         (later_heading bytes.now ≡ None)
@@ -58,7 +60,7 @@ fn later_heading(bytes: &[u8]) -> Option<&[u8]>
     None
 }
 
-/// Whether a heading may have stood here that is none now: at a slash, and before a line that begins like `PART`.
+/// Whether a damaged heading may stand here: at a slash, or before a line that begins like `PART`.
 fn was_heading(byte: u8, rest: &[u8]) -> bool
     ensures { result ≡ was_heading byte rest.now }
 {
@@ -111,7 +113,7 @@ fn push_single_spaced(bytes: &mut Vec<u8>, line: &[u8]) -> Result<(), DamagedFor
     Ok(())
 }
 
-/// Appends what is kept of `byte`, before `rest`.
+/// Appends what stays of `byte` before `rest`: a space for a gap, nothing for a gap before another gap or the end.
 fn push_spaced(bytes: &mut Vec<u8>, byte: u8, rest: &[u8]) -> Result<(), DamagedFormFault>
     ensures { MatchResult result
         (λ _. bytes.new.items ≡ bytes.old.items ++ spaced_byte byte rest.now)
@@ -133,7 +135,7 @@ fn as_space(byte: u8) -> u8
     if is_gap(byte) { b' ' } else { byte }
 }
 
-/// Whether `byte` parts words: a blank, or CR.
+/// Whether `byte` is a gap between words: a blank, or CR.
 fn is_gap(byte: u8) -> bool
     ensures { result ≡ is_gap byte }
 {

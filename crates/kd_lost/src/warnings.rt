@@ -45,7 +45,7 @@ fn known_letters(received: &[Option<Letter>]) -> Option<ArrayVec<Letter, 3>>
     Some(letters)
 }
 
-/// Tests whether the list letters, of which `start` and `end` are the copies, are the day's.
+/// Compares `start` and `end`, the received copies of the list letters, with the day's.
 pub(crate) fn test_list(
     day: &SheetDay,
     start: &[Option<Letter>],
@@ -64,7 +64,7 @@ pub(crate) fn test_list(
     GroupTest::Right
 }
 
-/// Whether each letter of `received` is the one of `letters`, or lost.
+/// Whether each letter of `received` is lost, or equals the letter of `letters` at the same place.
 fn completes(received: &[Option<Letter>], letters: &[Letter]) -> bool
     ensures { IsTrue result ↔ Completes received.now letters.now }
 {
@@ -76,7 +76,7 @@ fn completes(received: &[Option<Letter>], letters: &[Letter]) -> bool
     received.is_empty() && letters.is_empty()
 }
 
-/// Whether a letter is lost in both copies.
+/// Whether a letter is lost at the same place of both copies.
 fn is_lost_in_both(start: &[Option<Letter>], end: &[Option<Letter>]) -> bool
     ensures { IsTrue result ↔ IsLostInBoth start.now end.now }
 {

@@ -1,11 +1,11 @@
-//! `WrongSign`: the first sign of a body that is neither a letter nor a lost one.
+//! `WrongSign`: the first sign of a body that is neither a letter nor a lost letter.
 ghost use Rattle.std.specs.Prelude.{◌≡◌, ◌+◌, ◌<◌, ◌≤◌, ◌^◌, ◌==◌, if◌then◌else◌, is_some, length, take};
 ghost use Rattle.kd_lost.specs.Lost.{received_letter, received_letters};
 ghost use Rattle.kd_lost.specs.WrongSign.{IsFirstWrongSign};
 
 use crate::received::{is_body_byte, is_received, letter_count};
 
-/// A sign in the body of a part that is neither a letter nor a lost one, nor a blank or a line end.
+/// A sign in the body of a part that isn't a letter, a lost letter, a blank, or part of a line end.
 #[derive(Clone, Copy, Debug, PartialEq, Eq)]
 pub struct WrongSign {
     /// The line of the part on which the sign stands, counted from 1. On line 1 stands the heading.
@@ -41,7 +41,7 @@ pub(crate) fn first_wrong_sign(body: &[u8]) -> Option<WrongSign>
     None
 }
 
-/// The place that a letter at `index` has among the letters of `body`.
+/// The place, counted from 1, of a letter at `index` among the letters of `body`.
 #[tactic(auto, using(crate::proofs::Bytes::letters_counted))]
 fn place_at(body: &[u8], index: usize) -> usize
     requires { index ≤ length body.now }
@@ -51,7 +51,7 @@ fn place_at(body: &[u8], index: usize) -> usize
     letter_count(before) + 1
 }
 
-/// The line after `byte`, which stands on line `line`.
+/// The line of the byte after `byte`, which stands on line `line`.
 fn line_after(line: usize, byte: u8) -> usize
     requires { line < 2 ^ 63 + 2 }
     ensures { result ≡ (if byte == 10 then line + 1 else line) }
@@ -59,7 +59,7 @@ fn line_after(line: usize, byte: u8) -> usize
     if byte == b'\n' { line + 1 } else { line }
 }
 
-/// The number of the letter after `byte`, before which letter `letter` would stand.
+/// The number, on its line, of the next letter after `byte`. A letter at `byte` would have the number `letter`.
 fn letter_after(letter: usize, byte: u8) -> usize
     requires { letter < 2 ^ 63 + 2 }
     ensures { result ≡ (if byte == 10 then 1

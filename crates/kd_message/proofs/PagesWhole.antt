@@ -2,7 +2,7 @@
 use Rattle.std.proofs.Common.{◌≡◌, ◌≢◌, ◌∙◌, ◌⊎◌, inl, inr, ℕ, zero, suc, ◌+◌, ◌-◌, ◌<◌, ◌≤◌, ◌&&◌, is_none, nat_le, slice_get}
 use Rattle.std.proofs.Common.{Bool, true, false, List, [], ◌∷◌, ◌++◌, All, IsTrue, arith, refl, sym, ap, subst, map}
 use Rattle.std.proofs.Common.{Option, Some, None, Result, Ok, Err, if◌then◌else◌, MatchOption, flat_map, append_assoc, append-nil}
-use Rattle.std.proofs.lemmas.Bool.{Decides.nat_tests, cases_Bool, false≢true}
+use Rattle.std.proofs.lemmas.Bool.{Decides.nat_tests, and_parts, cases_Bool, false≢true}
 use Rattle.std.proofs.lemmas.List.Elements.{All-contains_itself, All-head, All-tail}
 use Rattle.std.proofs.lemmas.Option.{slice_get_within}
 use Rattle.std.specs.List.{Contains, range_with_len}
@@ -25,8 +25,8 @@ use Rattle.kd_message.specs.declared.receiving.Section.TheVariants as sections
 use Rattle.kd_message.specs.Laws.{HasLettersOf, IsOn, NothingReadIsHidden, RepetitionsHaveTheLetters, WholeMessagesAreOnThePage}
 use Rattle.kd_message.specs.Laws.{WholeMessagesHaveOneTotal, clear_text, letters_of_part}
 use Rattle.kd_lost.specs.OneMessage.{agrees_with_each, are_of_one_message, headings_agree, numbers_agree, parts_agree}
-use Rattle.kd_lost.proofs.OneMessage.{agree_with_it, both_true, contains_none, first_or_later}
-use Rattle.kd_lost.specs.OneMessage.{bodies_agree, ends_within, keys_agree, letters_agree, may_repeat, same_keys, texts_agree}
+use Rattle.kd_lost.proofs.OneMessage.{agree_with_it, contains_none, first_or_later, same_number_agree}
+use Rattle.kd_lost.specs.OneMessage.{bodies_agree, ends_within, heading_repeats, letters_agree, may_repeat, same_keys, texts_agree}
 use Rattle.kd_lost.specs.Repetitions.{are_kept, is_kept, is_same_part}
 use Rattle.kd_message.specs.ReceivePage.{as_they_came, by_number, counted_or_damage, name_at, number_in, number_or, part_at}
 use Rattle.kd_message.specs.ReceivePage.{part_in, section_text, sheet_to_receive, shown_in, text_or_damage}
@@ -205,32 +205,29 @@ pub total_is : (parts : List DamagedPart) (part : DamagedPart) (numbers : PartNu
     → Contains parts part → part.numbers ≡ Some numbers → total_of parts ≡ numbers.parts
 total_is [] part numbers agree there is = absurd (contains_none part there)
 total_is (one ∷ parts) part numbers agree there is =
-    let both = both_true (agrees_with_each one parts) (are_of_one_message parts) agree in
+    let both = and_parts (agrees_with_each one parts) (are_of_one_message parts) agree in
     total_is_cases one parts part numbers both.0 (first_or_later one parts part there) is
     (λ later. total_is parts part numbers both.1 later is)
 
 pub one_total : WholeMessagesHaveOneTotal
 one_total parts one other numbers others whole there also is again =
-    let agree = (both_true (are_of_one_message parts) (are_covered parts parts) whole.one_message).0 in
+    let agree = (and_parts (are_of_one_message parts) (are_covered parts parts) whole.one_message).0 in
     sym (total_is parts one numbers agree there is) ∙ total_is parts other others agree also again
-
-same_number_agree : (one other : PartNumbers) (bodies letters keys ends : Bool) → one.part ≡ other.part
-    → numbers_agree one other (bodies && ((letters && keys) && ends)) ≡ true → letters ≡ true
-same_number_agree one other bodies letters keys ends same is = grind (arith, nat_tests, cases_Bool, same, is)
 
 pub repetition_letters : RepetitionsHaveTheLetters
 repetition_letters one other others numbers again shown later whole there is its same text more =
     let all = one ∷ others in
-    let agree = both_true (are_of_one_message all) (are_covered all all) whole.one_message in
-    let both = both_true (agrees_with_each one others) (are_of_one_message others) agree.0 in
+    let agree = and_parts (are_of_one_message all) (are_covered all all) whole.one_message in
+    let both = and_parts (agrees_with_each one others) (are_of_one_message others) agree.0 in
     let letters = letters_agree shown.received.items later.received.items in
     let keys = same_keys shown.keys later.keys in
     let bodies = bodies_agree one.body.items other.body.items in
-    let ends = ends_within one other && (ends_within other one && keys_agree one other) in
+    let ends = ends_within one other && (ends_within other one && heading_repeats one other) in
     let told : headings_agree (Some numbers) (Some again) (bodies && (texts_agree (Ok shown) (Ok later) && ends)) ≡ true =
     (λ i. headings_agree (sym is i) (sym its i) (bodies && (texts_agree (sym text i) (sym more i) && ends)))
     ∙ agree_with_it one other others both.0 there in
-    same_number_agree numbers again bodies letters keys ends same told
+    let repeats = same_number_agree numbers again (bodies && ((letters && keys) && ends)) same told in
+    (and_parts letters keys (and_parts (letters && keys) ends (and_parts bodies _ repeats).1).0).0
 
 -- -------- the part that is shown has all letters
 
@@ -253,13 +250,13 @@ within_places [] other within place letter is = absurd (omega (arith, slice_get_
 within_places (x ∷ one) [] within zero letter is =
     absurd (none_within x letter (letters_within one []) (head_is x one letter is) within)
 within_places (x ∷ one) [] within (suc place) letter is =
-    within_places one [] (both_true (is_none x) (letters_within one []) within).1 place letter is
+    within_places one [] (and_parts (is_none x) (letters_within one []) within).1 place letter is
 within_places (x ∷ one) (y ∷ other) within zero letter is =
-    let both = both_true (letter_within x y) (letters_within one other) within in
+    let both = and_parts (letter_within x y) (letters_within one other) within in
     let head = head_is x one letter is in
     ap (λ o. Some o) (same_within y letter (ap (λ o. letter_within o y) (sym head) ∙ both.0))
 within_places (x ∷ one) (y ∷ other) within (suc place) letter is =
-    within_places one other (both_true (letter_within x y) (letters_within one other) within).1 place letter is
+    within_places one other (and_parts (letter_within x y) (letters_within one other) within).1 place letter is
 
 -- a text is found that has all letters of `shown`, and no more lost ones
 record IsWithin (found : Option DamagedText) (shown : DamagedText) : Type 0 where
@@ -272,7 +269,7 @@ within_found : (shown : DamagedText) (found : Option DamagedText) → text_withi
     → IsWithin found shown
 within_found shown None off = absurd (false≢true off)
 within_found shown (Some text) within =
-    let both = both_true (letters_within shown.letters.items text.letters.items) (nat_le (lost_in text) (lost_in shown))
+    let both = and_parts (letters_within shown.letters.items text.letters.items) (nat_le (lost_in text) (lost_in shown))
     within in
     record {
       text = text;
@@ -315,7 +312,7 @@ kept_cases : (one again part : DamagedPart) (alone parts : List DamagedPart) (sh
     → is_kept one again ≡ true → (one ≡ part) ⊎ Contains alone part → shown_text part ≡ Some shown
     → (Contains alone part → IsKeptIn parts part shown) → IsKeptIn (again ∷ parts) part shown
 kept_cases one again part alone parts shown kept (inl is) text rest =
-    let both = both_true (is_same_part one.numbers again.numbers) (text_within (shown_text one) (shown_text again)) kept in
+    let both = and_parts (is_same_part one.numbers again.numbers) (text_within (shown_text one) (shown_text again)) kept in
     let its = ap shown_text is ∙ text in
     record {
       kept = again;
@@ -331,7 +328,7 @@ kept_there : (alone parts : List DamagedPart) (part : DamagedPart) (shown : Dama
 kept_there [] parts part shown kept there is = absurd (contains_none part there)
 kept_there (one ∷ alone) [] part shown kept there is = absurd (false≢true kept)
 kept_there (one ∷ alone) (again ∷ parts) part shown kept there is =
-    let both = both_true (is_kept one again) (are_kept alone parts) kept in
+    let both = and_parts (is_kept one again) (are_kept alone parts) kept in
     kept_cases one again part alone parts shown both.0 (first_or_later one alone part there) is
     (λ later. kept_there alone parts part shown both.1 later is)
 
@@ -360,7 +357,7 @@ covered_there : (all parts : List DamagedPart) (part : DamagedPart) → are_cove
     → is_covered all part ≡ true
 covered_there all [] part covered there = absurd (contains_none part there)
 covered_there all (one ∷ parts) part covered there =
-    let both = both_true (is_covered all one) (are_covered all parts) covered in
+    let both = and_parts (is_covered all one) (are_covered all parts) covered in
     covered_cases all one part parts both.0 (first_or_later one parts part there)
     (λ later. covered_there all parts part both.1 later)
 
@@ -495,7 +492,7 @@ hidden_by_none : (l : Language) (s : Day) (parts : List DamagedPart) (part kept 
     → Contains parts kept → IsWithin (shown_text kept) shown → kept.numbers ≡ Some numbers → 1 ≤ numbers.part
     → numbers.part ≤ numbers.parts → IsNotHidden l s parts part shown
 hidden_by_none l s parts part kept shown numbers true one its there within number first last =
-    let both = both_true (are_of_one_message parts) (are_covered parts parts) one in
+    let both = and_parts (are_of_one_message parts) (are_covered parts parts) one in
     let told = best_told parts kept numbers within.text both.1 there number within.is in
     let all = within_further (shown_text told.best) within.text shown within.has within.no_more told.within in
     let total = total_is parts kept numbers both.0 there number in

@@ -2,7 +2,7 @@
 use Rattle.std.proofs.Common.{◌≡◌, ◌≢◌, ◌∙◌, ◌⊎◌, inl, inr, ℕ, zero, suc, ◌+◌, ◌-◌, ◌≤◌, true, List, []}
 use Rattle.std.proofs.Common.{◌∷◌, ◌++◌, All, Any, IsTrue, IsFalse, arith, refl, sym, ap, subst, map, drop, take, length, flat_map, get_or}
 use Rattle.std.proofs.Common.{Option, Some, None, Ok, option_map}
-use Rattle.std.proofs.lemmas.Bool.{Decides.nat_tests, cases_eq, false≢true}
+use Rattle.std.proofs.lemmas.Bool.{Decides.nat_tests, and_parts, cases_eq, false≢true}
 use Rattle.std.proofs.lemmas.List.{drop-drop, drop-take, take-append-drop, take-take}
 use Rattle.std.proofs.lemmas.List.Elements.{All-contains_itself, All-cons, All-head, All-nil, All-tail, All-weaker}
 use Rattle.std.specs.List.{Contains, cons_option, range_with_len, slice_range}
@@ -36,6 +36,7 @@ use Rattle.kd_lost.specs.DamagedText.{ListLost, ListRight, ListWrong, text_part}
 use Rattle.kd_lost.specs.Lost.{AnyLetter, AsReceived, Completes, IsCompletion, covered, is_lost, meant_byte, received_letter}
 use Rattle.kd_lost.specs.Lost.{received_letters}
 use Rattle.kd_lost.specs.WholePart.{IsLettersText, IsPartText, IsPinText}
+use Rattle.kd_lost.proofs.FirmBytes.{IsFirm, firm_filled, received_all}
 use Rattle.kd_lost.proofs.KnownLetters.{covered_none, drop_known, known_completes, known_length, none_lost_in_both}
 use Rattle.kd_lost.proofs.KnownLetters.{not_any_lost, same_known, take_known}
 use Rattle.kd_lost.proofs.Parts.{lines_there}
@@ -45,15 +46,11 @@ use Rattle.kd_lost.specs.OneMessage.{are_of_one_message}
 use Rattle.kd_lost.specs.ShownParts.{IsNumberWhole, IsWhole, MayBeOfTheDay, are_covered, is_number, shown_under, total_of}
 use Rattle.kd_lost.specs.Texts.{text_or}
 use Rattle.kd_lost.proofs.CompletedParts.{read_as_it_stands}
-use Rattle.kd_lost.proofs.OneMessage.{both_true}
 use Rattle.kd_message.proofs.PagesWhole.{at_range, shown_known, shown_numbered, total_is, whole_under}
 use Rattle.kd_message.proofs.ReceivePages.{shown_holds}
 use Rattle.kd_lost.proofs.ShownParts.{range_first}
 
 -- -------- bytes of which none is lost
-
-abbrev IsClearByte : ℕ → Type 0
-IsClearByte byte = IsFalse (is_lost byte) × (meant_byte byte ≡ byte)
 
 clear_not_lost : (byte : ℕ) → IsFalse (is_lost byte) → IsTrue (is_lost byte) → ⊥
 clear_not_lost byte kept lost = absurd (false≢true (sym kept ∙ lost))
@@ -63,51 +60,27 @@ clear_whole [] [] clear is = refl
 clear_whole [] (x ∷ whole) clear is = absurd is
 clear_whole (byte ∷ part) [] clear is = absurd is
 clear_whole (byte ∷ part) (x ∷ whole) clear (AnyLetter lost capital, rest) =
-    absurd (clear_not_lost byte (All-head IsClearByte byte part clear).0 lost)
+    absurd (clear_not_lost byte (All-head IsFirm byte part clear).0 lost)
 clear_whole (byte ∷ part) (x ∷ whole) clear (AsReceived kept is, rest) =
-    let here : x ≡ byte = is ∙ (All-head IsClearByte byte part clear).1 in
-    let more = clear_whole part whole (All-tail IsClearByte byte part clear) rest in
+    let here : x ≡ byte = is ∙ (All-head IsFirm byte part clear).1 in
+    let more = clear_whole part whole (All-tail IsFirm byte part clear) rest in
     λ i. here i ∷ more i
 
 clear_front : (line rest : List ℕ) → IsClear (line ++ rest) → IsClear line
-clear_front [] rest clear = All-nil IsClearByte
+clear_front [] rest clear = All-nil IsFirm
 clear_front (byte ∷ line) rest clear =
-    All-cons IsClearByte byte line (All-head IsClearByte byte (line ++ rest) clear)
-    (clear_front line rest (All-tail IsClearByte byte (line ++ rest) clear))
+    All-cons IsFirm byte line (All-head IsFirm byte (line ++ rest) clear)
+    (clear_front line rest (All-tail IsFirm byte (line ++ rest) clear))
 
 clear_back : (line rest : List ℕ) → IsClear (line ++ rest) → IsClear rest
 clear_back [] rest clear = clear
-clear_back (byte ∷ line) rest clear = clear_back line rest (All-tail IsClearByte byte (line ++ rest) clear)
-
-clear_filled : (line : List ℕ) → IsClear line → map filled_byte line ≡ line
-clear_filled [] clear = refl
-clear_filled (byte ∷ line) clear =
-    let here = All-head IsClearByte byte line clear in
-    let one : filled_byte byte ≡ byte = grind (arith, here) in
-    let more = clear_filled line (All-tail IsClearByte byte line clear) in
-    λ i. one i ∷ more i
-
-clear_letter : (byte : ℕ) → IsClearByte byte → received_letter byte ≡ option_map Some (letter_of_byte None byte)
-clear_letter byte clear = grind (arith, clear)
-
-cons_some : (given : Option ℕ) (rest : List ℕ)
-    → cons_option (option_map Some given) (map Some rest) ≡ map Some (cons_option given rest)
-cons_some None rest = refl
-cons_some (Some letter) rest = refl
-
-clear_known : (body : List ℕ) → IsClear body → received_letters body ≡ map Some (letters_from None body)
-clear_known [] clear = refl
-clear_known (byte ∷ body) clear =
-    ap (λ o. cons_option o (received_letters body)) (clear_letter byte (All-head IsClearByte byte body clear))
-    ∙ ap (cons_option (option_map Some (letter_of_byte None byte)))
-    (clear_known body (All-tail IsClearByte byte body clear))
-    ∙ cons_some (letter_of_byte None byte) (letters_from None body)
+clear_back (byte ∷ line) rest clear = clear_back line rest (All-tail IsFirm byte (line ++ rest) clear)
 
 -- two headings in one line are equal
 same_heading : (s : Day) (line body : List ℕ) (h other : Heading) → IsWithout 10 line → IsClear line → IsHeading s h
     → IsLineText line (line_of (heading_words h)) → IsDamagedHeading s line other → other ≡ h
 same_heading s line body h other without clear is text headed =
-    let filled = clear_filled line clear in
+    let filled = firm_filled line clear in
     (one_heading s (line ++ 10 ∷ body) other h body body
     (ended_heading s line body other without headed.is_heading
     (subst (λ l. IsLineText l (line_of (heading_words other))) filled headed.text))
@@ -217,7 +190,7 @@ lines_read s p part line body text h numbers shown first is line_text allowed co
     let letters = letters_from None body in
     let clear_lines = subst IsClear first.joined clear in
     let clear_line = clear_front line (10 ∷ body) clear_lines in
-    let clear_body = All-tail IsClearByte 10 body (clear_back line (10 ∷ body) clear_lines) in
+    let clear_body = All-tail IsFirm 10 body (clear_back line (10 ∷ body) clear_lines) in
     let there = lines_there line body first.without in
     let first_is : first_line part ≡ line = ap first_line first.joined ∙ there.0 in
     let rest_is : body_of part ≡ body = ap body_of first.joined ∙ there.1 in
@@ -234,7 +207,7 @@ lines_read s p part line body text h numbers shown first is line_text allowed co
     let four = ThenNext-Ok three.next in
     let shown_is = shown_there s one.found.indicator (received_letters (body_of part)) shown four.next in
     let known : received_letters (body_of part) ≡ map Some letters =
-    ap received_letters rest_is ∙ clear_known body clear_body in
+    ap received_letters rest_is ∙ received_all body clear_body in
     let shown_there : IsTextShown s h.indicator (map Some letters) shown =
     subst (λ (g : Heading). IsTextShown s g.indicator (map Some letters) shown) found_is
     (subst (λ r. IsTextShown s one.found.indicator r shown) known shown_is) in
@@ -382,7 +355,7 @@ module _ (s : Day) (bytes : List (List ℕ)) (reads : List DamagedPart) (whole :
       let (part, there, (of, stands), clear, day) = shown_holds (IsHeld s bytes) number reads one all found in
       let (numbers, given, numbered) = its_numbers number one.numbers (shown_numbered number reads one found) in
       let inside = shown_holds (Contains reads) number reads one (All-contains_itself reads) found in
-      let agree = (both_true (are_of_one_message reads) (are_covered reads reads) whole.one_message).0 in
+      let agree = (and_parts (are_of_one_message reads) (are_covered reads reads) whole.one_message).0 in
       let counted : total_of reads ≡ numbers.parts = total_is reads one numbers agree inside given in
       let right : shown.group ≢ Wrong =
       subst (λ t. IfSome (text_or t one.by_count) (λ (text : DamagedText). text.group ≢ Wrong)) is day in
@@ -448,7 +421,7 @@ read_again s bytes reads (suc count) is whole all = all_read s bytes reads whole
 kept_of_clear : (parts : List (List ℕ)) → All IsClear parts → All (All (λ b. IsFalse (is_lost b))) parts
 kept_of_clear parts clear =
     All-weaker IsClear (All (λ b. IsFalse (is_lost b)))
-    (λ part. All-weaker IsClearByte (λ b. IsFalse (is_lost b)) (λ b firm. firm.0) part) parts clear
+    (λ part. All-weaker IsFirm (λ b. IsFalse (is_lost b)) (λ b firm. firm.0) part) parts clear
 
 pub whole_read : WholeMessagesAreRead
 whole_read s form reads completed clear stand whole =

@@ -22,6 +22,7 @@ use Rattle.kd_lost.proofs.CompletedParts.{read_somehow}
 use Rattle.kd_lost.proofs.PartShown.{shown_there}
 use Rattle.kd_pictures.specs.declared.language.Language.{Language}
 use Rattle.kd_message.specs.ReceivedWork.{AreShowable}
+use Rattle.kd_lost.specs.Texts.{text_or}
 unfoldable use Rattle.kd_message.specs.ReceivePage.{receive_text}
 use Rattle.kd_message.specs.ReceivePage.{AreWorkable, HasShowableKeys}
 use Rattle.kd_lost.specs.ShownParts.{better, is_number, is_worse, shown_under}
@@ -90,11 +91,15 @@ by_count_showable false s part came given numbers found is =
 by_count_showable true s part came given numbers found (counted, is, same) =
     count_showable s (counted_part came part) counted found is is.answer refl
 
+shown_showable : (s : Day) (text : Result DamagedText PartDamage) (counted : Option DamagedText)
+    → IfOk text (λ shown. AreShowable s shown.keys) → IfSome counted (λ shown. AreShowable s shown.keys)
+    → IfSome (text_or text counted) (λ shown. AreShowable s shown.keys)
+shown_showable s (Ok shown) counted one other = one
+shown_showable s (Err damage) counted one other = other
+
 part_showable : (s : Day) (part : List ℕ) (read : DamagedPart) → IsReadAs s part read → HasShowableKeys s read
-part_showable s part read is = record {
-  of_text = text_showable s part read.text is.text;
-  of_count = by_count_showable _ s part read.came is.given read.numbers read.by_count is.by_count;
-}
+part_showable s part read is = shown_showable s read.text read.by_count (text_showable s part read.text is.text)
+    (by_count_showable _ s part read.came is.given read.numbers read.by_count is.by_count)
 
 are_workable : (s : Day) (parts : List PlacedPart) (reads : List DamagedPart) → AreReadOf s parts reads
     → AreWorkable s reads

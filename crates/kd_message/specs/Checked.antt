@@ -1,4 +1,4 @@
--- The templates of a message's pages but for the parts' sheets, and how many values each takes.
+-- The templates of a message's pages, except those of the sheets, and how many values each takes.
 use Rattle.kd_pictures.specs.Checked.{Takes}
 use Rattle.kd_message.specs.declared.texts.TheConstants as texts
 

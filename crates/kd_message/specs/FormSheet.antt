@@ -1,4 +1,4 @@
--- The sheet with the form for the radio. It has neither the keys nor the text.
+-- The sheet with the form for the radio, which has neither the message keys nor the text.
 use Rattle.std.specs.Prelude.{decimal, ℕ, List, [], ◌∷◌, ◌++◌, flat_map, Option, Some, None}
 use Rattle.kd_tables.specs.declared.model.Model.{Model}
 use Rattle.kd_tables.specs.Text.{letters_text}
@@ -16,18 +16,18 @@ use Rattle.kd_part_sheet.specs.Rows.{pieces}
 abbrev pub form_head : Language → Day → List ℕ
 form_head l s = filled (text_in l texts.FORM) (model_name (day_model s) ∷ decimal (day_number s) ∷ [])
 
--- the head of a part: its number, the number of parts, and the number of letters
+-- the head of a part: its number, the number of parts, the model, the day, and the number of letters
 abbrev pub part_head : Language → Model → ℕ → ℕ → ℕ → ℕ → List ℕ
 part_head l model day part parts letters = filled (text_in l texts.FORM_PART) (
     decimal part ∷ decimal parts ∷ model_name model ∷ decimal day ∷ decimal part ∷ decimal parts ∷ decimal letters ∷ [])
 
--- the ground and the enciphered key
+-- the ground setting and the enciphered message key
 unfoldable pub keys_text : Language → Indicator → List ℕ
 keys_text l indicator =
     text_in l texts.FORM_GROUND ++ letters_text indicator.ground_setting ++ text_in l texts.FORM_KEY
     ++ letters_text indicator.enciphered_key ++ texts.FORM_KEY_END.now
 
--- the ground and the enciphered key of a rotor machine's part
+-- the ground setting and the enciphered message key of a rotor machine's part; nothing on a Converter
 abbrev pub indicator_text : Language → Option Indicator → List ℕ
 indicator_text l (Some indicator) = keys_text l indicator
 indicator_text l None = []
@@ -35,12 +35,12 @@ indicator_text l None = []
 abbrev pub form_group : List ℕ → List ℕ
 form_group letters = texts.FORM_GROUP.now ++ letters_text letters ++ texts.FORM_GROUP_END.now
 
--- what the groups of a part are
+-- the note below a part that says which of its groups are fillers or indicators
 abbrev pub part_note : Language → Option Indicator → List ℕ
 part_note l (Some indicator) = text_in l texts.FORM_ROTOR_NOTE
 part_note l None = text_in l texts.FORM_PIN_NOTE
 
--- a part of the form: what its heading says, and its letters in groups of five
+-- a part of the form: the values in its heading, its letters in groups of five, and a note
 unfoldable pub form_part : Language → Model → ℕ → Part → List ℕ
 form_part l model day part =
     part_head l model day part.heading.part part.heading.parts part.heading.letters

@@ -1,4 +1,4 @@
--- Laws of the rows of a page, and of what the page for receiving says of a whole message.
+-- What the laws of this crate state of the rows of a page, and of the page for receiving a whole message.
 use Rattle.std.specs.Prelude.{◌≡◌, ℕ, ◌≤◌, List, [], ◌∷◌, ◌++◌, All, Contains, IsFalse, IsTrue, filter, flat_map, length, map, slice_get, Option, Some, None, Ok}
 use Rattle.std.specs.List.{range_with_len}
 use Rattle.kd_state.specs.SheetDay.{Day, day_model}
@@ -26,27 +26,27 @@ use Rattle.kd_lost.specs.ShownParts.{IsWhole, is_number, shown_under, times_of, 
 use Rattle.kd_lost.specs.Texts.{lost_in, shown_text}
 use Rattle.kd_message.specs.TextSheet.{came_text, read_text, text_begin, text_part_head}
 
--- The lamps of a row are the machine's cipher of the letters that are pressed in this row, from the letters that the
--- machine shows after the rows before it.
+-- The lamps of a row are the cipher of the letters pressed in this row, from the windows that the rows before it lead
+-- to.
 abbrev pub RowsAreEnciphered : Type 0
 RowsAreEnciphered =
     (s : Day) (start before row : List ℕ)
     → cipher_from s start (before ++ row)
     ≡ cipher_from s start before ++ cipher_from s (letters_after s start (length before)) row
 
--- the letter of a sign; none, if it is lost
+-- the letter of a sign; `None` if it is lost, or there is none
 abbrev pub letter_of : Sign → Option ℕ
 letter_of signs.Nothing = None
 letter_of signs.Lost = None
 letter_of (signs.Letter letter) = Some letter
 
--- the letters of a body that are pressed
+-- the cells of a body whose letters are pressed
 abbrev pub pressed_of : List Cell → List Cell
 pressed_of cells = filter (λ cell. cell.is_pressed) cells
 
--- The rows of a part that is read can be worked, whatever key is pressed for each lost letter. If `keys` are the keys
--- that are pressed, then below the line stands what the machine makes of them, from the windows that the sheet shows:
--- `?` at each lost letter, and nothing for a space.
+-- The rows of a part that is read can be worked, whatever keys are pressed for the lost letters. From the windows that
+-- the sheet shows, the machine turns the pressed keys `keys` into the letters below the line: `?` at each lost letter,
+-- and nothing for a space.
 abbrev pub RowsAreDeciphered : Type 0
 RowsAreDeciphered =
     (s : Day) (part : List ℕ) (shown : DamagedText) (keys : List ℕ) → IsDamagedTextAnswer s part (Ok shown)
@@ -58,7 +58,7 @@ RowsAreDeciphered =
 
 -- ---- Whole messages.
 
--- the letters of a part's text; none, if there is no part or it isn't read
+-- the letters of a part's text; none if there is no part, or it isn't read
 abbrev pub letters_of_part : Option DamagedPart → List (Option ℕ)
 letters_of_part None = []
 letters_of_part (Some part) = letters_in part.text
@@ -68,25 +68,26 @@ abbrev pub message_letters : List DamagedPart → List (Option ℕ)
 message_letters parts =
     flat_map (λ number. letters_of_part (shown_under parts number)) (range_with_len 1 (total_of parts))
 
--- A form that `desk receive` reads is one whole message, and its texts are together the text that `desk receive` gives.
+-- A form that `desk receive` reads is one whole message, and the shown texts join to the text that `desk receive`
+-- gives.
 abbrev pub FormsReadAreWhole : Type 0
 FormsReadAreWhole =
     (s : Day) (form text : List ℕ) (parts : List DamagedPart) → IsTextOf s form text → AreFormParts s form parts
     → IsWhole parts × (text ≡ map (shown_byte (space_letter s)) (message_letters parts) ++ 10 ∷ [])
 
--- `piece` stands somewhere in `page`.
+-- The page `page` has the text `piece` somewhere.
 abbrev pub IsOn : List ℕ → List ℕ → Type 0
 IsOn page piece = (before : List ℕ) × (after : List ℕ) × (page ≡ before ++ piece ++ after)
 
--- `text` has each letter of the other text that isn't lost, at the same place.
+-- `text` has each letter of `other` that isn't lost, at the same place.
 abbrev pub HasLettersOf : DamagedText → DamagedText → Type 0
 HasLettersOf text other =
     (place letter : ℕ) → slice_get other.letters.items place ≡ Some (Some letter)
     → slice_get text.letters.items place ≡ Some (Some letter)
 
--- If a part of a form has a text, be it by count, the page has, under the part's number, a text of a part of the form with
--- this number: it has each letter of the part's own text, and no more lost letters. `alone` are the parts as each is read
--- by itself.
+-- For each part with a text, even if only by count, the page shows a text under the part's number. This is a text of a
+-- part with this number. It has each letter of the first part's text, and no more lost letters. `alone` are the parts,
+-- each read by itself.
 abbrev pub NothingReadIsHidden : Type 0
 NothingReadIsHidden =
     (l : Language) (s : Day) (form : List ℕ) (parts : List DamagedPart) (read : AreFormParts s form parts)
@@ -96,12 +97,12 @@ NothingReadIsHidden =
     × HasLettersOf text shown × (lost_in text ≤ lost_in shown)
     × IsOn (receive_text l s parts) (read_text l (sheet_to_receive (day_model s)) s name text)
 
--- the text of a part in clear, under its head
+-- the complete text of a part, below the part's head
 abbrev pub clear_text : Language → Day → PartName → ℕ → List ℕ → List ℕ
 clear_text l s name times letters =
     text_part_head l name ++ came_text l times ++ (text_begin name.model ++ plaintext_bytes s letters ++ TEXT_END.now)
 
--- The page of a whole message has the text of each part, from the first to the last, without a lost letter.
+-- The page of a whole message has the text of each part, with no lost letter.
 abbrev pub WholeMessagesAreOnThePage : Type 0
 WholeMessagesAreOnThePage =
     (l : Language) (s : Day) (parts : List DamagedPart) (number : ℕ) → IsWhole parts → 1 ≤ number
@@ -110,14 +111,15 @@ WholeMessagesAreOnThePage =
     × IsOn (receive_text l s parts)
     (clear_text l s (part_name s number (total_of parts)) (times_of parts number) letters)
 
--- The headings of a whole message give one number of parts.
+-- All headings of a whole message give the same number of parts.
 abbrev pub WholeMessagesHaveOneTotal : Type 0
 WholeMessagesHaveOneTotal =
     (parts : List DamagedPart) (one other : DamagedPart) (numbers others : PartNumbers) → IsWhole parts
     → Contains parts one → Contains parts other → one.numbers ≡ Some numbers → other.numbers ≡ Some others
     → numbers.parts ≡ others.parts
 
--- A repetition of the first part that came of a whole message has as many letters as this part, and the same, but for lost ones.
+-- In a whole message, each part with the number of the first one has equally many letters, and the same, except for
+-- lost ones.
 abbrev pub RepetitionsHaveTheLetters : Type 0
 RepetitionsHaveTheLetters =
     (one other : DamagedPart) (others : List DamagedPart) (numbers again : PartNumbers) (shown later : DamagedText)
@@ -127,14 +129,14 @@ RepetitionsHaveTheLetters =
 
 -- ---- The converse.
 
--- No byte of the part stands for a lost letter, and each is meant as it stands: no letter is small, and no byte is a tab.
+-- No byte of the part stands for a lost letter, and each means itself: none is a small letter or a tab.
 abbrev pub IsClear : List ℕ → Type 0
 IsClear part = All (λ byte. IsFalse (is_lost byte) × (meant_byte byte ≡ byte)) part
 
--- If a form is one whole message, and nothing in it was lost, small, a tab or respaced, then parts of the form, one for each
--- number, stand in an order in which `desk receive` reads them, one after another, to the letters that the page shows. So
--- the text is the one that `desk receive` gives of the form, but for the order in which parts came, and for parts that came
--- more than once.
+-- Let a form be one whole message, with no lost letter, small letter, tab, or heading with needless blanks. Then `desk
+-- receive` reads some parts of the form, one for each number, in the order of their numbers, and gets the letters that
+-- the page shows. So the shown text is the one that `desk receive` gives, once the parts are sorted and repeated ones
+-- left out.
 abbrev pub WholeMessagesAreRead : Type 0
 WholeMessagesAreRead =
     (s : Day) (form : List ℕ) (parts : List DamagedPart) → AreFormParts s form parts

@@ -1,5 +1,5 @@
--- What the page has for a part whose heading is damaged, and for an order in place of a form. Such a part has no number, and
--- isn't read.
+-- How the page shows a part whose heading is damaged, or an order in place of a form. These parts have no number, and
+-- aren't read.
 use Rattle.std.specs.Prelude.{decimal, ℕ, ◌==◌, if◌then◌else◌, List, [], ◌∷◌, ◌++◌}
 use Rattle.kd_tables.specs.declared.model.Model.{Model}
 use Rattle.kd_tables.specs.declared.model.Model.TheVariants as models
@@ -19,40 +19,40 @@ abbrev pub lone_words : Language → ℕ → List ℕ
 lone_words l after =
     if after == 0 then text_in l texts.LONE_FIRST else filled (text_in l texts.LONE_AFTER) (decimal after ∷ [])
 
--- the part in the list of the sheets
+-- the line for the part in the list of the sheets
 unfoldable pub listed_lone : Language → ℕ → List ℕ
 listed_lone l after = texts.LISTED_LONE.now ++ lone_words l after ++ text_in l texts.LISTED_LONE_END
 
--- what to ask for: the heading or, if no letter of the body came, the whole part
+-- the words for what to ask for: the heading or, if no letter of the body came, the whole part
 abbrev pub lone_asked : Language → ℕ → List ℕ
 lone_asked l came = if came == 0 then text_in l texts.ALL_OF_IT else text_in l texts.ITS_HEADING
 
--- the box for the heading; none for an order
+-- the checkbox to ask for the heading, or for the whole part
 unfoldable pub lone_box : Language → ℕ → List ℕ
 lone_box l came = text_in l texts.LONE_ASK ++ lone_asked l came ++ texts.ASK_END.now
 
 abbrev pub lone_ask : Language → DamagedPart → List ℕ
 lone_ask l part = if part.is_order then [] else lone_box l part.came
 
--- a heading of the model, as an example
+-- an example of a heading on this model
 abbrev pub heading_example : Model → List ℕ
 heading_example models.EnigmaI = texts.THREE_LETTER_HEADING.now
 heading_example models.M3 = texts.THREE_LETTER_HEADING.now
 heading_example models.M4 = texts.FOUR_LETTER_HEADING.now
 heading_example models.M209 = texts.HEADING_WITHOUT_KEYS.now
 
--- that the heading is damaged, as what it came, and what it should be like
+-- the words for a damaged heading: the line as it came, and an example of what it should be like
 unfoldable pub damaged_heading : Language → Model → DamagedPart → List ℕ
 damaged_heading l model part =
     heading_fault l part.line (text_in l texts.HEADING_DAMAGED) ++ text_in l texts.HEADING_CAME ++ part.heading.bytes
     ++ text_in l texts.HEADING_LIKE ++ heading_example model ++ text_in l texts.HEADING_LIKE_END
 
--- why the part isn't read: it is an order, or its heading is damaged
+-- the reason why the part isn't read: it is an order, or its heading is damaged
 abbrev pub lone_reason : Language → Model → DamagedPart → List ℕ
 lone_reason l model part =
     if part.is_order then text_in l texts.IS_ORDER else damaged_heading l model part
 
--- the part among the texts
+-- the part's section on the sheet with the text
 unfoldable pub lone_text : Language → Day → ℕ → DamagedPart → List ℕ
 lone_text l s after part =
     texts.LONE_HEAD.now ++ lone_words l after

@@ -1,4 +1,5 @@
--- What is told of a form on standard error: what is wrong with its parts, and what to ask for, as the page says it.
+-- The notes on standard error about a form: what is wrong with its parts, and what to ask for, in the words of the
+-- page.
 -- Test: tests/cases/curator-messages.toml
 use Rattle.std.specs.Prelude.{decimal, ℕ, false, if◌then◌else◌, List, [], ◌∷◌, ◌++◌}
 use Rattle.std.specs.Prelude.{Option, Some, None, Result, Ok, Err}
@@ -27,11 +28,11 @@ unfoldable pub note_line : Language → PartName → List ℕ → List ℕ → L
 note_line l name reason words =
     note_name l name ++ reason ++ text_in l texts.NOTE_ASK ++ words ++ texts.NOTE_END.now
 
--- that the form is another day's, or another network's
+-- the note that the form is of another day or network, if it is
 abbrev pub day_note : Language → PartName → GroupTest → List ℕ
 day_note l name group = if is_wrong_day group then note_name l name ++ text_in l texts.NOTE_OTHER_DAY else []
 
--- the groups in which letters are lost
+-- the line that asks for the groups in which letters are lost
 abbrev pub lost_line : Language → PartName → List (Option ℕ) → List ℕ
 lost_line l name letters =
     note_line l name (text_in l texts.NOTE_LOST)
@@ -40,11 +41,11 @@ lost_line l name letters =
 abbrev pub lost_note : Language → PartName → List (Option ℕ) → List ℕ
 lost_note l name letters = if has_lost letters then lost_line l name letters else []
 
--- a part that is read
+-- the notes on a part that is read
 unfoldable pub read_note : Language → PartName → DamagedText → List ℕ
 read_note l name shown = day_note l name shown.group ++ lost_note l name shown.letters.items
 
--- a part that isn't read as it is counted; `counted` is its text by count
+-- the notes on a part that isn't read with its own count; `counted` is its text by count
 abbrev pub damage_note : Language → PartName → DamagedPart → PartDamage → Option DamagedText → List ℕ
 damage_note l name part damage (Some shown) =
     note_line l name (counted_reason l part damage ++ groups_told l part.came part.short_group)
@@ -57,26 +58,26 @@ abbrev pub part_note_of : Language → PartName → DamagedPart → Result Damag
 part_note_of l name part (Ok shown) = read_note l name shown
 part_note_of l name part (Err damage) = damage_note l name part damage part.by_count
 
--- what is told of a part; nothing if nothing is wrong with it
+-- the notes on a part; empty if nothing is wrong with it
 abbrev pub part_note : Language → PartName → DamagedPart → List ℕ
 part_note l name part = part_note_of l name part part.text
 
--- a part that didn't come
+-- the note on a part that didn't come
 abbrev pub missing_note : Language → PartName → List ℕ
 missing_note l name = note_line l name (text_in l texts.DID_NOT_COME) (text_in l texts.ALL_OF_IT)
 
--- what to ask for of a part without a number; nothing for an order
+-- the words for what to ask for of a part without a number
 abbrev pub lone_asked_note : Language → ℕ → List ℕ
 lone_asked_note l came = text_in l texts.NOTE_ASK ++ lone_asked l came ++ texts.ASKED_END.now
 
 abbrev pub lone_ask_note : Language → DamagedPart → List ℕ
 lone_ask_note l part = if part.is_order then [] else lone_asked_note l part.came
 
--- a part without a number, which stands after the part with the number `after`
+-- the note on a part without a number; `after` is the number of the last numbered part before it
 unfoldable pub lone_note : Language → Model → ℕ → DamagedPart → List ℕ
 lone_note l model after part =
     lone_words l after ++ texts.COLON.now ++ lone_reason l model part ++ lone_ask_note l part ++ texts.LINE_END.now
 
--- that the parts aren't of one message, if they aren't
+-- the note that the parts aren't of one message; empty if they are
 abbrev pub several_note : Language → List DamagedPart → List ℕ
 several_note l parts = if is_one_message parts then [] else text_in l texts.NOTE_SEVERAL

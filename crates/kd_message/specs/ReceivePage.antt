@@ -34,6 +34,7 @@ use Rattle.kd_message.specs.LoneParts.{listed_lone, lone_text}
 use Rattle.kd_message.specs.Notes.{lone_note, missing_note, part_note, several_note}
 use Rattle.kd_message.specs.SendPage.{list_head, listed_sheet, part_name, title_text}
 use Rattle.kd_lost.specs.ShownParts.{IsWhole, is_any_read, is_one_message, shown_under, times_of, total_of}
+use Rattle.kd_lost.specs.Texts.{shown_text}
 use Rattle.kd_message.specs.TextSheet.{came_text, counted_text, damage_text, missing_text, order_text, passed_text, read_text}
 use Rattle.kd_message.specs.TextSheet.{text_part_head}
 use Rattle.kd_message.specs.TextSheet.{text_sheet_head, warnings_of}
@@ -43,54 +44,52 @@ sheet_to_receive model = if is_converter model then PinReceive else RotorReceive
 
 -- ---- What a section of the page has for a part: its line in the list of the sheets, its sheet, its text.
 
--- a part that isn't read, in the list of the sheets
+-- a part that isn't read, as a line in the list of the sheets
 abbrev pub listed_unread : Language → PartName → List ℕ
 listed_unread l name = filled (text_in l texts.LISTED_UNREAD) (decimal name.part ∷ decimal name.parts ∷ [])
 
--- a part in the list of the sheets; `counted` is its text by count
-abbrev pub listed_text : Language → PartName → Result DamagedText PartDamage → Option DamagedText → List ℕ
-listed_text l name (Ok shown) counted = listed_sheet l name.sheet name.part name.parts
-listed_text l name (Err damage) (Some shown) = listed_sheet l name.sheet name.part name.parts
-listed_text l name (Err damage) None = listed_unread l name
+-- a part with this text, as a line in the list of the sheets
+abbrev pub listed_text : Language → PartName → Option DamagedText → List ℕ
+listed_text l name (Some shown) = listed_sheet l name.sheet name.part name.parts
+listed_text l name None = listed_unread l name
 
--- the sheet of a text
+-- the sheet on which this text is worked
 abbrev pub sheet_of_text : Language → Day → PartName → DamagedText → List ℕ
 sheet_of_text l s name shown =
     part_sheet l (sheet_to_receive (day_model s)) s name (warnings_of shown) (received_work s shown)
 
--- the sheet on which a part is worked, if it is read, be it by count
-abbrev pub worked_text : Language → Day → PartName → Result DamagedText PartDamage → Option DamagedText → List ℕ
-worked_text l s name (Ok shown) counted = sheet_of_text l s name shown
-worked_text l s name (Err damage) (Some shown) = sheet_of_text l s name shown
-worked_text l s name (Err damage) None = []
+-- the sheet on which a part with this text is worked; none if there is no text, not even by count
+abbrev pub worked_text : Language → Day → PartName → Option DamagedText → List ℕ
+worked_text l s name (Some shown) = sheet_of_text l s name shown
+worked_text l s name None = []
 
--- the text of a part that is read by count, or why it isn't read
+-- the text of a part by count; if there is none, why the part isn't read
 abbrev pub counted_or_damage : Language → Day → PartName → DamagedPart → PartDamage → Option DamagedText → List ℕ
 counted_or_damage l s name part damage (Some shown) =
     counted_text l (sheet_to_receive (day_model s)) s name part damage shown
 counted_or_damage l s name part damage None = damage_text l name part damage
 
--- the text of a part, or why it isn't read
+-- the text of a part; if there is none, why the part isn't read
 abbrev pub text_or_damage : Language → Day → PartName → DamagedPart → Result DamagedText PartDamage → List ℕ
 text_or_damage l s name part (Ok shown) = read_text l (sheet_to_receive (day_model s)) s name shown
 text_or_damage l s name part (Err damage) = counted_or_damage l s name part damage part.by_count
 
--- what a section, or the notes, have for a part that came `times` times
+-- the words of a section on a part that came `times` times
 abbrev pub part_in : Section → Language → Day → PartName → ℕ → DamagedPart → List ℕ
-part_in sections.Listed l s name times part = listed_text l name part.text part.by_count
-part_in sections.Worked l s name times part = worked_text l s name part.text part.by_count
+part_in sections.Listed l s name times part = listed_text l name (shown_text part)
+part_in sections.Worked l s name times part = worked_text l s name (shown_text part)
 part_in sections.Noted l s name times part = part_note l name part
 part_in sections.Texts l s name times part =
     text_part_head l name ++ came_text l times ++ text_or_damage l s name part part.text ++ SECTION_END.now
 
--- what a section has for a part that didn't come
+-- the words of a section on a part that didn't come
 abbrev pub missing_in : Section → Language → PartName → List ℕ
 missing_in sections.Listed l name = listed_unread l name
 missing_in sections.Worked l name = []
 missing_in sections.Noted l name = missing_note l name
 missing_in sections.Texts l name = text_part_head l name ++ missing_text l name ++ SECTION_END.now
 
--- what a section has for a part without a number, which stands after the part with the number `after`
+-- the words of a section on a part without a number; `after` is the number of the last numbered part before it
 abbrev pub lone_in : Section → Language → Day → ℕ → DamagedPart → List ℕ
 lone_in sections.Listed l s after part = listed_lone l after
 lone_in sections.Worked l s after part = []
@@ -99,31 +98,31 @@ lone_in sections.Texts l s after part = lone_text l s after part
 
 -- ---- The parts of one message, by their numbers.
 
--- the number that a heading gives; `before`, if the heading is damaged
+-- the part number that a heading gives; `before` if the heading is damaged
 abbrev pub number_or : ℕ → Option PartNumbers → ℕ
 number_or before (Some numbers) = numbers.part
 number_or before None = before
 
--- What a section has for the parts without a number that stand after the part `after` and before the next part with a
--- number. `before`: the last number before these parts.
+-- The words of a section on the unnumbered parts between the part with number `after` and the next numbered part.
+-- `before` is the last number before `parts`.
 abbrev pub lone_after : Section → Language → Day → ℕ → ℕ → List DamagedPart → List ℕ
 lone_after section l s after before [] = []
 lone_after section l s after before (part ∷ parts) =
     (if is_none part.numbers && before == after then lone_in section l s after part else [])
     ++ lone_after section l s after (number_or before part.numbers) parts
 
--- what a section has for the part that is shown under a number, if there is one
+-- the words of a section on the part that is shown under a number, or that there is none
 abbrev pub shown_in : Section → Language → Day → PartName → ℕ → Option DamagedPart → List ℕ
 shown_in section l s name times (Some part) = part_in section l s name times part
 shown_in section l s name times None = missing_in section l name
 
--- what a section has for a number, and for the parts without a number after it
+-- the words of a section on a number, then on the unnumbered parts after it
 abbrev pub number_in : Section → Language → Day → List DamagedPart → ℕ → List ℕ
 number_in section l s parts number =
     shown_in section l s (part_name s number (total_of parts)) (times_of parts number) (shown_under parts number)
     ++ lone_after section l s number 0 parts
 
--- the parts without a number at the beginning; then what a section has for each number
+-- the words of a section on the unnumbered parts at the beginning, then on each number
 abbrev pub by_number : Section → Language → Day → List DamagedPart → List ℕ
 by_number section l s parts =
     lone_after section l s 0 0 parts ++ flat_map (number_in section l s parts) (range_with_len 1 (total_of parts))
@@ -134,19 +133,19 @@ abbrev pub name_at : Day → ℕ → PartNumbers → PartName
 name_at s place numbers =
     record { model = day_model s; day = day_number s; sheet = place; part = numbers.part; parts = numbers.parts }
 
--- what a section has for the part at `place`. `before`: the last number before it.
+-- the words of a section on the part at `place`; `before` is the last number before it
 abbrev pub part_at : Section → Language → Day → ℕ → ℕ → Option PartNumbers → DamagedPart → List ℕ
 part_at section l s place before (Some numbers) part = part_in section l s (name_at s place numbers) 1 part
 part_at section l s place before None part = lone_in section l s before part
 
--- what a section has for the parts from `place` on
+-- the words of a section on the parts from `place` on
 abbrev pub as_they_came : Section → Language → Day → ℕ → ℕ → List DamagedPart → List ℕ
 as_they_came section l s place before [] = []
 as_they_came section l s place before (part ∷ parts) =
     part_at section l s place before part.numbers part
     ++ as_they_came section l s (place + 1) (number_or before part.numbers) parts
 
--- a section: the parts by their numbers or, if they aren't of one message, as they came
+-- a section: the parts by number or, if they aren't of one message, in the order of arrival
 abbrev pub section_text : Section → Language → Day → List DamagedPart → List ℕ
 section_text section l s parts =
     if is_one_message parts then by_number section l s parts else as_they_came section l s 1 0 parts
@@ -157,8 +156,8 @@ section_text section l s parts =
 abbrev pub sheet_count : List DamagedPart → ℕ
 sheet_count parts = max (total_of parts) (length parts)
 
--- The file: the list of the sheets; a sheet on which each part is worked that is read; and the text of all parts, with
--- what to ask the other station for.
+-- The file: the list of the sheets; a sheet for each part that is read; and the texts of all parts, with what to ask
+-- the other station for.
 unfoldable pub receive_text : Language → Day → List DamagedPart → List ℕ
 receive_text l s parts =
     title_text l (text_in l texts.TITLE_TO_RECEIVE) s ++ list_head l (sheet_count parts)
@@ -168,7 +167,7 @@ receive_text l s parts =
     ++ text_if (is_any_read parts) (note l (sheet_to_receive (day_model s)) (day_model s))
     ++ texts.ARTICLE_END.now ++ FOOT.now
 
--- what is told of the form on standard error
+-- all notes on the form for standard error
 unfoldable pub receive_notes : Language → Day → List DamagedPart → List ℕ
 receive_notes l s parts = several_note l parts ++ section_text sections.Noted l s parts
 
@@ -178,13 +177,13 @@ abbrev pub page_fault : DamagedFormFault → ReceivePageFault
 page_fault form_faults.NoMemory = faults.NoMemory
 page_fault form_faults.TooManyParts = faults.TooManyParts
 
--- whether the answer is that a write failed
+-- whether the page couldn't be written, since a write failed
 abbrev pub is_device_fault : Result Bool ReceivePageFault → Bool
 is_device_fault (Err faults.Device) = true
 is_device_fault _ = false
 
--- `ReceivedPageWritten`: the page was written, of what is read of the form's parts, and the answer says whether they are
--- one whole message; or only a prefix of the page was written, since the sink failed. `FormNotRead`: nothing was written.
+-- `ReceivedPageWritten`: the page of the form's parts was written, or a prefix of it if the sink failed; the answer
+-- says whether the parts are one whole message. `FormNotRead`: nothing was written.
 pub data IsReceivePageAnswer (l : Language) (s : Day) (form : List ℕ) (sink : Port)
     (answer : Result Bool ReceivePageFault) : Type 0 where
   ReceivedPageWritten : (parts : List DamagedPart) → AreFormParts s form parts
@@ -195,8 +194,7 @@ pub data IsReceivePageAnswer (l : Language) (s : Day) (form : List ℕ) (sink : 
   FormNotRead : (fault : DamagedFormFault) → IsFormFault (damaged_parts_of form) fault
       → answer ≡ Err (page_fault fault) → IsUntouched sink → IsReceivePageAnswer l s form sink answer
 
--- What is told on standard error, unless the form has too many parts, or memory is short. `Told` says what holds if a text
--- is told.
+-- The notes for standard error satisfy `Told`; there are none if the form has too many parts, or memory is short.
 pub data IsFormNoted (l : Language) (s : Day) (form : List ℕ) (Told : List ℕ → Type 0)
     (answer : Result Bool ReceivePageFault) : Type 0 where
   Noted : (parts : List DamagedPart) → AreFormParts s form parts → Told (receive_notes l s parts)
@@ -205,10 +203,9 @@ pub data IsFormNoted (l : Language) (s : Day) (form : List ℕ) (Told : List ℕ
 
 -- ---- What the code holds. No public contract cites these definitions.
 
--- The machine can show the letters of the keys of a part's text, be it one by count.
-pub record HasShowableKeys (s : Day) (part : DamagedPart) : Type 0 where
-  pub of_text : IfOk part.text (λ shown. AreShowable s shown.keys)
-  pub of_count : IfSome part.by_count (λ shown. AreShowable s shown.keys)
+-- The machine can show the letters of the keys of the part's text, even if it is one by count.
+abbrev pub HasShowableKeys : Day → DamagedPart → Type 0
+HasShowableKeys s part = IfSome (shown_text part) (λ shown. AreShowable s shown.keys)
 
 -- The machine can show the letters of the keys of each text.
 abbrev pub AreWorkable : Day → List DamagedPart → Type 0

@@ -34,18 +34,18 @@ use Rattle.kd_message.specs.declared.sending.SendPageFault.{SendPageFault}
 use Rattle.kd_message.specs.declared.sending.SendPageFault.TheVariants.{Order, Device}
 use Rattle.kd_message.specs.FormSheet.{form_head, form_part}
 
--- the head of the file, with the title that the template `title` gives
+-- the head of the file; `title` is the template of its title
 unfoldable pub title_text : Language → List ℕ → Day → List ℕ
 title_text l title s =
     file_head l ++ filled title (model_name (day_model s) ∷ decimal (day_number s) ∷ [])
     ++ page_texts.STYLE.now ++ page_texts.MORE_STYLE.now ++ page_texts.BODY.now
 
--- a part in the list of the sheets, with a link to its sheet
+-- a line in the list of the sheets: a part, with a link to its sheet
 abbrev pub listed_sheet : Language → ℕ → ℕ → ℕ → List ℕ
 listed_sheet l sheet part parts =
     filled (text_in l texts.LISTED_PART) (decimal sheet ∷ decimal part ∷ decimal parts ∷ [])
 
--- a part that is sent in the list of the sheets
+-- a line in the list of the sheets: a part to send
 abbrev pub listed_text : Language → ℕ → ℕ → List ℕ
 listed_text l parts part = listed_sheet l part part parts
 
@@ -63,11 +63,11 @@ part_name s part parts = record { model = day_model s; day = day_number s; sheet
 abbrev pub sheet_to_send : Model → Sheet
 sheet_to_send model = if is_converter model then PinSend else RotorSend
 
--- a part that is sent has no warnings
+-- the warnings of a part to send: none
 abbrev pub no_warnings : Warnings
 no_warnings = record { letters_lost = false; copies_lost = false; wrong_day = false; not_tested = false }
 
--- the sheet of a part that is sent
+-- the sheet on which a part to send is worked
 abbrev pub send_sheet : Language → Day → PartName → Work → List ℕ
 send_sheet l s name work = part_sheet l (sheet_to_send (day_model s)) s name no_warnings work
 
@@ -81,7 +81,7 @@ part_sheets l s part parts (work ∷ works) =
 abbrev pub form_parts : Language → Day → List Part → List ℕ
 form_parts l s made = flat_map (form_part l (day_model s) (day_number s)) made
 
--- the file: a sheet on which each part is worked, and the form
+-- the file: a sheet for each part, then the form
 unfoldable pub send_text : Language → Day → ℕ → List Work → List Part → List ℕ
 send_text l s parts works made =
     title_text l (text_in l texts.TITLE_TO_SEND) s ++ list_text l parts ++ part_sheets l s 1 parts works
@@ -89,7 +89,8 @@ send_text l s parts works made =
 
 -- ---- What is worked for an order, and its form.
 
--- For each part, `works` has what is pressed, and what lights up, when its piece of the text is enciphered with its keys.
+-- For each part, `works` has the letters that are pressed and that light up when its piece of the text is enciphered
+-- with its keys.
 abbrev pub AreWorks : Day → List Keys → List (List ℕ) → List Work → Type 0
 AreWorks s [] [] works = works ≡ []
 AreWorks s (k ∷ keys) (piece ∷ pieces) works =
@@ -97,8 +98,8 @@ AreWorks s (k ∷ keys) (piece ∷ pieces) works =
 AreWorks s [] (piece ∷ pieces) works = ⊥
 AreWorks s (k ∷ keys) [] works = ⊥
 
--- `made` are the parts of a form with `parts` parts, from number `part` on: each is made from its piece of the text, with
--- its keys.
+-- `made` are the parts of a form with `parts` parts, from number `part` on. Each has its piece of the text, enciphered
+-- with its keys.
 abbrev pub AreMade : Day → ℕ → ℕ → List Keys → List (List ℕ) → List Part → Type 0
 AreMade s part parts [] [] made = made ≡ []
 AreMade s part parts (k ∷ keys) (piece ∷ pieces) made =
@@ -107,12 +108,12 @@ AreMade s part parts (k ∷ keys) (piece ∷ pieces) made =
 AreMade s part parts [] (piece ∷ pieces) made = ⊥
 AreMade s part parts (k ∷ keys) [] made = ⊥
 
--- the letters of the order's text, cut into the pieces of the parts
+-- the letters of the order's text, cut into one piece for each part
 abbrev pub text_pieces : Day → List ℕ → List (List ℕ)
 text_pieces s text = pieces (part_size s) (text_letters s text)
 
--- `page` is the page for sending the order, in language `l`. It shows what is worked for each part, and the parts of the
--- order's form.
+-- `page` is the page for sending the order, in language `l`. It has a sheet for each part, and the parts of the order's
+-- form.
 pub record IsSendPage (l : Language) (s : Day) (order form page : List ℕ) : Type 0 where
   pub parts : OrderParts
   pub read : IsReadAnswer s order (Ok parts)
@@ -125,19 +126,19 @@ pub record IsSendPage (l : Language) (s : Day) (order form page : List ℕ) : Ty
 
 -- ---- What `write_send_page` answers.
 
--- The fault is the one that `send` returns.
+-- The fault is the one that `send` returns for this order.
 abbrev pub IsSendRefusal : Parts → Day → List ℕ → FormFault → Type 0
 IsSendRefusal m s order fault =
     IsKeyFault m s fault
     ⊎ (IsReadyOnKey m s × IsFaultOrNoMemory (IsSendFault s order) ((form : List ℕ) × IsFormOf s order form) fault)
 
--- whether the answer is that a write failed
+-- whether the page couldn't be written, since a write failed
 abbrev pub is_device : Result (Unit {0}) SendPageFault → Bool
 is_device (Err Device) = true
 is_device _ = false
 
--- `PageWritten`: the order has a form, and the page was written; or only a prefix of it, since the sink failed.
--- `Refused`: nothing was written.
+-- `PageWritten`: the order has a form, and the page was written, or a prefix of it if the sink failed. `Refused`:
+-- nothing was written.
 pub data IsSendPageAnswer (l : Language) (m : Parts) (s : Day) (order : List ℕ) (sink : Port)
     (answer : Result (Unit {0}) SendPageFault) : Type 0 where
   PageWritten : (form page : List ℕ) → IsReadyOnKey m s → IsFormOf s order form → IsSendPage l s order form page
@@ -149,11 +150,11 @@ pub data IsSendPageAnswer (l : Language) (m : Parts) (s : Day) (order : List ℕ
 
 -- ---- What the code holds. No public contract cites these definitions.
 
--- The order has a form.
+-- The order has a form, so `send` doesn't refuse it.
 abbrev pub HasForm : Day → List ℕ → Type 0
 HasForm s order = (form : List ℕ) × IsFormOf s order form
 
--- The keys from part number `part` on suit the day, and each has a piece of the text.
+-- The keys for the parts from number `part` on are valid on the day, and there is one for each piece of the text.
 pub record AreKeysOfText (s : Day) (part parts : ℕ) (keys : List Keys) (text : List ℕ) : Type 0 where
   pub of_the_day : All (AreKeys s) keys
   pub suited : InTurn (IsKeysAnswer s) part keys (Ok tt)

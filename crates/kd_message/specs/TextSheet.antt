@@ -27,7 +27,7 @@ use Rattle.kd_part_sheet.specs.declared.sheet.Sheet.{Sheet}
 use Rattle.kd_message.specs.declared.texts.TheConstants as texts
 use Rattle.kd_part_sheet.specs.PartSheet.{warnings_text}
 use Rattle.kd_part_sheet.specs.Rows.{pieces}
-use Rattle.kd_lost.specs.ShownParts.{are_rising, is_one_message, numbers_of}
+use Rattle.kd_lost.specs.ShownParts.{are_in_order, is_one_message, numbers_of}
 
 -- the head of the sheet
 abbrev pub text_sheet_head : Language → Day → List ℕ
@@ -38,44 +38,45 @@ abbrev pub text_part_head : Language → PartName → List ℕ
 text_part_head l name = filled (text_in l texts.TEXT_PART) (
     decimal name.part ∷ decimal name.parts ∷ model_name name.model ∷ decimal name.day ∷ [])
 
--- the numbers, with commas between them; the first after `first`
+-- the numbers, with `first` before the first and commas before the others
 abbrev pub numbers_after : List ℕ → List ℕ → List ℕ
 numbers_after first [] = []
 numbers_after first (number ∷ numbers) = first ++ decimal number ++ numbers_after COMMA.now numbers
 
--- that the parts came in the order of these numbers
+-- the sentence that the parts came in the order of these numbers
 unfoldable pub order_words : Language → List ℕ → List ℕ
 order_words l numbers = text_in l texts.ORDER ++ numbers_after [] numbers ++ text_in l texts.ORDER_END
 
--- what a heading says: its number, and the number of parts
+-- the numbers in a heading: the part's, and the number of parts
 unfoldable pub heading_words : PartNumbers → List ℕ
 heading_words numbers = decimal numbers.part ++ texts.OF_PARTS.now ++ decimal numbers.parts
 
--- `first`, the heading's words and `more`, if the heading isn't damaged; otherwise `others`
+-- `first`, the heading's numbers and `more`; if the heading is damaged, `others`
 abbrev pub heading_then : List ℕ → Option PartNumbers → List ℕ → List ℕ → List ℕ
 heading_then first (Some numbers) more others = first ++ heading_words numbers ++ more
 heading_then first None more others = others
 
--- the headings that aren't damaged, with commas between them; the first after `first`
+-- the numbers in the undamaged headings, with `first` before the first and commas before the others
 abbrev pub headings_after : List ℕ → List DamagedPart → List ℕ
 headings_after first [] = []
 headings_after first (part ∷ parts) =
     heading_then first part.numbers (headings_after COMMA.now parts) (headings_after first parts)
 
--- that the parts aren't of one message, with their headings
+-- the sentence that the parts aren't of one message, with the numbers in their headings
 unfoldable pub several_words : Language → List DamagedPart → List ℕ
 several_words l parts = text_in l texts.SEVERAL ++ headings_after [] parts ++ text_in l texts.SEVERAL_END
 
--- that the parts aren't of one message; or the order in which they came, if it isn't that of their numbers
+-- the sentence that the parts aren't of one message; if they are, the order in which they came, unless their numbers
+-- rise
 abbrev pub order_text : Language → List DamagedPart → List ℕ
 order_text l parts =
     if is_one_message parts
-    then (if are_rising 0 (numbers_of parts) then [] else order_words l (numbers_of parts))
+    then (if are_in_order 0 (numbers_of parts) then [] else order_words l (numbers_of parts))
     else several_words l parts
 
 -- ---- What was passed over.
 
--- whether blanks, tabs or small letters of the part were passed over, or read as what they mean
+-- whether needless blanks in the part's heading were dropped, or the part has tabs or small letters
 abbrev pub is_smoothed : DamagedPart → Bool
 is_smoothed part = part.respaced || not part.as_spelled
 
@@ -83,17 +84,17 @@ abbrev pub is_any_smoothed : List DamagedPart → Bool
 is_any_smoothed [] = false
 is_any_smoothed (part ∷ parts) = is_smoothed part || is_any_smoothed parts
 
--- whether lines stand before the first part
+-- whether lines of the form stand before its first part
 abbrev pub begins_late : List DamagedPart → Bool
 begins_late [] = false
 begins_late (part ∷ parts) = nat_lt 1 part.line
 
--- that something of the form was passed over, or read as what it means
+-- the sentence that some of the form was passed over, or read as what it means; empty if nothing was
 abbrev pub passed_text : Language → List DamagedPart → List ℕ
 passed_text l parts =
     if begins_late parts || is_any_smoothed parts then text_in l texts.PASSED_OVER else []
 
--- how often a part came, if it came more than once
+-- the sentence that a part came this often
 unfoldable pub came_words : Language → ℕ → List ℕ
 came_words l times = text_in l texts.CAME ++ decimal times ++ text_in l texts.CAME_END
 
@@ -102,20 +103,20 @@ came_text l times = if nat_lt 1 times then came_words l times else []
 
 -- ---- What to ask the other station for.
 
--- a box, with what is to be asked for of this part
+-- the checkbox to ask for the words `words` of this part again
 unfoldable pub ask_text : Language → ℕ → List ℕ → List ℕ
 ask_text l part words = filled (text_in l texts.ASK) (decimal part ∷ []) ++ words ++ texts.ASK_END.now
 
--- a group
+-- the words for a group: its number
 abbrev pub group_words : Language → ℕ → List ℕ
 group_words l number = text_in l texts.GROUP ++ decimal number
 
--- the groups from `first` to `last`
+-- the words for the groups from `first` to `last`
 unfoldable pub groups_words : Language → ℕ → ℕ → List ℕ
 groups_words l first last =
     text_in l texts.GROUPS ++ decimal first ++ text_in l texts.TO_GROUP ++ decimal last
 
--- a group and `more` groups after it
+-- the words for a group and the `more` groups after it
 abbrev pub range_words : Language → ℕ → ℕ → List ℕ
 range_words l number more = if more == 0 then group_words l number else groups_words l number (number + more)
 
@@ -124,13 +125,14 @@ abbrev pub has_lost : List (Option ℕ) → Bool
 has_lost [] = false
 has_lost (letter ∷ letters) = is_none letter || has_lost letters
 
--- in how many groups letters are lost, up to the first in which none is
+-- the number of groups at the front of the list, up to the first without a lost letter
 abbrev pub run_length : List (List (Option ℕ)) → ℕ
 run_length [] = 0
 run_length (group ∷ groups) = if has_lost group then run_length groups + 1 else 0
 
--- The groups in which letters are lost, of groups with the numbers from `number` on; the first after `first`. Groups with
--- successive numbers are named together, by the first of them. `before`: whether letters are lost in the group before.
+-- The words for the groups that lost letters, with `first` before the first. The list begins with group `number`.
+-- Successive groups are named together, at the first of them: `before` says whether the group before the list lost
+-- letters, too.
 abbrev pub lost_groups : Language → List ℕ → Bool → ℕ → List (List (Option ℕ)) → List ℕ
 lost_groups l first before number [] = []
 lost_groups l first before number (group ∷ groups) =
@@ -142,24 +144,26 @@ lost_groups l first before number (group ∷ groups) =
 abbrev pub first_text_group : Model → ℕ
 first_text_group model = if is_converter model then 3 else 2
 
--- where the key letter with this number stands among the indicators: the chosen letter, number 0, stands twice
+-- the place of this key letter in the first copy of the indicators; the chosen letter, number 0, stands at places 1 and
+-- 2
 abbrev pub indicator_place : ℕ → ℕ
 indicator_place number = if number == 0 then 1 else number + 2
 
--- the group with this key letter among the first two, and the one among the last two, of a body with this many letters
+-- the words for the two groups with this key letter: one of the first two groups, and one of the last two, in a body of
+-- `came` letters
 unfoldable pub key_letter_groups : Language → ℕ → ℕ → List ℕ
 key_letter_groups l came number =
     let group = if nat_le (indicator_place number) 5 then 1 else 2 in
     group_words l group ++ COMMA.now ++ group_words l (came / 5 - 2 + group)
 
--- the groups with the indicators, of a body with this many letters: the first two and the last two
+-- the words for the groups with the indicators: the first two and the last two, in a body of `came` letters
 unfoldable pub indicator_groups : Language → ℕ → List ℕ
 indicator_groups l came =
     groups_words l 1 2 ++ COMMA.now ++ groups_words l (came / 5 - 1) (came / 5)
 
 -- ---- A part that is read.
 
--- whether a letter of the indicators is lost in one copy, so that the other copy serves for it
+-- whether a letter of the indicators is lost in one of their copies
 abbrev pub is_copy_lost : Option LostCopies → Bool
 is_copy_lost None = false
 is_copy_lost (Some copies) = copies.at_start || copies.at_end
@@ -169,13 +173,13 @@ is_wrong_day tests.Right = false
 is_wrong_day tests.Wrong = true
 is_wrong_day tests.NotTested = false
 
--- whether letters by which the day is known are lost; on a Converter, a list letter in both copies
+-- whether lost letters hide if the part is of the day: a letter of the group, or a list letter in both copies
 abbrev pub is_not_tested : GroupTest → Bool
 is_not_tested tests.Right = false
 is_not_tested tests.Wrong = false
 is_not_tested tests.NotTested = true
 
--- what a part that is read warns of
+-- the warnings of a part that is read
 abbrev pub warnings_of : DamagedText → Warnings
 warnings_of shown = record {
   letters_lost = has_lost shown.received.items;
@@ -184,11 +188,11 @@ warnings_of shown = record {
   not_tested = is_not_tested shown.group;
 }
 
--- letters that may be broken anywhere or, on a Converter, words
+-- the start of a text: letters between which lines may break anywhere or, on a Converter, words
 abbrev pub text_begin : Model → List ℕ
 text_begin model = if is_converter model then texts.TEXT_WORDS.now else texts.TEXT_LETTERS.now
 
--- the box for the groups in which letters are lost
+-- the checkbox to ask for the groups in which letters are lost, if there are any
 abbrev pub ask_for_lost : Language → PartName → List (Option ℕ) → List ℕ
 ask_for_lost l name letters =
     if has_lost letters
@@ -203,41 +207,41 @@ read_text l sheet s name shown =
 
 -- ---- A part that isn't read.
 
--- line `number` of the part, by its number in the form. The part begins on line `line` of the form.
+-- the words for line `number` of a part that begins on line `line` of the form; they give the line's number in the form
 abbrev pub line_words : Language → ℕ → ℕ → List ℕ
 line_words l line number = text_in l texts.LINE ++ decimal (line + number - 1)
 
--- what is wrong with the heading of a part that begins on this line of the form
+-- the sentence on what is wrong with the heading of a part that begins on line `line` of the form
 unfoldable pub heading_fault : Language → ℕ → List ℕ → List ℕ
 heading_fault l line fault = line_words l line 1 ++ fault
 
--- a wrong sign: a digit as it is; any other is only called a sign
+-- the words for a wrong sign: the digit itself, or "this sign" for any other sign
 abbrev pub sign_words : Language → ℕ → List ℕ
 sign_words l byte = if nat_le 48 byte && nat_le byte 57 then decimal (byte - 48) else text_in l texts.THIS_SIGN
 
--- a wrong sign of a part that begins on this line of the form, with its place
+-- the sentence on a wrong sign, with its place, of a part that begins on line `line` of the form
 unfoldable pub sign_text : Language → ℕ → WrongSign → List ℕ
 sign_text l line sign =
     line_words l line sign.line ++ text_in l texts.LETTER_OF_LINE ++ decimal sign.letter ++ texts.COLON.now
     ++ sign_words l sign.byte ++ text_in l texts.NO_LETTER
 
--- the wrong sign of a body
+-- the sentence on the wrong sign of a body
 abbrev pub bad_byte_text : Language → ℕ → Option WrongSign → List ℕ
 bad_byte_text l line (Some sign) = sign_text l line sign
 bad_byte_text l line None = text_in l texts.BAD_BYTE
 
--- the group of the body in which a wrong sign stands
+-- the words for the group in which a wrong sign stands
 abbrev pub sign_group : Language → Option WrongSign → List ℕ
 sign_group l (Some sign) = group_words l ((sign.place - 1) / 5 + 1)
 sign_group l None = text_in l texts.ALL_OF_IT
 
--- the counts of the heading and of the letters that came
+-- the sentence on the heading's count and on the number of letters that came
 unfoldable pub counts_text : Language → ℕ → ℕ → List ℕ
 counts_text l counted came =
     text_in l texts.COUNT_WRONG ++ decimal counted ++ text_in l texts.COUNT_CAME ++ decimal came
     ++ text_in l texts.COUNT_END
 
--- how many letters a line has that isn't full, of a part that begins on this line of the form
+-- the sentence on how many letters a short line has, of a part that begins on line `line` of the form
 unfoldable pub short_words : Language → ℕ → ShortLine → List ℕ
 short_words l line short =
     texts.GAP.now ++ line_words l line short.line ++ text_in l texts.LINE_HAS ++ decimal short.letters
@@ -247,25 +251,26 @@ abbrev pub short_text : Language → ℕ → Option ShortLine → List ℕ
 short_text l line (Some short) = short_words l line short
 short_text l line None = []
 
--- what to ask for if the count is wrong or damaged: the count, and the first group that hasn't five letters; if each has,
--- and the count isn't damaged, its lines once the count is confirmed
+-- what to ask for if the count is wrong or damaged: the count, and the first short group. If no group is short, and the
+-- count isn't damaged: the part's lines once the count is confirmed.
 abbrev pub count_asked : Language → PartDamage → Option ℕ → List ℕ
 count_asked l damage (Some group) = text_in l texts.ITS_COUNT ++ COMMA.now ++ group_words l group
 count_asked l damages.HeadingDamaged None = text_in l texts.ITS_COUNT
 count_asked l _ None = text_in l texts.ITS_COUNT_OR_LINES
 
--- what to ask for if the count is wrong, and the part isn't read: the ten groups of a line that isn't full, if it explains
--- the count
+-- what to ask for if the count is wrong, and the part isn't read: the ten groups of the short line that explains the
+-- count, if there is one
 abbrev pub short_groups : Language → Option ℕ → Option ShortLine → List ℕ
 short_groups l group (Some short) = groups_words l (short.before / 5 + 1) (short.before / 5 + 10)
 short_groups l group None = count_asked l damages.CountWrong group
 
--- the counts of the heading and of the letters that came, and the line in which letters are missing
+-- the sentences on the heading's count, on the number of letters that came, and on the line in which letters are
+-- missing
 unfoldable pub count_text : Language → DamagedPart → List ℕ
 count_text l part =
     counts_text l (heading_count part.numbers) part.came ++ short_text l part.line (part_line part)
 
--- why a part isn't read
+-- the sentence on why a part isn't read
 abbrev pub reason_text : Language → DamagedPart → PartDamage → List ℕ
 reason_text l part damages.HeadingDamaged = heading_fault l part.line (text_in l texts.HEADING_DAMAGED)
 reason_text l part damages.HeadingKeyLost = heading_fault l part.line (text_in l texts.HEADING_KEY_LOST)
@@ -290,39 +295,39 @@ asked_words l part (damages.KeyLetterLost number) = key_letter_groups l part.cam
 asked_words l part damages.KeyNotOnWheel = indicator_groups l part.came
 asked_words l part damages.NoInternalKey = indicator_groups l part.came
 
--- that a part isn't read, why, and what to ask for
+-- the paragraph on a part that isn't read, for the reason `reason`, and the checkbox to ask for `words` again
 unfoldable pub unread_text : Language → PartName → List ℕ → List ℕ → List ℕ
 unread_text l name reason words =
     text_in l texts.UNREAD ++ reason ++ texts.REASON_END.now ++ ask_text l name.part words
 
--- a part that isn't read
+-- the paragraph on a part that isn't read
 abbrev pub damage_text : Language → PartName → DamagedPart → PartDamage → List ℕ
 damage_text l name part damage =
     unread_text l name (reason_text l part damage) (asked_words l part damage)
 
--- a part that didn't come
+-- the paragraph on a part that didn't come
 abbrev pub missing_text : Language → PartName → List ℕ
 missing_text l name = unread_text l name (text_in l texts.DID_NOT_COME) (text_in l texts.ALL_OF_IT)
 
 -- ---- A part that is read by the letters that came, since its count is wrong or damaged.
 
--- that the count is damaged in the heading of a part that begins on this line of the form, and how many letters came
+-- the sentence that the count in the heading on line `line` of the form is damaged, and how many letters came
 unfoldable pub damaged_count : Language → ℕ → ℕ → List ℕ
 damaged_count l line came =
     line_words l line 1 ++ text_in l texts.COUNT_DAMAGED ++ decimal came ++ text_in l texts.COUNT_DAMAGED_END
 
--- what is wrong with the count
+-- the sentence on what is wrong with the count
 abbrev pub counted_reason : Language → DamagedPart → PartDamage → List ℕ
 counted_reason l part damages.HeadingDamaged = damaged_count l part.line part.came
 counted_reason l part _ = counts_text l (heading_count part.numbers) part.came
 
--- the first group that hasn't five letters; or that each has, so that the count of those that came may be right
+-- the sentence on the first short group; if no group is short, that the number of letters that came may be right
 abbrev pub groups_told : Language → ℕ → Option ℕ → List ℕ
 groups_told l came (Some group) =
     text_in l texts.SHORT_GROUP ++ decimal group ++ text_in l texts.SHORT_GROUP_END
 groups_told l came None = text_in l texts.FULL_GROUPS ++ decimal came ++ text_in l texts.FULL_GROUPS_END
 
--- what is wrong with the count; the text; and the count to ask for
+-- a part that is read by count: what is wrong with the count, the text, and what to ask for
 unfoldable pub counted_text : Language → Sheet → Day → PartName → DamagedPart → PartDamage → DamagedText → List ℕ
 counted_text l sheet s name part damage shown =
     text_in l texts.BY_COUNT ++ counted_reason l part damage ++ groups_told l part.came part.short_group

@@ -1,4 +1,5 @@
-//! Parts that are read by the letters that came, since their count is wrong or damaged.
+//! Parts that are read with the number of letters that came as their count, since the count in the heading is wrong or
+//! damaged.
 ghost use Rattle.std.specs.Prelude.{None, Some};
 ghost use Rattle.kd_pictures.specs.Drawing.{Draws};
 ghost use Rattle.kd_message.specs.TextSheet.{counted_reason, counted_text, damaged_count, groups_told};
@@ -17,7 +18,7 @@ use kd_pictures::{Language, draw, draw_in};
 use kd_state::SheetDay;
 use kd_tables::Sink;
 
-/// Writes what is wrong with the count, the text by the letters that came, and what to ask for.
+/// Writes what is wrong with the count, the text by count, and what to ask for.
 pub(crate) fn draw_counted_text<W: Sink>(
     sink: &mut W,
     language: Language,
@@ -67,7 +68,7 @@ fn draw_damaged_count<W: Sink>(sink: &mut W, language: Language, line: usize, ca
     draw_in(sink, language, COUNT_DAMAGED_END);
 }
 
-/// Writes the first group that hasn't five letters; or that each has.
+/// Writes which group is the first that doesn't have five letters, or that each has five.
 pub(crate) fn draw_groups_told<W: Sink>(
     sink: &mut W,
     language: Language,

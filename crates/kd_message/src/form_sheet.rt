@@ -1,4 +1,4 @@
-//! The sheet with the form for the radio. It has neither the keys nor the text.
+//! The sheet with the form for the radio, which has neither the message keys nor the text.
 ghost use Rattle.std.specs.Prelude.{◌≡◌, ◌≤◌, flat_map, length};
 ghost use Rattle.kd_form.specs.PartMaking.{part_of};
 ghost use Rattle.kd_pictures.specs.Drawing.{Draws};
@@ -74,7 +74,7 @@ fn draw_part_head<W: Sink>(sink: &mut W, language: Language, name: PartName, let
     );
 }
 
-/// Writes the ground and the enciphered key of a rotor machine's part.
+/// Writes the ground setting and the enciphered message key of a rotor machine's part.
 fn draw_indicator<W: Sink>(sink: &mut W, language: Language, indicator: &Option<Indicator>)
     ensures { Draws W.taken W.has_failed sink.old sink.new
         (indicator_text language indicator.now) }
@@ -116,7 +116,7 @@ fn draw_form_group<W: Sink>(sink: &mut W, letters: &[Letter])
     draw(sink, FORM_GROUP_END);
 }
 
-/// What the groups of a part are.
+/// The note below a part that says which of its groups are fillers or indicators.
 fn part_note(language: Language, indicator: &Option<Indicator>) -> &'static str
     ensures { result.now ≡ part_note language indicator.now }
 {

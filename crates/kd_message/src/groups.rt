@@ -1,4 +1,4 @@
-//! The groups of a body, as they are named to the other station.
+//! The words for the groups of a body, for which the other station is asked.
 ghost use Rattle.std.specs.Prelude.{◌≡◌, ◌+◌, ◌≤◌, length};
 ghost use Rattle.kd_pictures.specs.Drawing.{Draws};
 ghost use Rattle.kd_part_sheet.specs.Rows.{pieces};
@@ -21,9 +21,9 @@ pub(crate) fn has_lost(letters: &[Option<Letter>]) -> bool
     }
 }
 
-/// Writes the numbers of the groups of `letters` in which letters are lost, the first after `first`.
+/// Writes which groups of `letters` lost letters, with `first` before the first of them.
 ///
-/// `before`: whether letters are lost in the group before.
+/// `before` says whether the group before `letters` lost letters, too.
 pub(crate) fn draw_lost_groups<W: Sink>(
     sink: &mut W,
     language: Language,
@@ -49,7 +49,7 @@ pub(crate) fn draw_lost_groups<W: Sink>(
     }
 }
 
-/// In how many groups of `letters` letters are lost, up to the first in which none is.
+/// The number of groups at the front of `letters`, up to the first without a lost letter.
 fn run_length(letters: &[Option<Letter>]) -> usize
     ensures groups { result ≡ run_length (pieces 5 letters.now) }
     ensures few { result ≤ length letters.now }
@@ -65,7 +65,7 @@ fn run_length(letters: &[Option<Letter>]) -> usize
     }
 }
 
-/// Writes a group and `more` groups after it.
+/// Writes the words for a group and the `more` groups after it.
 fn draw_range<W: Sink>(sink: &mut W, language: Language, number: usize, more: usize)
     requires { number + more ≤ 1000 }
     ensures { Draws W.taken W.has_failed sink.old sink.new (range_words language number more) }
@@ -77,7 +77,7 @@ fn draw_range<W: Sink>(sink: &mut W, language: Language, number: usize, more: us
     }
 }
 
-/// Writes a group's number.
+/// Writes the words for the group `number`.
 pub(crate) fn draw_group_words<W: Sink>(sink: &mut W, language: Language, number: usize)
     ensures { Draws W.taken W.has_failed sink.old sink.new (group_words language number) }
 {
@@ -85,7 +85,7 @@ pub(crate) fn draw_group_words<W: Sink>(sink: &mut W, language: Language, number
     draw_count(sink, number);
 }
 
-/// Writes the numbers of the groups from `first` to `last`.
+/// Writes the words for the groups from `first` to `last`.
 pub(crate) fn draw_groups_words<W: Sink>(
     sink: &mut W,
     language: Language,

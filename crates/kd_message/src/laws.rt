@@ -4,12 +4,13 @@ ghost use Rattle.kd_message.specs.Laws.{FormsReadAreWhole, NothingReadIsHidden, 
 ghost use Rattle.kd_message.specs.Laws.{RepetitionsHaveTheLetters, WholeMessagesAreOnThePage, WholeMessagesAreRead};
 ghost use Rattle.kd_message.specs.Laws.{WholeMessagesHaveOneTotal};
 
-/// A row can be worked again by itself: its lamps follow from its keys and from the windows before it.
+/// A row can be worked by itself: its lamps follow from its keys and from the windows before it.
 pub fn rows_are_enciphered()
     ensures { RowsAreEnciphered }
 {}
 
-/// What stands below a received letter is what the machine makes of it, whatever key is pressed for a lost letter.
+/// The letters below the line are what the machine makes of the received ones, whatever keys are pressed for lost
+/// letters.
 pub fn rows_are_deciphered()
     ensures { RowsAreDeciphered }
 {}
@@ -19,29 +20,30 @@ pub fn templates_take_their_values()
     ensures { TemplatesTakeTheirValues }
 {}
 
-/// What `desk receive` reads is shown whole, with the same text.
+/// A form that `desk receive` reads is shown whole, with the same text.
 pub fn forms_read_are_whole()
     ensures { FormsReadAreWhole }
 {}
 
-/// No part that can be read is hidden by one of which less can be read.
+/// No part that can be read is hidden by a part with the same number of which less can be read.
 pub fn nothing_read_is_hidden()
     ensures { NothingReadIsHidden }
 {}
 
-/// Parts that count differently, or have other letters under one number, are no whole message.
+/// In a whole message, all headings give the same number of parts, and parts with the same number have the same
+/// letters.
 pub fn whole_messages_agree()
     ensures total { WholeMessagesHaveOneTotal }
     ensures repetitions { RepetitionsHaveTheLetters }
 {}
 
-/// A whole message is whole on the page, too.
+/// The page of a whole message has the text of each part, with no lost letter.
 pub fn whole_messages_are_on_the_page()
     ensures { WholeMessagesAreOnThePage }
 {}
 
-/// If a form is one whole message, and nothing in it was lost, small, a tab or respaced, `desk receive` reads its parts,
-/// once they stand in order.
+/// `desk receive` reads the parts of a whole message, once they are sorted, and gets the same text, if nothing in the
+/// form was lost, a small letter, a tab, or respaced.
 pub fn whole_messages_are_read()
     ensures { WholeMessagesAreRead }
 {}

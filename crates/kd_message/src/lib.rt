@@ -1,4 +1,4 @@
-//! Pages that say, step by step, how a message is worked by hand on the real machine.
+//! Pages that show, step by step, how an operator enciphers or deciphers a message by hand on the real machine.
 #![tactic(auto)]
 
 mod counted;

@@ -1,5 +1,5 @@
-//! What the page has for a part whose heading is damaged, and for an order in place of a form. Such a part has no number,
-//! and isn't read.
+//! How the page shows a part whose heading is damaged, or an order in place of a form. These parts have no number, and
+//! aren't read.
 ghost use Rattle.std.specs.Prelude.{◌≡◌};
 ghost use Rattle.kd_pictures.specs.Drawing.{Draws};
 ghost use Rattle.kd_message.specs.LoneParts.{damaged_heading, heading_example, listed_lone, lone_ask, lone_asked};
@@ -19,7 +19,8 @@ use kd_pictures::{Language, draw, draw_in};
 use kd_state::SheetDay;
 use kd_tables::{Model, Sink};
 
-/// Writes where a part without a number stands: after the part with the number `after`; 0 if there is no such part.
+/// Writes where a part without a number stands: after the part with the number `after`, or before all numbered parts if
+/// `after` is 0.
 pub(crate) fn draw_lone_words<W: Sink>(sink: &mut W, language: Language, after: u8)
     ensures { Draws W.taken W.has_failed sink.old sink.new (lone_words language after) }
 {
@@ -35,7 +36,7 @@ pub(crate) fn draw_lone_words<W: Sink>(sink: &mut W, language: Language, after: 
     }
 }
 
-/// Writes a part without a number in the list of the sheets.
+/// Writes the line for a part without a number in the list of the sheets.
 pub(crate) fn draw_listed_lone<W: Sink>(sink: &mut W, language: Language, after: u8)
     ensures { Draws W.taken W.has_failed sink.old sink.new (listed_lone language after) }
 {
@@ -44,7 +45,7 @@ pub(crate) fn draw_listed_lone<W: Sink>(sink: &mut W, language: Language, after:
     draw_in(sink, language, LISTED_LONE_END);
 }
 
-/// Writes a part without a number among the texts: why it isn't read, and what to ask for.
+/// Writes the section on a part without a number: why it isn't read, and what to ask for.
 pub(crate) fn draw_lone_text<W: Sink>(
     sink: &mut W,
     language: Language,
@@ -90,7 +91,7 @@ pub(crate) fn draw_lone_reason<W: Sink>(
     }
 }
 
-/// Writes that a heading is damaged, as what it came, and what it should be like.
+/// Writes that a heading is damaged: the line as it came, and an example of what it should be like.
 fn draw_damaged_heading<W: Sink>(sink: &mut W, language: Language, model: Model, part: &DamagedPart)
     ensures { Draws W.taken W.has_failed sink.old sink.new
         (damaged_heading language model part.now) }
@@ -103,7 +104,7 @@ fn draw_damaged_heading<W: Sink>(sink: &mut W, language: Language, model: Model,
     draw_in(sink, language, HEADING_LIKE_END);
 }
 
-/// A heading of the model, as an example.
+/// An example of a heading on this model.
 fn heading_example(model: Model) -> &'static str
     ensures { result.now ≡ heading_example model }
 {
@@ -114,7 +115,7 @@ fn heading_example(model: Model) -> &'static str
     }
 }
 
-/// Writes the box for the heading, but for an order.
+/// Writes the checkbox to ask for the heading, unless the part is an order.
 fn draw_lone_ask<W: Sink>(sink: &mut W, language: Language, part: &DamagedPart)
     ensures { Draws W.taken W.has_failed sink.old sink.new (lone_ask language part.now) }
 {
@@ -125,7 +126,8 @@ fn draw_lone_ask<W: Sink>(sink: &mut W, language: Language, part: &DamagedPart)
     }
 }
 
-/// Writes the box for a heading, of whose body `came` letters came.
+/// Writes the checkbox to ask for the heading or, if `came`, the number of letters of the body, is 0, for the whole
+/// part.
 fn draw_lone_box<W: Sink>(sink: &mut W, language: Language, came: usize)
     ensures { Draws W.taken W.has_failed sink.old sink.new (lone_box language came) }
 {
@@ -134,7 +136,7 @@ fn draw_lone_box<W: Sink>(sink: &mut W, language: Language, came: usize)
     draw(sink, ASK_END);
 }
 
-/// What to ask for of a part without a number, of whose body `came` letters came.
+/// The words for what to ask for: the heading or, if `came`, the number of letters of the body, is 0, the whole part.
 pub(crate) fn lone_asked(language: Language, came: usize) -> &'static str
     ensures { result.now ≡ lone_asked language came }
 {

@@ -1,4 +1,4 @@
-//! What is told of a form on standard error: what is wrong with its parts, and what to ask for.
+//! The notes on standard error about a form: what is wrong with its parts, and what to ask for.
 ghost use Rattle.std.specs.Prelude.{◌≤◌, length, None, Some};
 ghost use Rattle.kd_pictures.specs.Drawing.{Draws};
 ghost use Rattle.kd_message.specs.Notes.{damage_note, day_note, lone_ask_note, lone_asked_note, lone_note, lost_line};
@@ -19,7 +19,7 @@ use kd_pictures::template::{Value, fill_in};
 use kd_pictures::{Language, draw, draw_in};
 use kd_tables::{Letter, Model, Sink};
 
-/// Tells that the parts aren't of one message, if they aren't.
+/// Writes the note that the parts aren't of one message, if they aren't.
 pub(crate) fn draw_several_note<W: Sink>(sink: &mut W, language: Language, parts: &[DamagedPart])
     ensures { Draws W.taken W.has_failed sink.old sink.new (several_note language parts.now) }
 {
@@ -30,7 +30,7 @@ pub(crate) fn draw_several_note<W: Sink>(sink: &mut W, language: Language, parts
     }
 }
 
-/// Tells what is wrong with a part, if anything is.
+/// Writes notes on what is wrong with a part, if anything is.
 pub(crate) fn draw_part_note<W: Sink>(
     sink: &mut W,
     language: Language,
@@ -48,7 +48,7 @@ pub(crate) fn draw_part_note<W: Sink>(
     }
 }
 
-/// Tells what is wrong with a part that is read, if anything is.
+/// Writes notes on what is wrong with a part that is read, if anything is.
 fn draw_read_note<W: Sink>(sink: &mut W, language: Language, name: PartName, shown: &DamagedText)
     ensures { Draws W.taken W.has_failed sink.old sink.new (read_note language name shown.now) }
 {
@@ -74,7 +74,7 @@ fn draw_other_day<W: Sink>(sink: &mut W, language: Language, name: PartName)
     draw_in(sink, language, NOTE_OTHER_DAY);
 }
 
-/// Writes the number of a part at the beginning of its line.
+/// Writes the number of a part, with which its line begins.
 fn draw_note_name<W: Sink>(sink: &mut W, language: Language, name: PartName)
     ensures { Draws W.taken W.has_failed sink.old sink.new
         (note_name language name) }
@@ -123,7 +123,7 @@ fn draw_lost_line<W: Sink>(
     draw(sink, NOTE_END);
 }
 
-/// Tells what is wrong with the count of a part that is read by the letters that came.
+/// Writes the note on the count of a part that is read by count.
 fn draw_counted_note<W: Sink>(
     sink: &mut W,
     language: Language,
@@ -144,7 +144,7 @@ fn draw_counted_note<W: Sink>(
     draw_read_note(sink, language, name, shown);
 }
 
-/// Tells why a part isn't read.
+/// Writes the note on why a part isn't read.
 fn draw_unread_note<W: Sink>(
     sink: &mut W,
     language: Language,
@@ -162,7 +162,7 @@ fn draw_unread_note<W: Sink>(
     draw(sink, NOTE_END);
 }
 
-/// Tells that a part didn't come.
+/// Writes the note on a part that didn't come.
 pub(crate) fn draw_missing_note<W: Sink>(sink: &mut W, language: Language, name: PartName)
     ensures { Draws W.taken W.has_failed sink.old sink.new (missing_note language name) }
 {
@@ -173,7 +173,8 @@ pub(crate) fn draw_missing_note<W: Sink>(sink: &mut W, language: Language, name:
     draw(sink, NOTE_END);
 }
 
-/// Tells why a part without a number isn't read. It stands after the part with the number `after`.
+/// Writes the note on why a part without a number isn't read. `after` is the number of the last numbered part before
+/// it.
 pub(crate) fn draw_lone_note<W: Sink>(
     sink: &mut W,
     language: Language,

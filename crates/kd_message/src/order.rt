@@ -13,7 +13,7 @@ use kd_form::text_bytes::{letter_of_byte, space_letter};
 use kd_state::SheetDay;
 use kd_tables::Letter;
 
-/// Reads the head of `order`, and returns the order's text. `reader` then has the order's keys.
+/// Reads the head of `order` into `reader`, which then has the keys. Returns the order's text.
 pub(crate) fn read_head<'a>(reader: &mut HeadReader, day: &SheetDay, order: &'a [u8]) -> &'a [u8]
     requires keys { reader.old.keys.items ≡ [] }
     requires line { reader.old.line.items ≡ [] }
@@ -51,7 +51,7 @@ pub(crate) fn take_piece<'a>(day: &SheetDay, text: &'a [u8]) -> (ArrayVec<Letter
     (letters, &[])
 }
 
-/// Appends the letter that a byte gives, if there is one.
+/// Appends the letter for `byte`, if it stands for one.
 fn push_letter(letters: &mut ArrayVec<Letter, 500>, for_space: &Option<Letter>, byte: u8)
     requires { length letters.old.items < 500 }
     ensures { letters.new.items ≡ letters.old.items ++ letters_from for_space.now (byte ∷ []) }

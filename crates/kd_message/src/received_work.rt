@@ -1,4 +1,4 @@
-//! What the sheet of a received part shows.
+//! What the operator presses and finds for a received part.
 ghost use Rattle.std.specs.Prelude.{◌≡◌};
 ghost use Rattle.kd_state.specs.EngineKey.{IsWindow};
 ghost use Rattle.kd_state.specs.OwnKeys.{sheet_key};
@@ -15,7 +15,7 @@ use kd_part_sheet::cells::{Cell, push_choice, push_pressed, push_received, push_
 use kd_part_sheet::part_work::{PartWork, letters_of};
 use kd_state::SheetDay;
 
-/// What is pressed and found when a part is deciphered to `shown`.
+/// The letters that are pressed and found when a part is deciphered to `shown`.
 pub(crate) fn received_work(day: &SheetDay, shown: &DamagedText) -> PartWork
     requires { AreShowable day.now shown.now.keys }
     ensures work { result ≡ received_work day.now shown.now }
@@ -27,7 +27,7 @@ pub(crate) fn received_work(day: &SheetDay, shown: &DamagedText) -> PartWork
     }
 }
 
-/// What is pressed and found on a rotor machine.
+/// The letters that are pressed and found on a rotor machine.
 #[tactic(auto, using(kd_form::proofs::MadeParts::key_is_window))]
 fn rotor_received(day: &SheetDay, indicator: &Indicator, shown: &DamagedText) -> PartWork
     requires { HasIndicator day.now (Some indicator.now) }
@@ -54,7 +54,7 @@ fn rotor_received(day: &SheetDay, indicator: &Indicator, shown: &DamagedText) ->
     }
 }
 
-/// What is enciphered and printed on a Converter.
+/// The letters that are enciphered or deciphered, and printed, on a Converter.
 fn pin_received(day: &SheetDay, keys: &PinTextKeys, shown: &DamagedText) -> PartWork
     requires external { IsWindow (sheet_key day.now) keys.now.indicator.external }
     requires internal { IsWindow (sheet_key day.now) keys.now.internal.items }
@@ -75,7 +75,7 @@ fn pin_received(day: &SheetDay, keys: &PinTextKeys, shown: &DamagedText) -> Part
     }
 }
 
-/// The letters of a Converter's body: those of the indicators, at both ends, are skipped, and the others deciphered.
+/// The cells of a Converter's body: the indicators at both ends are skipped, the other letters deciphered.
 fn pin_body(day: &SheetDay, shown: &DamagedText) -> ArrayVec<Cell, 520>
     ensures { result.items ≡ pin_body day.now shown.now }
 {

@@ -12,6 +12,7 @@ ghost use Rattle.kd_message.specs.ReceivePage.{IsFormNoted, receive_notes, recei
 ghost use Rattle.kd_message.specs.ReceivePage.{sheet_of_text, sheet_to_receive, shown_in, text_or_damage, worked_text};
 ghost use Rattle.kd_message.specs.SendPage.{part_name};
 ghost use Rattle.kd_lost.specs.ShownParts.{shown_under, times_of, total_of};
+ghost use Rattle.kd_lost.specs.Texts.{shown_text};
 
 use crate::counted::draw_counted_text;
 use crate::lone_parts::{draw_listed_lone, draw_lone_text};
@@ -26,7 +27,7 @@ use crate::texts::{ARTICLE_END, LIST_END_WITH_TEXT, LISTED_UNREAD, TITLE_TO_RECE
 use crate::unread::{draw_damage, draw_missing};
 use kd_lost::{
     DamagedFormFault, DamagedPart, DamagedText, PartNumbers, is_any_read, is_one_message, is_whole,
-    read_damaged_form, shown_under, times_of, total_of,
+    read_damaged_form, shown_text, shown_under, times_of, total_of,
 };
 use kd_part_sheet::markup::SECTION_END;
 use kd_part_sheet::part_sheet::{PartName, draw_if, draw_part_sheet, note};
@@ -50,10 +51,12 @@ pub enum ReceivePageFault {
     Device,
 }
 
-/// Writes the page in this language that says how to decipher `form` by hand on a machine on the day's key, and its text.
+/// Writes the page in `language` that shows how to decipher `form` by hand on a machine on the day's key, with the
+/// form's text.
 ///
-/// What is wrong with the form, and what to ask for, is told to `notes`. Returns whether the form is one whole message of the
-/// day, and all of its text was read. For `Device`, a prefix of the page is written. For other faults, nothing is written.
+/// Writes to `notes` what is wrong with the form, and what to ask for. Returns whether the form is one whole message of
+/// the day, and all of its text was read. For `Device`, a prefix of the page is written. For other faults, nothing is
+/// written.
 pub fn write_receive_page<W: Sink, E: Sink>(
     alloc: Global,
     language: Language,
@@ -92,20 +95,20 @@ fn page_fault(fault: DamagedFormFault) -> ReceivePageFault
     }
 }
 
-/// A section of the page.
+/// A section of the page, or the notes.
 #[derive(Clone, Copy)]
 pub(crate) enum Section {
     /// The list of the sheets.
     Listed,
-    /// The sheets on which parts are worked.
+    /// The sheets on which the parts are worked.
     Worked,
     /// The texts of the parts.
     Texts,
-    /// What is told on standard error.
+    /// The notes for standard error.
     Noted,
 }
 
-/// Writes the page of a form of which `parts` were read.
+/// Writes the page of a form with the parts `parts`.
 fn draw_page<W: Sink>(sink: &mut W, language: Language, day: &SheetDay, parts: &[DamagedPart])
     requires few { length parts.now ≤ 255 }
     requires workable { AreWorkable day.now parts.now }
@@ -138,7 +141,7 @@ fn sheet_count(parts: &[DamagedPart]) -> u16
     u16::from(total_of(parts)).max(parts.len() as u16)
 }
 
-/// Tells what is wrong with a form of which `parts` were read.
+/// Writes notes on what is wrong with a form with the parts `parts`.
 fn draw_notes<E: Sink>(notes: &mut E, language: Language, day: &SheetDay, parts: &[DamagedPart])
     requires few { length parts.now ≤ 255 }
     requires workable { AreWorkable day.now parts.now }
@@ -149,7 +152,7 @@ fn draw_notes<E: Sink>(notes: &mut E, language: Language, day: &SheetDay, parts:
     draw_section(notes, Section::Noted, language, day, parts);
 }
 
-/// Writes a section: the parts by their numbers or, if they aren't of one message, as they came.
+/// Writes a section: the parts by number or, if they aren't of one message, in the order of arrival.
 fn draw_section<W: Sink>(
     sink: &mut W,
     section: Section,
@@ -169,7 +172,7 @@ fn draw_section<W: Sink>(
     }
 }
 
-/// Writes the parts without a number at the beginning, then what a section has for each number.
+/// Writes the words of a section on the unnumbered parts at the beginning, then on each number.
 fn draw_by_number<W: Sink>(
     sink: &mut W,
     section: Section,
@@ -193,7 +196,7 @@ fn draw_by_number<W: Sink>(
     );
 }
 
-/// Writes what a section has for the `count` numbers from `number` on.
+/// Writes the words of a section on the `count` numbers from `number` on.
 fn draw_numbers<W: Sink>(
     sink: &mut W,
     section: Section,
@@ -214,7 +217,7 @@ fn draw_numbers<W: Sink>(
     }
 }
 
-/// Writes what a section has for `number`, and for the parts without a number after it.
+/// Writes the words of a section on `number`, then on the unnumbered parts after it.
 fn draw_number<W: Sink>(
     sink: &mut W,
     section: Section,
@@ -232,7 +235,7 @@ fn draw_number<W: Sink>(
     draw_lone_after(sink, section, language, day, number as u8, 0, parts);
 }
 
-/// Writes what a section has for the part that is shown under `number`.
+/// Writes the words of a section on the part that is shown under `number`.
 fn draw_shown<W: Sink>(
     sink: &mut W,
     section: Section,
@@ -257,9 +260,10 @@ fn draw_shown<W: Sink>(
     }
 }
 
-/// Writes what a section has for the parts without a number that stand after the part `after`.
+/// Writes the words of a section on the unnumbered parts between the part with number `after` and the next numbered
+/// part.
 ///
-/// `before`: the last number before these parts.
+/// `before` is the last number before `parts`.
 fn draw_lone_after<W: Sink>(
     sink: &mut W,
     section: Section,
@@ -280,7 +284,7 @@ fn draw_lone_after<W: Sink>(
     }
 }
 
-/// Whether a part has no number, and stands after the part `after`. `before`: the last number before it.
+/// Whether a part has no number, and the last number before it, `before`, is `after`.
 fn is_lone_after(after: u8, before: u8, numbers: &Option<PartNumbers>) -> bool
     ensures { result ≡ (is_none numbers.now && before == after) }
 {
@@ -290,7 +294,7 @@ fn is_lone_after(after: u8, before: u8, numbers: &Option<PartNumbers>) -> bool
     }
 }
 
-/// The number that a heading gives; `before`, if the heading is damaged.
+/// The part number that a heading gives; `before` if the heading is damaged.
 fn number_or(before: u8, numbers: &Option<PartNumbers>) -> u8
     ensures { result ≡ number_or before numbers.now }
 {
@@ -300,7 +304,7 @@ fn number_or(before: u8, numbers: &Option<PartNumbers>) -> u8
     }
 }
 
-/// Writes what a section has for a part without a number, if it is to be written here.
+/// Writes the words of a section on a part, if it has no number, and the last number before it, `before`, is `after`.
 fn draw_lone_if<W: Sink>(
     sink: &mut W,
     is_there: bool,
@@ -320,7 +324,7 @@ fn draw_lone_if<W: Sink>(
     }
 }
 
-/// Writes what a section has for a part without a number, which stands after the part with the number `after`.
+/// Writes the words of a section on a part without a number. `after` is the number of the last numbered part before it.
 fn draw_lone<W: Sink>(
     sink: &mut W,
     section: Section,
@@ -340,7 +344,8 @@ fn draw_lone<W: Sink>(
     }
 }
 
-/// Writes what a section has for the parts from `place` on, as they came. `before`: the last number before them.
+/// Writes the words of a section on the parts from `place` on, in the order of arrival. `before` is the last number
+/// before them.
 fn draw_as_they_came<W: Sink>(
     sink: &mut W,
     section: Section,
@@ -362,7 +367,7 @@ fn draw_as_they_came<W: Sink>(
     }
 }
 
-/// Writes what a section has for the part at `place`. `before`: the last number before it.
+/// Writes the words of a section on the part at `place`. `before` is the last number before it.
 fn draw_part_at<W: Sink>(
     sink: &mut W,
     section: Section,
@@ -398,7 +403,7 @@ fn name_at(day: &SheetDay, place: u8, numbers: &PartNumbers) -> PartName
     }
 }
 
-/// Writes what a section has for a part that came `times` times.
+/// Writes the words of a section on a part that came `times` times.
 fn draw_part<W: Sink>(
     sink: &mut W,
     section: Section,
@@ -420,20 +425,18 @@ fn draw_part<W: Sink>(
     }
 }
 
-/// Writes a part in the list of the sheets.
+/// Writes a part as a line in the list of the sheets.
 fn draw_listed<W: Sink>(sink: &mut W, language: Language, name: PartName, part: &DamagedPart)
     ensures { Draws W.taken W.has_failed sink.old sink.new
-        (listed_text language name part.now.text part.now.by_count) }
+        (listed_text language name (shown_text part.now)) }
 {
-    match (&part.text, &part.by_count) {
-        (Err(_), None) => draw_listed_unread(sink, language, name),
-        (Ok(_), _) | (Err(_), Some(_)) => {
-            draw_listed_part(sink, language, name.sheet, name.part, name.parts)
-        }
+    match shown_text(part) {
+        Some(_) => draw_listed_part(sink, language, name.sheet, name.part, name.parts),
+        None => draw_listed_unread(sink, language, name),
     }
 }
 
-/// Writes a part that isn't read in the list of the sheets.
+/// Writes a part that isn't read as a line in the list of the sheets.
 fn draw_listed_unread<W: Sink>(sink: &mut W, language: Language, name: PartName)
     ensures { Draws W.taken W.has_failed sink.old sink.new (listed_unread language name) }
 {
@@ -458,16 +461,15 @@ fn draw_worked<W: Sink>(
 )
     requires { HasShowableKeys day.now part.now }
     ensures { Draws W.taken W.has_failed sink.old sink.new
-        (worked_text language day.now name part.now.text part.now.by_count) }
+        (worked_text language day.now name (shown_text part.now)) }
 {
-    match (&part.text, &part.by_count) {
-        (Ok(shown), _) => draw_sheet_of_text(sink, language, day, name, shown),
-        (Err(_), Some(shown)) => draw_sheet_of_text(sink, language, day, name, shown),
-        (Err(_), None) => draw(sink, ""),
+    match shown_text(part) {
+        Some(shown) => draw_sheet_of_text(sink, language, day, name, shown),
+        None => draw(sink, ""),
     }
 }
 
-/// Writes the sheet of a text.
+/// Writes the sheet on which a text is worked.
 fn draw_sheet_of_text<W: Sink>(
     sink: &mut W,
     language: Language,
@@ -500,7 +502,7 @@ fn sheet_to_receive(model: Model) -> Sheet
     }
 }
 
-/// Writes a part of the text: its head, how often it came, and its text or why it isn't read.
+/// Writes the section on a part's text: its head, how often it came, and its text or why it isn't read.
 fn draw_part_text<W: Sink>(
     sink: &mut W,
     language: Language,
@@ -538,7 +540,7 @@ fn draw_text_or_damage<W: Sink>(
     }
 }
 
-/// Writes what a section has for a part that didn't come.
+/// Writes the words of a section on a part that didn't come.
 fn draw_missing_in<W: Sink>(sink: &mut W, section: Section, language: Language, name: PartName)
     ensures { Draws W.taken W.has_failed sink.old sink.new (missing_in section language name) }
 {

@@ -40,7 +40,7 @@ use std::alloc::Global;
 /// Why the page of an order isn't written.
 #[derive(Clone, Copy, Debug, PartialEq, Eq)]
 pub enum SendPageFault {
-    /// `send` returns this fault, too: of the machine, of the order, or for want of memory.
+    /// The fault that `send` also returns: one of the machine or of the order, or too little memory.
     Order(FormFault),
     /// A write to the sink failed.
     Device,
@@ -57,7 +57,7 @@ impl From<FormFault> for SendPageFault {
     }
 }
 
-/// Writes the page in this language that says how to encipher `order` by hand on `machine`, which must be on the day's
+/// Writes the page in `language` that shows how to encipher `order` by hand on `machine`, which must be on the day's
 /// key.
 ///
 /// For a fault of `send`, nothing is written. For `Device`, a prefix of the page is written.
@@ -114,7 +114,7 @@ fn draw_file<W: Sink>(sink: &mut W, language: Language, day: &SheetDay, keys: &[
     draw(sink, FOOT);
 }
 
-/// Writes the head of the file, with the title that the template `title` gives.
+/// Writes the head of the file; `title` is the template of its title.
 pub(crate) fn draw_title<W: Sink>(sink: &mut W, language: Language, title: Text, day: &SheetDay)
     ensures { Draws W.taken W.has_failed sink.old sink.new
         (title_text language (in_language language title.entry.0.now title.entry.1.now) day.now) }
@@ -144,7 +144,7 @@ fn draw_list<W: Sink>(sink: &mut W, language: Language, parts: u8)
     draw_in(sink, language, LIST_END_WITH_FORM);
 }
 
-/// The head of the list of sheets, of a message with `parts` parts.
+/// The head of the list of the sheets, for a message with `parts` parts.
 pub(crate) fn list_head(language: Language, parts: u16) -> &'static str
     ensures { result.now ≡ list_head language parts }
 {
@@ -221,7 +221,7 @@ fn draw_part_sheets<W: Sink>(
     }
 }
 
-/// A part that is sent has no warnings.
+/// The warnings of a part to send: none.
 const NO_WARNINGS: Warnings = Warnings {
     letters_lost: false,
     copies_lost: false,
@@ -280,7 +280,7 @@ fn draw_form_parts<W: Sink>(
     }
 }
 
-/// Writes the part of the form that `text` becomes with `keys`.
+/// Writes the part of the form in which `text` is enciphered with `keys`.
 fn draw_made_part<W: Sink>(
     sink: &mut W,
     language: Language,

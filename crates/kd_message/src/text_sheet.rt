@@ -19,7 +19,7 @@ use crate::texts::{
 use itoa::Buffer;
 use kd_form::text_bytes::space_letter;
 use kd_lost::{
-    DamagedPart, DamagedText, GroupTest, LostCopies, PartNumbers, are_rising, is_one_message,
+    DamagedPart, DamagedText, GroupTest, LostCopies, PartNumbers, are_in_order, is_one_message,
 };
 use kd_part_sheet::markup::{COMMA, LOST_LETTER, SPACE};
 use kd_part_sheet::part_sheet::{PartName, Warnings, draw_warnings};
@@ -45,7 +45,7 @@ pub(crate) fn draw_text_sheet_head<W: Sink>(sink: &mut W, language: Language, da
     );
 }
 
-/// Writes that something of the form was passed over, or read as what it means, if that is so.
+/// Writes that some of the form was passed over, or read as what it means, if so.
 pub(crate) fn draw_passed<W: Sink>(sink: &mut W, language: Language, parts: &[DamagedPart])
     ensures { Draws W.taken W.has_failed sink.old sink.new (passed_text language parts.now) }
 {
@@ -56,7 +56,7 @@ pub(crate) fn draw_passed<W: Sink>(sink: &mut W, language: Language, parts: &[Da
     }
 }
 
-/// Whether lines stand before the first part.
+/// Whether lines of the form stand before its first part.
 fn begins_late(parts: &[DamagedPart]) -> bool
     ensures { result ≡ begins_late parts.now }
 {
@@ -66,7 +66,7 @@ fn begins_late(parts: &[DamagedPart]) -> bool
     }
 }
 
-/// Whether blanks, tabs or small letters of a part were passed over, or read as what they mean.
+/// Whether needless blanks in a part's heading were dropped, or a part has tabs or small letters.
 fn is_any_smoothed(parts: &[DamagedPart]) -> bool
     ensures { result ≡ is_any_smoothed parts.now }
 {
@@ -76,20 +76,20 @@ fn is_any_smoothed(parts: &[DamagedPart]) -> bool
     }
 }
 
-/// Writes that the parts aren't of one message; or the order in which they came, if it isn't that of their numbers.
+/// Writes that the parts aren't of one message; if they are, the order in which they came, unless their numbers rise.
 pub(crate) fn draw_order<W: Sink>(sink: &mut W, language: Language, parts: &[DamagedPart])
     ensures { Draws W.taken W.has_failed sink.old sink.new (order_text language parts.now) }
 {
     if !is_one_message(parts) {
         draw_several_words(sink, language, parts);
-    } else if are_rising(0, parts) {
+    } else if are_in_order(0, parts) {
         draw(sink, "");
     } else {
         draw_order_words(sink, language, parts);
     }
 }
 
-/// Writes that the parts aren't of one message, with their headings.
+/// Writes that the parts aren't of one message, with the numbers in their headings.
 fn draw_several_words<W: Sink>(sink: &mut W, language: Language, parts: &[DamagedPart])
     ensures { Draws W.taken W.has_failed sink.old sink.new (several_words language parts.now) }
 {
@@ -98,7 +98,7 @@ fn draw_several_words<W: Sink>(sink: &mut W, language: Language, parts: &[Damage
     draw_in(sink, language, SEVERAL_END);
 }
 
-/// Writes what the headings that aren't damaged say, the first after `first`.
+/// Writes the numbers in the undamaged headings, with `first` before the first and commas before the others.
 fn draw_headings<W: Sink>(sink: &mut W, first: &str, parts: &[DamagedPart])
     ensures { Draws W.taken W.has_failed sink.old sink.new
         (headings_after first.now parts.now) }
@@ -114,7 +114,7 @@ fn draw_headings<W: Sink>(sink: &mut W, first: &str, parts: &[DamagedPart])
     }
 }
 
-/// Writes what a heading says: its number, and the number of parts.
+/// Writes the numbers in a heading: the part's, and the number of parts.
 fn draw_heading_words<W: Sink>(sink: &mut W, numbers: &PartNumbers)
     ensures { Draws W.taken W.has_failed sink.old sink.new (heading_words numbers.now) }
 {
@@ -142,7 +142,7 @@ fn draw_came_words<W: Sink>(sink: &mut W, language: Language, times: usize)
     draw_in(sink, language, CAME_END);
 }
 
-/// Writes that the parts came in the order of their numbers here.
+/// Writes in which order the parts came, by their numbers.
 fn draw_order_words<W: Sink>(sink: &mut W, language: Language, parts: &[DamagedPart])
     ensures { Draws W.taken W.has_failed sink.old sink.new
         (order_words language (numbers_of parts.now)) }
@@ -152,7 +152,7 @@ fn draw_order_words<W: Sink>(sink: &mut W, language: Language, parts: &[DamagedP
     draw_in(sink, language, ORDER_END);
 }
 
-/// Writes the numbers of the parts that have one, the first after `first`.
+/// Writes the numbers of the parts that have one, with `first` before the first and commas before the others.
 fn draw_numbers<W: Sink>(sink: &mut W, first: &str, parts: &[DamagedPart])
     ensures { Draws W.taken W.has_failed sink.old sink.new
         (numbers_after first.now (numbers_of parts.now)) }
@@ -204,7 +204,7 @@ pub(crate) fn draw_read_text<W: Sink>(
     draw_ask_for_lost(sink, language, name, shown.letters.as_slice());
 }
 
-/// What stands before the text.
+/// The start of a text: letters between which lines may break anywhere or, on a Converter, words.
 fn text_begin(model: Model) -> &'static str
     ensures { result.now ≡ text_begin model }
 {
@@ -237,7 +237,7 @@ fn draw_letter_shown<W: Sink>(sink: &mut W, for_space: &Option<Letter>, letter: 
     }
 }
 
-/// What a part that is read warns of.
+/// The warnings of a part that is read.
 pub(crate) fn warnings_of(shown: &DamagedText) -> Warnings
     ensures { result ≡ warnings_of shown.now }
 {
@@ -249,7 +249,7 @@ pub(crate) fn warnings_of(shown: &DamagedText) -> Warnings
     }
 }
 
-/// Whether a letter of the indicators is lost in one copy.
+/// Whether a letter of the indicators is lost in one of their copies.
 fn is_copy_lost(copies: &Option<LostCopies>) -> bool
     ensures { result ≡ is_copy_lost copies.now }
 {
@@ -268,7 +268,7 @@ pub(crate) fn is_wrong_day(group: GroupTest) -> bool
     }
 }
 
-/// Whether letters by which the day is known are lost.
+/// Whether lost letters hide if the part is of the day: a letter of the group, or a list letter in both copies.
 fn is_not_tested(group: GroupTest) -> bool
     ensures { result ≡ is_not_tested group }
 {
@@ -278,7 +278,7 @@ fn is_not_tested(group: GroupTest) -> bool
     }
 }
 
-/// Writes the box for the groups in which letters are lost, if there are such groups.
+/// Writes the checkbox to ask for the groups in which letters are lost, if there are any.
 fn draw_ask_for_lost<W: Sink>(
     sink: &mut W,
     language: Language,

@@ -1,13 +1,13 @@
-//! The fixed texts of a message's pages but for the parts' sheets; those with words in English and in German.
+//! The fixed texts of a message's pages, except those of the sheets. Texts with words are in English and in German.
 
 use kd_pictures::texts::Text;
 
-/// The title of a page, for sending and for receiving: the model, and the day.
+/// The title of a page, for sending and for receiving. Its values are the model and the day.
 pub const TITLE_TO_SEND: Text = ("~, day ~: send", "~, Tag ~: Verschlüsseln");
 
 pub const TITLE_TO_RECEIVE: Text = ("~, day ~: receive", "~, Tag ~: Entschlüsseln");
 
-/// The list of the sheets, if the message has one part, and if it has several parts.
+/// The start of the list of the sheets, for one part, and for several.
 pub const LIST_OF_ONE: Text = (
     "<nav aria-label=\"Sheets\">\n<ul>\n",
     "<nav aria-label=\"Blätter\">\n<ul>\n",
@@ -18,19 +18,19 @@ pub const LIST_OF_SEVERAL: Text = (
     "<nav class=sheets aria-label=\"Blätter\">\n<ul>\n",
 );
 
-/// A part in the list of the sheets: its sheet, its number, and the number of parts.
+/// A part in the list of the sheets. Its values are the number of its sheet, its own number, and the number of parts.
 pub const LISTED_PART: Text = (
     "<li><a href=\"#part-~\">Part ~ of ~</a>\n",
     "<li><a href=\"#part-~\">Teil ~ von ~</a>\n",
 );
 
-/// A part that isn't read in the list of the sheets: the part, and the number of parts.
+/// A part that isn't read, in the list of the sheets. Its values are its number and the number of parts.
 pub const LISTED_UNREAD: Text = (
     "<li><a href=\"#text\">Part ~ of ~</a>, not read\n",
     "<li><a href=\"#text\">Teil ~ von ~</a>, nicht lesbar\n",
 );
 
-/// A part without a number: the number of the part before it.
+/// A part without a number. The value is the number of the last numbered part before it.
 pub const LONE_AFTER: Text = (
     "A part without a number, after part ~",
     "Ein Teil ohne Nummer, nach Teil ~",
@@ -42,12 +42,13 @@ pub const LONE_FIRST: Text = (
     "Ein Teil ohne Nummer, am Anfang",
 );
 
-/// What stands before and after these words in the list of the sheets.
+/// The line for a part without a number in the list of the sheets: what stands before and after its words.
 pub const LISTED_LONE: &str = "<li><a href=\"#text\">";
 
 pub const LISTED_LONE_END: Text = ("</a>, not read\n", "</a>, nicht lesbar\n");
 
-/// What stands before these words in the text, and after them: the model, and the day.
+/// The head of a part without a number on the sheet with the text: what stands before and after its words. The values
+/// are the model and the day.
 pub const LONE_HEAD: &str = "<section>\n<h2>";
 
 pub const LONE_HEAD_END: Text = (
@@ -55,13 +56,13 @@ pub const LONE_HEAD_END: Text = (
     "<span>~, Tag ~: Klartext</span></h2>\n",
 );
 
-/// What to ask for again of a part without a number.
+/// The checkbox to ask for a part without a number again.
 pub const LONE_ASK: Text = (
     "<label><input type=checkbox> ask for this part again: <b>",
     "<label><input type=checkbox> diesen Teil wiederholen lassen: <b>",
 );
 
-/// The end of the list of the sheets, with the form, and with the text.
+/// The end of the list of the sheets, with a link to the form, and with one to the text.
 pub const LIST_END_WITH_FORM: Text = (
     "<li><a href=\"#form\">Form</a>\n</ul>\n</nav>\n",
     "<li><a href=\"#form\">Funkspruch</a>\n</ul>\n</nav>\n",
@@ -72,7 +73,8 @@ pub const LIST_END_WITH_TEXT: Text = (
     "<li><a href=\"#text\">Klartext</a>\n</ul>\n</nav>\n",
 );
 
-/// The sheet with the text: the model, and the day. A part of it: the part, the number of parts, the model, the day.
+/// The head of the sheet with the text, and of each part on it. The values are the model and the day, for a part after
+/// its number and the number of parts.
 pub const TEXT_SHEET: Text = (
     "<article id=text class=form>\n<header>\n<h1>~, day ~: text</h1>\n<p class=fields><span>From</span><span>Time</span><span>Read by</span></p>\n</header>\n",
     "<article id=text class=form>\n<header>\n<h1>~, Tag ~: Klartext</h1>\n<p class=fields><span>Von</span><span>Uhrzeit</span><span>Entschlüsselt durch</span></p>\n</header>\n",
@@ -83,20 +85,20 @@ pub const TEXT_PART: Text = (
     "<section>\n<h2>Teil ~ von ~<span>~, Tag ~: Klartext</span></h2>\n",
 );
 
-/// The text of a part: letters that may be broken anywhere, or words.
+/// The text of a part: letters between which lines may break anywhere, or words; then its end.
 pub const TEXT_LETTERS: &str = "<p class=\"text letters\">";
 
 pub const TEXT_WORDS: &str = "<p class=\"text words\">";
 
 pub const TEXT_END: &str = "</p>\n";
 
-/// That something of the form isn't there as it is sent.
+/// The sentence that some of the form was passed over, or read as what it means.
 pub const PASSED_OVER: Text = (
     "<p>Some of the form was passed over, or read as what it means: lines before the first heading, blanks in a heading, tabs, small letters.</p>\n",
     "<p>Einiges im Spruch ist übergangen oder gelesen, wie es gemeint ist: Zeilen vor dem ersten Spruchkopf, Leerzeichen in einem Spruchkopf, Tabulatoren, Kleinbuchstaben.</p>\n",
 );
 
-/// The order in which the parts came: what stands before their numbers, and after them.
+/// The order in which the parts came: the words before and after the parts' numbers.
 pub const ORDER: Text = (
     "<p>The parts came in this order: ",
     "<p>Die Teile kamen in dieser Reihenfolge: ",
@@ -104,7 +106,7 @@ pub const ORDER: Text = (
 
 pub const ORDER_END: Text = (".</p>\n", ".</p>\n");
 
-/// That the parts aren't of one message: what stands before the numbers in their headings, and after them.
+/// The parts aren't of one message: the words before and after the numbers in the headings.
 pub const SEVERAL: Text = (
     "<p class=reason><b>Not one message.</b> The headings give different numbers of parts, or parts with one number differ or can’t be put together: ",
     "<p class=reason><b>Teile verschiedener Sprüche.</b> Die Spruchköpfe nennen verschiedene Zahlen von Teilen, oder Teile mit einer Nummer weichen voneinander ab oder passen nicht zusammen: ",
@@ -118,7 +120,7 @@ pub const SEVERAL_END: Text = (
 /// The sign between a part's number and the number of parts.
 pub const OF_PARTS: &str = "/";
 
-/// How often a part came: what stands before the number, and after it.
+/// How often a part came: the words before and after the number.
 pub const CAME: Text = ("<p>This part came ", "<p>Dieser Teil kam ");
 
 pub const CAME_END: Text = (
@@ -126,16 +128,16 @@ pub const CAME_END: Text = (
     "-mal. Ein Buchstabe, der in einer Fassung fehlt, ist aus einer anderen mit gleichen Schlüsseln und gleich vielen Buchstaben genommen.</p>\n",
 );
 
-/// What to ask for again: the part; then what of it.
+/// The checkbox to ask for words of a part again. The value is the part's number.
 pub const ASK: Text = (
     "<label><input type=checkbox> ask for part ~ again: <b>",
     "<label><input type=checkbox> von Teil ~ wiederholen lassen: <b>",
 );
 
-/// A group, before its number.
+/// The word before a group's number.
 pub const GROUP: Text = ("group ", "Gruppe ");
 
-/// Several groups, one after another: before the number of the first, and before that of the last.
+/// Several groups in a row: the words before the number of the first, and before the number of the last.
 pub const GROUPS: Text = ("groups ", "Gruppen ");
 
 pub const TO_GROUP: Text = (" to ", " bis ");
@@ -147,7 +149,7 @@ pub const ITS_KEYS: Text = (
     "Grundstellung und Schlüssel des Spruchkopfs",
 );
 
-/// The count in a heading; and the lines of the body, once the count is confirmed.
+/// What to ask for: the count in a heading; or also the lines of the body, once the count is confirmed.
 pub const ITS_COUNT: Text = ("its count", "Buchstabenzahl");
 
 pub const ITS_COUNT_OR_LINES: Text = (
@@ -157,10 +159,10 @@ pub const ITS_COUNT_OR_LINES: Text = (
 
 pub const ALL_OF_IT: Text = ("all of it", "alles");
 
-/// The end of the box for what to ask for.
+/// The end of the checkbox.
 pub const ASK_END: &str = "</b></label>\n";
 
-/// A part that isn't read: what stands before the reason, and after it.
+/// A part that isn't read: the words before and after the reason.
 pub const UNREAD: Text = (
     "<p class=reason><b>Not read.</b> ",
     "<p class=reason><b>Nicht lesbar.</b> ",
@@ -168,18 +170,17 @@ pub const UNREAD: Text = (
 
 pub const REASON_END: &str = "</p>\n";
 
-/// A line of the form, before its number.
+/// The word before a line's number.
 pub const LINE: Text = ("Line ", "Zeile ");
 
-/// Why a part isn't read. Before the heading's count; before the count of the letters that came; after it. A letter
-/// of the indicators: its number.
+/// The reasons why a part isn't read, from here to `NO_INTERNAL_KEY`; some stand in pieces around their values.
 pub const HEADING_DAMAGED: Text = (
     ": the heading is damaged.",
     ": Der Spruchkopf ist verstümmelt.",
 );
 
-/// A damaged heading: before the line as it came; before an example of a heading; after it. An example for each number of
-/// wheels, and for the Converter M-209.
+/// A damaged heading: the words before the line as it came, before an example of a heading, and after the example. The
+/// examples are for three wheels, for four wheels, and for the Converter M-209.
 pub const HEADING_CAME: Text = (" It came as “", " Er kam als „");
 
 pub const HEADING_LIKE: Text = ("”, and should be like ", "“ und sollte sein wie ");
@@ -209,7 +210,8 @@ pub const BAD_BYTE: Text = (
     "Ein Zeichen des Spruchs ist kein Buchstabe.",
 );
 
-/// A wrong sign: before its place in its line; before it; a sign that is no digit; after it.
+/// A wrong sign: the words before its place in its line, and before the sign; the word for a sign that isn't a digit;
+/// and the words after the sign.
 pub const LETTER_OF_LINE: Text = (", letter ", ", Buchstabe ");
 
 pub const COLON: &str = ": ";
@@ -224,8 +226,8 @@ pub const COUNT_CAME: Text = (", but ", ", eingegangen: ");
 
 pub const COUNT_END: Text = (" came.", ".");
 
-/// A part that is read by the letters that came: before what is wrong with its count. A damaged count: before the count of
-/// the letters that came; after it.
+/// A part that is read by count: the words before what is wrong with its count. A damaged count: the words before and
+/// after the number of letters that came.
 pub const BY_COUNT: Text = (
     "<p class=reason><b>Read by the letters that came.</b> ",
     "<p class=reason><b>Gelesen nach den eingegangenen Buchstaben.</b> ",
@@ -238,12 +240,12 @@ pub const COUNT_DAMAGED: Text = (
 
 pub const COUNT_DAMAGED_END: Text = (" letters came.", " Buchstaben.");
 
-/// A group that hasn't five letters: before its number; after it.
+/// A group that doesn't have five letters: the words before and after its number.
 pub const SHORT_GROUP: Text = (" Group ", " Gruppe ");
 
 pub const SHORT_GROUP_END: Text = (" hasn’t five letters.", " hat nicht fünf Buchstaben.");
 
-/// That each group has five letters: before the count of the letters that came; after it.
+/// Each group has five letters: the words before and after the number of letters that came.
 pub const FULL_GROUPS: Text = (
     " Each group but the last has five letters, so ",
     " Jede Gruppe bis auf die letzte hat fünf Buchstaben, also kann ",
@@ -251,7 +253,7 @@ pub const FULL_GROUPS: Text = (
 
 pub const FULL_GROUPS_END: Text = (" may be right.", " stimmen.");
 
-/// A line that isn't full: before it; before the count of its letters; after it.
+/// A short line: the words before the line, before the number of its letters, and after it.
 pub const GAP: &str = " ";
 
 pub const LINE_HAS: Text = (" has ", " hat ");
@@ -281,20 +283,20 @@ pub const NO_INTERNAL_KEY: Text = (
     "Die Kennbuchstaben ergeben keinen inneren Schlüssel.",
 );
 
-/// The sheet with the form for the radio: the model, and the day.
+/// The head of the sheet with the form for the radio. The values are the model and the day.
 pub const FORM: Text = (
     "<article id=form class=form>\n<header>\n<h1>~, day ~: form for the radio</h1>\n<p class=fields><span>To</span><span>From</span><span>Time</span><span>Sent by</span></p>\n</header>\n",
     "<article id=form class=form>\n<header>\n<h1>~, Tag ~: Funkspruch</h1>\n<p class=fields><span>An</span><span>Von</span><span>Uhrzeit</span><span>Befördert durch</span></p>\n</header>\n",
 );
 
-/// A part of the form: the part, the number of parts, the model, the day, the part, the number of parts, and the
-/// number of letters.
+/// The head of a part of the form. The values are its number, the number of parts, the model, the day, its number, the
+/// number of parts, and the number of letters.
 pub const FORM_PART: Text = (
     "<section>\n<h2>Part ~ of ~<span>~, day ~: form for the radio</span></h2>\n<p class=heading><span>part <b>PART ~/~</b></span><span>letters <b>~</b></span>",
     "<section>\n<h2>Teil ~ von ~<span>~, Tag ~: Funkspruch</span></h2>\n<p class=heading><span>Teil <b>PART ~/~</b></span><span>Buchstaben <b>~</b></span>",
 );
 
-/// The ground and the enciphered key in the heading of a rotor machine's part.
+/// The words before the ground setting and before the enciphered message key in the heading of a rotor machine's part.
 pub const FORM_GROUND: Text = ("<span>ground <b>", "<span>Grundstellung <b>");
 
 pub const FORM_KEY: Text = (
@@ -302,7 +304,7 @@ pub const FORM_KEY: Text = (
     "</b></span><span>Schlüssel, verschlüsselt <b>",
 );
 
-/// The end of the heading of a rotor machine's part; then the groups, and each group.
+/// The end of the heading of a rotor machine's part; the start of the groups; the start and the end of a group.
 pub const FORM_KEY_END: &str = "</b></span>";
 
 pub const FORM_GROUPS: &str = "</p>\n<div class=groups>";
@@ -311,7 +313,7 @@ pub const FORM_GROUP: &str = "<span>";
 
 pub const FORM_GROUP_END: &str = "</span>";
 
-/// What the groups of a part are.
+/// The note below a part that says which of its groups are fillers or indicators.
 pub const FORM_ROTOR_NOTE: Text = (
     "</div>\n<p class=note>Group 1: two fillers, then the group of the day.</p>\n</section>\n",
     "</div>\n<p class=note>Gruppe 1: zwei Füllbuchstaben, dann die Kenngruppe des Tages.</p>\n</section>\n",
@@ -327,7 +329,8 @@ pub const ARTICLE_END: &str = "</article>\n";
 
 // ---- What is told on standard error.
 
-/// A line about a part: its number, and the number of parts. What stands before what to ask for; the line's end after it.
+/// A line about a part. The values are its number and the number of parts. Then the words before what to ask for, and
+/// the line's end.
 pub const NOTE_PART: Text = ("Part ~ of ~: ", "Teil ~ von ~: ");
 
 pub const NOTE_ASK: Text = (" Ask for ", " Wiederholen lassen: ");
@@ -338,7 +341,7 @@ pub const LINE_END: &str = "\n";
 
 pub const NOTE_END: &str = ".\n";
 
-/// What is told of a part that is read.
+/// The notes on a part that is read.
 pub const NOTE_LOST: Text = ("Letters are lost.", "Buchstaben fehlen.");
 
 pub const NOTE_OTHER_DAY: Text = (
@@ -346,7 +349,7 @@ pub const NOTE_OTHER_DAY: Text = (
     "Der Spruch ist von einem anderen Tag oder aus einem anderen Schlüsselkreis.\n",
 );
 
-/// That the parts aren't of one message.
+/// The note that the parts aren't of one message.
 pub const NOTE_SEVERAL: Text = (
     "Not one message: the headings give different numbers of parts, or parts with one number differ or can’t be put together.\n",
     "Teile verschiedener Sprüche: Die Spruchköpfe nennen verschiedene Zahlen von Teilen, oder Teile mit einer Nummer weichen voneinander ab oder passen nicht zusammen.\n",

@@ -34,7 +34,7 @@ pub(crate) fn draw_missing<W: Sink>(sink: &mut W, language: Language, name: Part
     draw_ask(sink, language, name, language.text(ALL_OF_IT));
 }
 
-/// Writes the box for `words`.
+/// Writes the checkbox to ask for `words` of a part again.
 pub(crate) fn draw_ask<W: Sink>(sink: &mut W, language: Language, name: PartName, words: &str)
     ensures { Draws W.taken W.has_failed sink.old sink.new
         (ask_text language name.part words.now) }
@@ -113,7 +113,7 @@ pub(crate) fn draw_heading_fault<W: Sink>(
     draw(sink, fault);
 }
 
-/// Writes line `number` of a part that begins on line `line` of the form.
+/// Writes the words for line `number` of a part that begins on line `line` of the form.
 pub(crate) fn draw_line_words<W: Sink>(sink: &mut W, language: Language, line: usize, number: usize)
     ensures { Draws W.taken W.has_failed sink.old sink.new (line_words language line number) }
 {
@@ -121,14 +121,14 @@ pub(crate) fn draw_line_words<W: Sink>(sink: &mut W, language: Language, line: u
     draw(sink, Buffer::new().format(line_of_form(line, number)));
 }
 
-/// Line `number` of a part that begins on line `line` of the form, by its number in the form.
+/// The number in the form of line `number` of a part that begins on line `line` of the form.
 fn line_of_form(line: usize, number: usize) -> u128
     ensures { result ≡ line + number - 1 }
 {
     (line as u128 + number as u128).saturating_sub(1)
 }
 
-/// Writes the wrong sign of a part that begins on line `line` of the form.
+/// Writes what is wrong with a sign of a part that begins on line `line` of the form.
 fn draw_bad_byte<W: Sink>(sink: &mut W, language: Language, line: usize, sign: &Option<WrongSign>)
     ensures { Draws W.taken W.has_failed sink.old sink.new
         (bad_byte_text language line sign.now) }
@@ -150,7 +150,7 @@ fn draw_sign<W: Sink>(sink: &mut W, language: Language, line: usize, sign: Wrong
     draw_in(sink, language, NO_LETTER);
 }
 
-/// Writes a wrong sign: a digit as it is; any other is only called a sign.
+/// Writes a wrong sign: the digit itself, or "this sign" for any other sign.
 fn draw_sign_words<W: Sink>(sink: &mut W, language: Language, byte: u8)
     ensures { Draws W.taken W.has_failed sink.old sink.new (sign_words language byte) }
 {
@@ -161,7 +161,7 @@ fn draw_sign_words<W: Sink>(sink: &mut W, language: Language, byte: u8)
     }
 }
 
-/// Writes the group of the body in which a wrong sign stands.
+/// Writes the words for the group in which a wrong sign stands.
 fn draw_sign_group<W: Sink>(sink: &mut W, language: Language, sign: &Option<WrongSign>)
     ensures { Draws W.taken W.has_failed sink.old sink.new (sign_group language sign.now) }
 {
@@ -171,7 +171,7 @@ fn draw_sign_group<W: Sink>(sink: &mut W, language: Language, sign: &Option<Wron
     }
 }
 
-/// Writes how many letters the heading counts, and how many came.
+/// Writes the heading's count and the number of letters that came.
 pub(crate) fn draw_counts<W: Sink>(sink: &mut W, language: Language, counted: usize, came: usize)
     ensures { Draws W.taken W.has_failed sink.old sink.new
         (counts_text language counted came) }
@@ -183,7 +183,7 @@ pub(crate) fn draw_counts<W: Sink>(sink: &mut W, language: Language, counted: us
     draw_in(sink, language, COUNT_END);
 }
 
-/// Writes the counts of the heading and of the letters that came, and the line in which letters are missing.
+/// Writes the heading's count, the number of letters that came, and the line in which letters are missing.
 fn draw_count_wrong<W: Sink>(sink: &mut W, language: Language, part: &DamagedPart)
     ensures { Draws W.taken W.has_failed sink.old sink.new (count_text language part.now) }
 {
@@ -200,7 +200,7 @@ fn draw_short<W: Sink>(sink: &mut W, language: Language, line: usize, short: Opt
     }
 }
 
-/// Writes how many letters a line has that isn't full.
+/// Writes how many letters the line `short` has of the 50 that a full line has.
 fn draw_short_words<W: Sink>(sink: &mut W, language: Language, line: usize, short: ShortLine)
     ensures { Draws W.taken W.has_failed sink.old sink.new (short_words language line short) }
 {
@@ -211,7 +211,8 @@ fn draw_short_words<W: Sink>(sink: &mut W, language: Language, line: usize, shor
     draw_in(sink, language, FULL_LINE);
 }
 
-/// Writes what to ask for if the count is wrong: the ten groups of a line that isn't full, if it explains the count.
+/// Writes what to ask for if the count is wrong: the ten groups of the short line that explains the count, if there is
+/// one.
 fn draw_short_groups<W: Sink>(
     sink: &mut W,
     language: Language,
@@ -229,7 +230,7 @@ fn draw_short_groups<W: Sink>(
     }
 }
 
-/// Writes what to ask for if the count is wrong or damaged. `group`: the first group that hasn't five letters.
+/// Writes what to ask for if the count is wrong or damaged. `group` is the first group that doesn't have five letters.
 pub(crate) fn draw_count_asked<W: Sink>(
     sink: &mut W,
     language: Language,
@@ -254,7 +255,7 @@ fn draw_count_and_group<W: Sink>(sink: &mut W, language: Language, group: usize)
     draw_group_words(sink, language, group);
 }
 
-/// How many letters the body has, by the heading.
+/// The letter count in the heading; 0 if the heading is damaged.
 pub(crate) fn heading_count(numbers: &Option<PartNumbers>) -> usize
     ensures { result ≡ heading_count numbers.now }
 {
@@ -264,7 +265,8 @@ pub(crate) fn heading_count(numbers: &Option<PartNumbers>) -> usize
     }
 }
 
-/// Where the key letter `number` stands among the indicators: the chosen letter stands twice.
+/// The place of key letter `number` in the first copy of the indicators. The chosen letter, number 0, stands at places
+/// 1 and 2.
 fn indicator_place(number: u8) -> u16
     ensures { result ≡ indicator_place number }
 {
@@ -302,7 +304,7 @@ pub(crate) fn draw_asked<W: Sink>(
     }
 }
 
-/// Writes the two groups with a key letter, of a body with this many letters.
+/// Writes the words for the two groups with a key letter, in a body of `came` letters.
 fn draw_key_letter_groups<W: Sink>(sink: &mut W, language: Language, came: usize, number: u8)
     ensures { Draws W.taken W.has_failed sink.old sink.new
         (key_letter_groups language came number) }
@@ -313,7 +315,7 @@ fn draw_key_letter_groups<W: Sink>(sink: &mut W, language: Language, came: usize
     draw_group_words(sink, language, (came / 5).saturating_sub(2) + group);
 }
 
-/// Writes the groups with the indicators, of a body with this many letters: the first two and the last two.
+/// Writes the words for the groups with the indicators: the first two and the last two, in a body of `came` letters.
 fn draw_indicator_groups<W: Sink>(sink: &mut W, language: Language, came: usize)
     ensures { Draws W.taken W.has_failed sink.old sink.new
         (indicator_groups language came) }

@@ -5,7 +5,7 @@ use Rattle.std.specs.declared.io.ErrorKind.TheVariants.{AlreadyExists, OutOfMemo
 use Rattle.kd_new_file.specs.declared.new_file_fault.NewFileFault.{NewFileFault}
 use Rattle.kd_new_file.specs.declared.new_file_fault.NewFileFault.TheVariants as faults
 
--- a name that is taken, no memory, or a failed device
+-- the fault for an error of this kind: a name that is taken, no memory, or otherwise a failed device
 abbrev pub fault_of_kind : ErrorKind → NewFileFault
 fault_of_kind AlreadyExists = faults.Taken
 fault_of_kind OutOfMemory = faults.NoMemory

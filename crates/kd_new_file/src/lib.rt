@@ -1,4 +1,4 @@
-//! New files, which are there whole or not at all, and never in place of another file.
+//! New files, which are there as a whole or not at all, and never replace another file.
 #![tactic(auto)]
 
 mod host_new_files;

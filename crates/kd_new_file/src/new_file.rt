@@ -1,4 +1,4 @@
-//! A new file is begun under another name, and gets its own once it is whole.
+//! A new file is written under another name, and gets its own name once it is whole.
 ghost use Rattle.std.specs.Prelude.{◌≡◌, ◌≢◌, ◌↔◌, ◌++◌, [], ℕ, codes, decimal, Option, Some, Err, IfErr, IfOk, IfSome, IsSome, OnErr, OnOk, false, string_bytes};
 ghost use Rattle.std.specs.Option.{option_map};
 ghost use Rattle.kd_new_file.specs.NewFiles.{AddsFile, FilesByName};
@@ -7,12 +7,12 @@ use crate::new_file_fault::NewFileFault;
 use crate::new_files::NewFiles;
 use std::alloc::Global;
 
-/// How many other names are tried.
+/// How many other names are tried at most.
 const NAMES: u8 = 100;
 
-/// Begins a new file, under another name in the folder of `name`. Returns this name, and the empty file.
+/// Begins a new file under another name, in the folder of `name`. Returns this other name, and the empty file.
 ///
-/// The other name is `name`, then `.part` and a number: the first from 1 to 100 that no file has.
+/// The other name is `name`, then `.part` and the first number from 1 to 100 that no file has.
 pub fn begin<N: NewFiles>(
     alloc: Global,
     files: &mut N,
@@ -41,9 +41,9 @@ pub fn begin<N: NewFiles>(
     Err(NewFileFault::Device)
 }
 
-/// Gives the whole new file `file`, which was begun under the name `other`, the name `name`, and no other.
+/// Renames the whole new file `file`, which was begun under the name `other`, to `name`.
 ///
-/// Returns `Taken` if there is a file called `name`. After a fault there is no new file, under neither name.
+/// Returns `Taken` if there is a file called `name`. After a fault, the new file is gone from both names.
 pub fn publish<N: NewFiles>(
     files: &mut N,
     file: N::Written,

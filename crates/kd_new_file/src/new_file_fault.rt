@@ -7,7 +7,7 @@ use std::io;
 pub enum NewFileFault {
     /// There is a file with this name already.
     Taken,
-    /// The folder takes no new file, or a write failed.
+    /// The folder can't take a new file, or a write failed.
     Device,
     /// Memory ran out.
     NoMemory,

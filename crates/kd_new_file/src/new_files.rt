@@ -11,9 +11,9 @@ pub trait NewFiles {
     /// A file that is being written.
     type Written: Sink + Drop;
 
-    /// The files, by their names. `None`: they aren't known, as the host's.
+    /// The files, by their names. `None` if they aren't known, like the host's.
     ///
-    /// A file that is being written has no bytes yet.
+    /// A file that is still being written counts as empty.
     ghost held: { Self → Option FilesByName } = { λ _. None };
 
     /// Makes an empty file called `name`. Returns `Taken` if there is a file with this name.
@@ -26,7 +26,7 @@ pub trait NewFiles {
             (λ files. (result ≡ Err NewFileFault.Taken) ↔ IsSome (files name.now)) }
         ensures refused { OnErr result (held self.new ≡ held self.old) };
 
-    /// Stores all bytes that `file` has taken, and gives them the name `name`, too. The file was made as `other`.
+    /// Stores all bytes that `file` has taken, and gives this file, which was made as `other`, the second name `name`.
     ///
     /// Returns `Taken` if there is a file called `name`.
     fn link(&mut self, file: Self::Written, other: &str, name: &str) -> Result<(), NewFileFault>

@@ -1,4 +1,5 @@
--- The boxes to tick: for each setting the words for the hand and, but for pins, its line.
+-- The checkboxes: each has the words for one setting and, except for pins, the setting's line. The box of a machine has
+-- its spare wheels and reflectors.
 use Rattle.std.specs.Prelude.{decimal, ℕ, ◌-◌, ◌==◌, Bool, if◌then◌else◌, List, [], ◌∷◌, ◌++◌, flat_map}
 use Rattle.std.specs.Prelude.{Option, Some, None}
 use Rattle.kd_tables.specs.declared.lug.Lug.{Lug}
@@ -29,61 +30,61 @@ use Rattle.kd_pictures.specs.Template.{filled, letter_text, ordinal_text}
 use Rattle.kd_pictures.specs.Wheels.{is_seated}
 use Rattle.kd_pictures.specs.Words.{mark_text, word_text}
 
--- the name of a slot: from the right, right, middle, left, and Greek if there is a fourth
+-- the name of a slot, counted from the right: right, middle, left, Greek
 abbrev pub slot_name : Model → ℕ → Word
 slot_name model slot =
     let after = slots_of model - slot in
     if after == 0 then Right else if after == 1 then Middle else if after == 2 then Left else Greek
 
--- the slot that holds the wheel; `None` if the wheel is in the box
+-- the slot that holds the wheel; `None` if the wheel is a spare one in the box
 abbrev pub slot_holding : Parts → Wheel → List ℕ → Option ℕ
 slot_holding m wheel [] = None
 slot_holding m wheel (slot ∷ slots) = if is_seated m slot wheel then Some slot else slot_holding m wheel slots
 
--- where the ring of a wheel from the box has to stand
+-- the words for the letter on which the ring of a spare wheel has to stand; none without a letter
 abbrev pub box_ring_text : Language → Option ℕ → List ℕ
 box_ring_text l None = []
 box_ring_text l (Some ring) = filled (text_in l BOX_RING) (letter_text ring ∷ ordinal_text ring ∷ [])
 
--- a wheel to be put into a slot from the box, with the ring that it has on the machine after the settings
+-- the checkbox to put a spare wheel into a slot, with the ring that it has after the settings
 abbrev pub from_box_text : Page → Setting → ℕ → Wheel → List ℕ
 from_box_text page x slot wheel =
     filled (text_in page.language SEAT) (
     decimal slot ∷ word_text page.language (slot_name (model_of page.after) slot) ∷ wheel_text wheel ∷ [])
     ++ box_ring_text page.language (machine_ring page.after wheel) ++ filled SEAT_END.now (setting_line x ∷ [])
 
--- a wheel to be put into a slot, and where it is before
+-- the checkbox to put a wheel into a slot, with the slot in which it was before, if any
 abbrev pub seat_text : Page → Setting → ℕ → Wheel → Option ℕ → List ℕ
 seat_text page x slot wheel None = from_box_text page x slot wheel
 seat_text page x slot wheel (Some old) = filled (text_in page.language SEAT_FROM) (
     decimal slot ∷ word_text page.language (slot_name (model_of page.after) slot) ∷ wheel_text wheel ∷ decimal old
     ∷ setting_line x ∷ [])
 
--- the left lug of a bar, or the right one
+-- the word for a bar's left or right lug
 abbrev pub lug_word : Lug → Word
 lug_word lugs.Left = LeftLug
 lug_word lugs.Right = RightLug
 
--- where a lug is before, if its bar is a machine's
+-- the words for the place of a lug before the settings; none if the machine has no bar with this number
 abbrev pub lug_from_text : Language → Lug → Option (Place × Place) → List ℕ
 lug_from_text l lug None = []
 lug_from_text l lugs.Left (Some bar) = filled (text_in l LUG_FROM) (place_text bar.0 ∷ [])
 lug_from_text l lugs.Right (Some bar) = filled (text_in l LUG_FROM) (place_text bar.1 ∷ [])
 
--- a lug to be moved to a place of its bar, and where it is before
+-- the checkbox to move a lug to a place of its bar, with its place before
 abbrev pub lug_text : Language → Setting → Lug → Option (Place × Place) → Place → List ℕ
 lug_text l x lug bar place =
     filled LUG.now (word_text l (lug_word lug) ∷ []) ++ lug_from_text l lug bar
     ++ filled (text_in l LUG_END) (place_text place ∷ setting_line x ∷ [])
 
--- a pin's mark, and the word for setting it so
+-- the mark of a pin that is effective, or not; then the word for setting it so
 abbrev pub pin_mark : Bool → Mark
 pin_mark effective = if effective then Effective else Ineffective
 
 abbrev pub pin_word : Bool → Word
 pin_word effective = if effective then On else Off
 
--- the box of a setting on a page
+-- the checkbox of a setting on a page
 abbrev pub box_text : Page → Setting → List ℕ
 box_text page (settings.Pull cable letter) =
     filled PLUG.now (letter_text letter ∷ setting_line (settings.Pull cable letter) ∷ [])
@@ -104,6 +105,6 @@ box_text page (settings.LugTo bar lug place) =
 abbrev pub box_at : Page → Spot → Setting → List ℕ
 box_at page spot x = if is_at spot x then box_text page x else []
 
--- the boxes of the page's settings at a spot, in their order
+-- the checkboxes at a spot of the page, in the order of its settings
 abbrev pub boxes_at : Page → Spot → List ℕ
 boxes_at page spot = flat_map (box_at page spot) page.settings

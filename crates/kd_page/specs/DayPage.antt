@@ -17,13 +17,14 @@ use Rattle.kd_page.specs.WheelSteps.{rings_step, seats_step}
 use Rattle.kd_page.specs.Windows.{letters_step, windows_step}
 use Rattle.kd_pictures.specs.Words.{is_converter, mark_text, model_name}
 
--- the head of the day
+-- the head of the day: its number, the model, and the number of settings
 abbrev pub day_head : Page → List ℕ
 day_head page = filled (text_in page.language texts.DAY) (
     decimal page.day ∷ model_name (model_of page.after) ∷ decimal page.day
     ∷ count_text page.language (length page.settings) ∷ [])
 
--- a rotor machine: what to compare, and the picture of its wheels before and after
+-- what to compare on a rotor machine, with pictures of its wheels before and after the settings; with one picture if
+-- there are no settings
 abbrev pub wheels_text : Page → List ℕ
 wheels_text page =
     if length page.settings == 0 then one_band page.language page.after
@@ -33,7 +34,8 @@ unfoldable pub rotor_text : Page → List ℕ
 rotor_text page =
     wheels_text page ++ rings_step page ++ seats_step page ++ out_step page ++ in_step page ++ windows_step page
 
--- a Converter: what to compare first. Lugs stand before the settings at two of the marks.
+-- what to compare on a Converter before the first step. The marks are those of the places at which lugs are before the
+-- settings: lugs that stay, and lugs that leave.
 unfoldable pub compare_pins : Language → List ℕ
 compare_pins l = filled (text_in l texts.COMPARE_PIN) (mark_text LugStays ∷ mark_text LugLeaves ∷ [])
 
@@ -43,7 +45,7 @@ pin_text page = compare_pins page.language ++ pins_step page ++ lugs_step page +
 abbrev pub steps_text : Page → List ℕ
 steps_text page = if is_converter (model_of page.after) then pin_text page else rotor_text page
 
--- The text of a page: it shows the machine before the settings and after them, the settings in their order, each with a
--- box, and the test.
+-- The text of a day's page: its head; the steps, in which each setting has a checkbox; and the test. Pictures show the
+-- machine before and after the settings.
 unfoldable pub day_text : Page → List ℕ
 day_text page = day_head page ++ steps_text page ++ test_step page ++ texts.DAY_END.now

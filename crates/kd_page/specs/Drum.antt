@@ -1,4 +1,4 @@
--- The table of a Converter's bars: the lugs that stay, leave and come, and the boxes of the lugs to move.
+-- The table of a Converter's bars: the lugs that stay, leave and come, and the checkboxes of the lugs to move.
 use Rattle.std.specs.Prelude.{decimal, ℕ, ◌==◌, Bool, true, false, ◌&&◌, ◌||◌, if◌then◌else◌, List, [], ◌∷◌, ◌++◌}
 use Rattle.std.specs.Prelude.{flat_map}
 use Rattle.std.specs.Prelude.{Option, Some, None}
@@ -24,7 +24,7 @@ use Rattle.kd_pictures.specs.Words.{mark_text}
 abbrev pub has_lug : Place × Place → Place → Bool
 has_lug bar place = is_same_place bar.0 place || is_same_place bar.1 place
 
--- the cell of a place that had a lug before, or has one after
+-- the mark of a place of a bar: whether it had a lug before the settings, and whether it has one after them
 abbrev pub cell_mark : Bool → Bool → Option Mark
 cell_mark true true = Some LugStays
 cell_mark true false = Some LugLeaves
@@ -41,16 +41,16 @@ lug_cell was is place = marked_cell (cell_mark (has_lug was place) (has_lug is p
 abbrev pub is_same_standing : Place × Place → Place × Place → Bool
 is_same_standing was is = is_same_place was.0 is.0 && is_same_place was.1 is.1
 
--- the bar's number, bold if its lugs change
+-- the number of a bar, in bold if its lugs change
 abbrev pub bar_head : ℕ → Place × Place → Place × Place → List ℕ
 bar_head bar was is =
     filled (if is_same_standing was is then texts.BAR.now else texts.SET_BAR.now) (decimal bar ∷ [])
 
--- the end of a row with this many boxes, which has two cells for them
+-- the end of a row with `count` checkboxes, which fills the rest of their two cells
 abbrev pub bar_end : ℕ → List ℕ
 bar_end count = if count == 0 then texts.NO_BOXES.now else if count == 1 then texts.ONE_BOX.now else texts.BOXES.now
 
--- the row of a bar with its standing before and after
+-- the row of a bar whose lugs are at the places `was` before the settings, and at the places `is` after them
 abbrev pub bar_item : Page → ℕ → Place × Place → Place × Place → List ℕ
 bar_item page bar was is =
     bar_head bar was is ++ flat_map (lug_cell was is) places ++ boxes_at page (row_spot Lugs bar)
@@ -61,7 +61,7 @@ bar_row page bar (Some was) (Some is) = bar_item page bar was is
 bar_row page bar (Some was) None = []
 bar_row page bar None is = []
 
--- what the marks mean, and the head of the table
+-- the meaning of the marks, and the head of the table
 unfoldable pub drum_head : Language → List ℕ
 drum_head l =
     filled (text_in l texts.DRUM) (mark_text LugStays ∷ mark_text LugLeaves ∷ mark_text LugComes ∷ [])

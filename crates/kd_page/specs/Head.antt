@@ -10,12 +10,12 @@ use Rattle.kd_page.specs.declared.head.ListedDay.{ListedDay}
 use Rattle.kd_pictures.specs.declared.texts.TheConstants.{BODY, FOOT, NAV, NAV_DAY, NAV_END, STYLE}
 use Rattle.kd_pictures.specs.declared.texts.TheConstants.{TITLE_DAY, TITLE_DAYS}
 
--- the last of these days
+-- the last of the days `day` and `days`
 abbrev pub last_of : ListedDay → List ListedDay → ListedDay
 last_of day [] = day
 last_of day (next ∷ days) = last_of next days
 
--- the title: the model, and the day, or the first day and the last
+-- the title: the model, and the day; for several days, the first and the last
 abbrev pub title_text : Language → Model → ListedDay → List ListedDay → List ℕ
 title_text l model first [] = filled (text_in l TITLE_DAY) (model_name model ∷ decimal first.day ∷ [])
 title_text l model first (next ∷ days) =
@@ -28,7 +28,7 @@ unfoldable pub list_of_days : Language → ListedDay → List ListedDay → List
 list_of_days l first others =
     text_in l NAV ++ listed_text l first ++ flat_map (listed_text l) others ++ NAV_END.now
 
--- the list of the days, if there are several
+-- the list of the days, if there are several of them
 abbrev pub nav_text : Language → ListedDay → List ListedDay → List ℕ
 nav_text l first [] = []
 nav_text l first (next ∷ days) = list_of_days l first (next ∷ days)
@@ -38,6 +38,6 @@ unfoldable pub head_text : Language → Model → ListedDay → List ListedDay �
 head_text l model first days =
     file_head l ++ title_text l model first days ++ STYLE.now ++ BODY.now ++ nav_text l first days
 
--- the whole file: the head, the pages of the days, and the foot
+-- the whole file: its head, the pages of the days, and its foot
 unfoldable pub file_text : Language → Model → ListedDay → List ListedDay → List ℕ → List ℕ
 file_text l model first days pages = head_text l model first days ++ pages ++ FOOT.now

@@ -1,5 +1,5 @@
--- A page marks a change only where its list has a setting; of an Enigma's windows nothing is said. On a Converter's page,
--- pins and lugs that stay have marks, too.
+-- A page marks a change of a thing only if its list has a setting of this thing. This says nothing of an Enigma's
+-- windows. A Converter's page also has marks for pins and lugs that stay.
 use Rattle.std.specs.Prelude.{◌≡◌, ℕ, nat_eq, Bool, true, false, ◌&&◌, List}
 use Rattle.std.specs.List.{list_any}
 use Rattle.kd_tables.specs.declared.wheel.Wheel.{Wheel}
@@ -49,8 +49,8 @@ turns_pin_wheel wheel _ = false
 -- ---- The laws. A page marks a change where a thing isn't the same on machine `m`, before the settings, as on machine
 -- `n`, after them.
 
--- A list leads from `m` to `n`. What no setting of the list sets is the same before and after. Of wheels, this says only
--- that no slot has a new wheel that the list doesn't seat there.
+-- The list leads from `m` to `n`. A thing that no setting of the list sets is the same before and after. For wheels: a
+-- slot has no new wheel that the list doesn't seat there.
 pub record MarksHaveSettings (m n : Parts) (list : List Setting) : Type 0 where
   pub rings : (wheel : Wheel) → list_any (sets_ring wheel) list ≡ false → machine_ring n wheel ≡ machine_ring m wheel
   pub reflector : list_any sets_reflector list ≡ false → machine_reflector n ≡ machine_reflector m

@@ -1,10 +1,11 @@
--- What the page of a day shows.
+-- The values that the page of a day shows.
 use Rattle.std.specs.Prelude.{ℕ, List}
 use Rattle.kd_state.specs.declared.machine.parts.Parts.{Parts}
 use Rattle.kd_state.specs.declared.setting.Setting.{Setting}
 use Rattle.kd_pictures.specs.declared.language.Language.{Language}
 
--- A day's page in a language: the machine before the settings, the machine after them, and the settings in their order.
+-- A day's page in a language: the machine before the settings, the machine after them, and the settings in the order of
+-- the page.
 pub record Page : Type 0 where
   pub language : Language
   pub day : ℕ

@@ -1,4 +1,4 @@
--- The boxes of a page, read from the top, and the order in which settings are the page's boxes.
+-- The settings whose checkboxes a page has, read from the top, and the order in which these are all its settings.
 use Rattle.std.specs.Prelude.{ℕ, ◌<◌, ◌≤◌, List, [], ◌∷◌, ◌++◌, filter, flat_map, ◌≡◌, if◌then◌else◌}
 use Rattle.kd_tables.specs.declared.model.Model.{Model}
 use Rattle.kd_tables.specs.Permutation.{alphabet}
@@ -18,12 +18,13 @@ settings_at spot settings = filter (is_at spot) settings
 abbrev pub row_by_row : Step → List ℕ → List Setting → List Setting
 row_by_row step rows settings = flat_map (λ row. settings_at (row_spot step row) settings) rows
 
--- the settings of the pins, wheel by wheel, and on each wheel letter by letter
+-- the pins' settings, wheel by wheel, and on each wheel letter by letter
 abbrev pub pin_by_pin : List Setting → List Setting
 pin_by_pin settings =
     flat_map (λ wheel. flat_map (λ letter. settings_at (pin_spot wheel letter) settings) alphabet) PIN_WHEELS
 
--- the settings whose boxes the page has, from the top of the page
+-- the settings whose checkboxes the page has, from the top of the page; for rotor machines, for Converters, and for any
+-- model
 abbrev pub rotor_boxes : List Setting → List Setting
 rotor_boxes settings =
     settings_at (step_spot Rings) settings ++ settings_at (step_spot Seats) settings
@@ -37,7 +38,7 @@ page_boxes model settings = if is_converter model then pin_boxes settings else r
 
 -- ---- The order of a page.
 
--- The items' numbers never fall; they are at least `from`, and below `end`.
+-- The items' keys never fall; they are at least `from`, and below `end`.
 abbrev pub IsRanked : {X : Type 0} → (X → ℕ) → ℕ → ℕ → List X → Type 0
 IsRanked key from end [] = Unit {0}
 IsRanked key from end (x ∷ xs) = (from ≤ key x) × (key x < end) × IsRanked key (key x) end xs
@@ -45,7 +46,7 @@ IsRanked key from end (x ∷ xs) = (from ≤ key x) × (key x < end) × IsRanked
 abbrev pub step_number : Setting → ℕ
 step_number x = step_rank (step_of x)
 
--- The settings come step by step. In the table of a step, they come row by row.
+-- The settings of a rotor machine come step by step; within a step with a table, they come row by row.
 pub record IsRotorOrder (settings : List Setting) : Type 0 where
   pub steps : IsRanked step_number 0 7 settings
   pub no_pins : settings_at (step_spot Pins) settings ≡ []
@@ -54,7 +55,8 @@ pub record IsRotorOrder (settings : List Setting) : Type 0 where
   pub «in» : IsRanked row_of 1 14 (settings_at (step_spot PlugsIn) settings)
   pub turns : IsRanked row_of 1 5 (settings_at (step_spot Turns) settings)
 
--- The settings come step by step: pins wheel by wheel, and on each wheel letter by letter; lugs bar by bar.
+-- The settings of a Converter come step by step: pins wheel by wheel, and on each wheel letter by letter; lugs bar by
+-- bar.
 pub record IsPinOrder (settings : List Setting) : Type 0 where
   pub steps : IsRanked step_number 4 7 settings
   pub pins : IsRanked row_of 1 7 (settings_at (step_spot Pins) settings)
@@ -62,7 +64,8 @@ pub record IsPinOrder (settings : List Setting) : Type 0 where
   pub lugs : IsRanked row_of 1 28 (settings_at (step_spot Lugs) settings)
   pub turns : IsRanked row_of 1 7 (settings_at (step_spot Turns) settings)
 
--- If settings are in the order of a page, the page's boxes, read from the top, are these settings in this order.
+-- If settings are in the order of a page, the page's checkboxes, read from the top, are for these settings in this
+-- order.
 abbrev pub RotorBoxesAreTheSettings : Type 0
 RotorBoxesAreTheSettings = (settings : List Setting) → IsRotorOrder settings → rotor_boxes settings ≡ settings
 

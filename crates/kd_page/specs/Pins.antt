@@ -1,4 +1,4 @@
--- The table of a Converter's pins: which are effective after the settings, and which change.
+-- The table of a Converter's pins: which of them are effective after the settings, and which change.
 use Rattle.std.specs.Prelude.{decimal, ℕ, ◌==◌, Bool, false, not, if◌then◌else◌, List, [], ◌∷◌, ◌++◌, flat_map, take}
 use Rattle.std.specs.Prelude.{drop}
 use Rattle.std.specs.Prelude.{Option, Some, None}
@@ -23,15 +23,15 @@ use Rattle.kd_pictures.specs.Words.{mark_text}
 abbrev pub pin_spot : ℕ → ℕ → Spot
 pin_spot wheel letter = record { step = Pins; row = Some wheel; cell = Some letter }
 
--- whether the pin was so before
+-- whether the pin was as effective before the settings as it is after them
 abbrev pub is_same_pin : Bool → Option Bool → Bool
 is_same_pin effective was = option_map_or (λ old. if old then effective else not effective) was false
 
--- a pin that stays, with its letter and a mark: effective or not
+-- a pin without a setting: its letter, and the mark for effective or ineffective
 abbrev pub pin_shown : ℕ → Bool → List ℕ
 pin_shown letter effective = filled texts.PIN_SHOWN.now (letter_text letter ∷ mark_text (pin_mark effective) ∷ [])
 
--- what the cell of a pin has inside: its box, or the pin
+-- the content of a pin's cell: its checkbox; if it has no setting, its letter and mark
 abbrev pub pin_inside : Page → ℕ → ℕ → Bool → List ℕ
 pin_inside page wheel letter effective =
     let spot = pin_spot wheel letter in
@@ -44,7 +44,7 @@ abbrev pub pin_item : Page → ℕ → ℕ → Bool → List ℕ
 pin_item page wheel letter effective =
     cell_text (is_same_pin effective (machine_pin page.before wheel letter)) ++ pin_inside page wheel letter effective
 
--- the cell of a pin after the settings, which is framed unless it was so before; empty if the wheel lacks the letter
+-- the cell of a pin after the settings, framed if it changes; empty if the wheel doesn't have the letter
 abbrev pub pin_cell : Page → ℕ → ℕ → Option Bool → List ℕ
 pin_cell page wheel letter None = texts.NO_PIN.now
 pin_cell page wheel letter (Some effective) = pin_item page wheel letter effective
@@ -53,23 +53,23 @@ abbrev pub pin_cells : Page → ℕ → List ℕ → List ℕ
 pin_cells page wheel letters =
     flat_map (λ letter. pin_cell page wheel letter (machine_pin page.after wheel letter)) letters
 
--- the beginning of the lines of a wheel's pins
+-- the words with which the settings lines of a wheel's pins begin; none if no pin changes
 abbrev pub pin_lines : ℕ → ℕ → List ℕ
 pin_lines wheel count = if count == 0 then [] else filled texts.PIN_LINES.now (decimal wheel ∷ [])
 
--- the head of a wheel of which this many pins change
+-- the head of a wheel, `count` pins of which change
 abbrev pub pin_head : Language → ℕ → ℕ → List ℕ
 pin_head l wheel count =
     filled (text_in l texts.PIN_WHEEL) (decimal wheel ∷ count_text l count ∷ []) ++ pin_lines wheel count
 
--- a wheel: its head, and two rows of letters, each letter in its own column
+-- a wheel in the table: its head, and two rows of 13 letters
 abbrev pub pin_wheel : Page → ℕ → List ℕ
 pin_wheel page wheel =
     pin_head page.language wheel (count_at (row_spot Pins wheel) page.settings)
     ++ texts.PIN_ROW.now ++ pin_cells page wheel (take 13 alphabet)
     ++ texts.PIN_ROW.now ++ pin_cells page wheel (drop 13 alphabet) ++ texts.ROW_END.now
 
--- what the marks mean
+-- the meaning of the marks
 unfoldable pub pins_caption : Language → List ℕ
 pins_caption l = filled (text_in l texts.PINS) (mark_text Effective ∷ mark_text Ineffective ∷ [])
 

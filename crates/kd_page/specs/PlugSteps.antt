@@ -1,4 +1,4 @@
--- The two steps at the plugboard: the plugs to take out, and the plugs to put in. Picture and table stand side by side.
+-- The two steps at the plugboard: the plugs to take out, and the plugs to put in. A picture stands beside each table.
 use Rattle.std.specs.Prelude.{decimal, ℕ, ◌==◌, if◌then◌else◌, List, [], ◌∷◌, ◌++◌, flat_map}
 use Rattle.kd_pictures.specs.declared.board.Plugs.TheVariants.{In, Out}
 use Rattle.kd_pictures.specs.declared.numbers.TheConstants.{CABLES}
@@ -14,7 +14,7 @@ use Rattle.kd_page.specs.Spots.{count_at, row_spot, step_spot}
 use Rattle.kd_page.specs.Steps.{idle_text, step_text}
 use Rattle.kd_pictures.specs.Template.{filled}
 
--- the row of a cable, with its boxes; no row if none of its plugs move
+-- the row of a cable, with its checkboxes; no row if none of its plugs moves
 abbrev pub moving_row : Page → Step → ℕ → List ℕ
 moving_row page step number =
     filled texts.PLUG_ROW.now (decimal number ∷ []) ++ boxes_at page (row_spot step number) ++ texts.ROW_END.now
@@ -23,7 +23,7 @@ abbrev pub plug_row : Page → Step → ℕ → List ℕ
 plug_row page step number =
     if count_at (row_spot step number) page.settings == 0 then [] else moving_row page step number
 
--- what the marks mean and the table of the plugs to move, under this head
+-- the table of the plugs to move; `head` has the meaning of the marks, and the table's head
 unfoldable pub plug_table : Page → List ℕ → Step → List ℕ
 plug_table page head step = head ++ flat_map (plug_row page step) CABLES ++ texts.PLUGS_END.now
 
@@ -32,13 +32,13 @@ plugs_out page count =
     step_text page words.PlugsOut count ++ board_text page.language Out page.before page.after
     ++ plug_table page (text_in page.language texts.PLUGS_OUT) PlugsOut ++ texts.BOARD_STEP_END.now
 
--- the plugs to take out; if there are none, nothing but the title
+-- the step of the plugs to take out; only its title if there are none
 abbrev pub out_step : Page → List ℕ
 out_step page =
     let count = count_at (step_spot PlugsOut) page.settings in
     if count == 0 then idle_text page words.PlugsOut else plugs_out page count
 
--- what the marks mean, and the table of the plugs to put in, if there are any
+-- the meaning of the marks; then the table of the `count` plugs to put in, if there are any
 abbrev pub in_table : Page → ℕ → List ℕ
 in_table page count =
     if count == 0 then text_in page.language texts.CAPTION_SAME
@@ -49,7 +49,7 @@ plugs_in page count =
     step_text page words.PlugsIn count ++ board_text page.language In page.after page.before ++ in_table page count
     ++ texts.BOARD_STEP_END.now
 
--- the plugs to put in; if no cable is plugged after, nothing but the title
+-- the step of the plugs to put in; only its title if no cable is plugged after the settings
 abbrev pub in_step : Page → List ℕ
 in_step page =
     if has_cables page.after CABLES then plugs_in page (count_at (step_spot PlugsIn) page.settings)

@@ -1,4 +1,4 @@
--- The boxes in the text of a page: the page has the box of each setting.
+-- The text of a page has the checkbox of each setting.
 use Rattle.std.specs.Prelude.{◌≡◌, ℕ, List, [], ◌∷◌, ◌++◌, true, false}
 use Rattle.kd_state.specs.Machine.{IsMachine, model_of}
 use Rattle.kd_state.specs.Setting.{Leads}
@@ -8,14 +8,14 @@ use Rattle.kd_page.specs.DayPage.{day_text}
 use Rattle.kd_page.specs.Page.{Page}
 use Rattle.kd_page.specs.PageOrder.{IsPinOrder, IsRotorOrder}
 
--- The text has a part for each item, one after another, in the order of the items. It may have other text between them.
+-- The text has a piece for each item, in the order of the items. Other text may stand between the pieces.
 abbrev pub HasInTurn : {X : Type 0} → (X → List ℕ) → List X → List ℕ → Type 0
 HasInTurn part [] text = Unit {0}
 HasInTurn part (x ∷ xs) text =
     (before : List ℕ) × (after : List ℕ) × (text ≡ before ++ part x ++ after) × HasInTurn part xs after
 
--- The settings, in the order of a page, lead from the machine before to the machine after. Then the text of the page has
--- the box of each setting, one after another, in the order of the settings.
+-- If the settings, in the order of a page, lead from the machine before to the machine after, the text of the page has
+-- the checkbox of each setting, in the order of the settings.
 abbrev pub HasItsBoxes : Page → Type 0
 HasItsBoxes page =
     Leads page.before page.settings page.after

@@ -1,4 +1,4 @@
--- Where a setting has its box: a step of the page, a row of the step's table, and a cell of the row.
+-- Where a setting has its checkbox: at a step of the page, in a row of the step's table, in a cell of the row.
 use Rattle.std.specs.Prelude.{ℕ, nat_eq, Bool, true, ◌&&◌, List, filter, length, Some, None}
 use Rattle.std.specs.Option.{option_map_or}
 use Rattle.kd_state.specs.declared.setting.Setting.{Setting}
@@ -7,7 +7,7 @@ use Rattle.kd_page.specs.declared.spots.Spot.{Spot}
 use Rattle.kd_page.specs.declared.spots.Step.{Step}
 use Rattle.kd_page.specs.declared.spots.Step.TheVariants.{Rings, Seats, PlugsOut, PlugsIn, Pins, Lugs, Turns}
 
--- the place of a step among the steps, from the top
+-- the place of a step on the page, counted from the top; 0 is the first
 abbrev pub step_rank : Step → ℕ
 step_rank Rings = 0
 step_rank Seats = 1
@@ -27,7 +27,7 @@ step_of (settings.PinTo wheel letter effective) = Pins
 step_of (settings.LugTo bar lug place) = Lugs
 step_of (settings.Turn slot letter) = Turns
 
--- the number of the cable, pin wheel, bar or slot, by which the rows of a step's table go
+-- the row of a setting in its step's table: the number of the cable, pin wheel, bar or slot; 0 if the step has no table
 abbrev pub row_of : Setting → ℕ
 row_of (settings.RingTo wheel letter) = 0
 row_of (settings.Seat slot wheel) = 0
@@ -38,7 +38,7 @@ row_of (settings.PinTo wheel letter effective) = wheel
 row_of (settings.LugTo bar lug place) = bar
 row_of (settings.Turn slot letter) = slot
 
--- the letter of the pin, by which the cells of a pin wheel go
+-- the cell of a setting in its row: the letter of the pin; 0 if the row has no cells
 abbrev pub cell_of : Setting → ℕ
 cell_of (settings.RingTo wheel letter) = 0
 cell_of (settings.Seat slot wheel) = 0
@@ -49,19 +49,19 @@ cell_of (settings.PinTo wheel letter effective) = letter
 cell_of (settings.LugTo bar lug place) = 0
 cell_of (settings.Turn slot letter) = 0
 
--- a whole step, and a row of its table
+-- the spot of a whole step; then the spot of a row of its table
 abbrev pub step_spot : Step → Spot
 step_spot step = record { step = step; row = None; cell = None }
 
 abbrev pub row_spot : Step → ℕ → Spot
 row_spot step row = record { step = step; row = Some row; cell = None }
 
--- whether the setting has its box at this spot: at this step, and if the spot has a row or a cell, in this row or cell
+-- whether the setting's checkbox is at this spot: in its step and, if the spot has a row or a cell, in its row and cell
 abbrev pub is_at : Spot → Setting → Bool
 is_at spot x =
     nat_eq (step_rank (step_of x)) (step_rank spot.step)
     && (option_map_or (nat_eq (row_of x)) spot.row true && option_map_or (nat_eq (cell_of x)) spot.cell true)
 
--- how many of the settings have their boxes at the spot
+-- how many of the settings have their checkboxes at the spot
 abbrev pub count_at : Spot → List Setting → ℕ
 count_at spot settings = length (filter (is_at spot) settings)

@@ -1,4 +1,5 @@
--- The test of the real machine: given keys, and what the machine makes of them. Then the letters to set again.
+-- The test of the real machine: the keys to press, the letters that the machine makes of them, and the letters to set
+-- again.
 use Rattle.std.specs.Prelude.{codes, ℕ, Bool, if◌then◌else◌, List, [], ◌∷◌, ◌++◌}
 use Rattle.std.specs.Prelude.{length}
 use Rattle.std.specs.Prelude.{false, true, replicate, flat_map, Option, Some, None}
@@ -25,28 +26,28 @@ use Rattle.kd_pictures.specs.Words.{is_converter}
 abbrev pub test_keys : Parts → List ℕ
 test_keys m = if is_converter (model_of m) then replicate 26 0 else alphabet
 
--- what to set again after the test: the windows, or a Converter's letters
+-- the words for what to set again after the test: the windows, or a Converter's letters
 abbrev pub test_end : Language → Model → List ℕ
 test_end l model = if is_converter model then text_in l texts.TEST_END_PIN else text_in l texts.TEST_END_ROTOR
 
--- the keys in groups of five, and below them what the machine makes of them
+-- the keys in groups of five, and below them the letters that the machine makes of them
 unfoldable pub test_text : Language → Parts → List ℕ
 test_text l m =
     fives_from 0 (test_keys m) ++ texts.TEST_LAMPS.now ++ fives_from 0 (physical_cipher m (test_keys m))
     ++ test_end l (model_of m)
 
--- a letter that is to show again, on a rotor machine with its number
+-- a letter to set again, on a rotor machine with its number
 abbrev pub again_text : Bool → ℕ → List ℕ
 again_text has_number letter =
     if has_number then filled texts.AGAIN_ROTOR.now (letter_text letter ∷ ordinal_text letter ∷ [])
     else letter_text letter
 
--- the letter that a slot or a pin wheel shows, if there is one, after a separator
+-- the letter that a slot or a pin wheel shows, after a separator; nothing if it shows none
 abbrev pub again_at : List ℕ → Bool → Option ℕ → List ℕ
 again_at separator has_number None = []
 again_at separator has_number (Some letter) = separator ++ again_text has_number letter
 
--- the letters that the machine shows
+-- the letters that the machine shows, with a separator between them
 unfoldable pub again_all : List ℕ → Bool → Parts → List ℕ
 again_all separator has_number m =
     again_at [] has_number (letter_shown m 1)
@@ -55,13 +56,14 @@ again_all separator has_number m =
 abbrev pub letters_again : Parts → List ℕ
 letters_again m = if is_converter (model_of m) then again_all (codes " ") false m else again_all (codes ", ") true m
 
--- the line for the letters when the machine is put away, and the number of settings
+-- the note at the end of the page: a line to fill in the letters when the machine is put away, and the number of
+-- settings
 abbrev pub note_text : Language → Model → List Setting → List ℕ
 note_text l model settings =
     filled (if is_converter model then text_in l texts.NOTE_PIN else text_in l texts.NOTE_ROTOR)
     (count_text l (length settings) ∷ [])
 
--- the title of the test, and what to do
+-- the title of the test; then its instructions
 abbrev pub test_title : Model → Word
 test_title model = if is_converter model then words.PrintTest else words.LampTest
 

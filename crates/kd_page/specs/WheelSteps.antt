@@ -1,4 +1,5 @@
--- The steps of the rings, and of the wheels and the reflector: what goes into the box, and a box to tick for each setting.
+-- The steps of the rings, and of the wheels and the reflector: the parts that go into the box, and the checkbox of each
+-- setting.
 use Rattle.std.specs.Prelude.{ℕ, ◌||◌, ◌==◌, Bool, false, if◌then◌else◌, List, [], ◌∷◌, ◌++◌, flat_map}
 use Rattle.std.specs.Prelude.{Option, Some, None, is_some, option_and_then}
 use Rattle.std.specs.Option.{option_map_or}
@@ -19,7 +20,7 @@ use Rattle.kd_page.specs.Page.{Page}
 use Rattle.kd_page.specs.Spots.{count_at, step_spot}
 use Rattle.kd_page.specs.Steps.{idle_text, list_text, step_text}
 
--- Rings are set while the wheels are out.
+-- The step of the rings, which are set while the wheels are out of the machine.
 unfoldable pub some_rings_text : Page → ℕ → List ℕ
 some_rings_text page count = step_text page words.RingsOut count ++ list_text page Rings
 
@@ -28,7 +29,7 @@ rings_step page =
     let count = count_at (step_spot Rings) page.settings in
     if count == 0 then idle_text page words.Rings else some_rings_text page count
 
--- the wheel of a slot before the settings, if no slot has it after them
+-- the wheel that a slot has before the settings, if no slot has it after them
 abbrev pub unless_held : Wheel → Option ℕ → Option Wheel
 unless_held wheel None = Some wheel
 unless_held wheel (Some slot) = None
@@ -39,7 +40,7 @@ boxed_wheel page slot =
     option_and_then (λ wheel. unless_held wheel (slot_holding page.after wheel SLOTS)) seated)
     (machine_slot page.before slot)
 
--- the reflector before the settings, if another one is there after them
+-- the reflector before the settings, if it is another one after them
 abbrev pub unless_same : Reflector → Option Reflector → Option Reflector
 unless_same reflector other =
     if option_map_or (same_reflector reflector) other false then None else Some reflector
@@ -48,7 +49,7 @@ abbrev pub boxed_reflector : Page → Option Reflector
 boxed_reflector page =
     option_and_then (λ reflector. unless_same reflector (machine_reflector page.after)) (machine_reflector page.before)
 
--- whether something of the machine goes into the box
+-- whether a wheel of these slots goes into the box
 abbrev pub is_wheel_boxed : Page → List ℕ → Bool
 is_wheel_boxed page [] = false
 is_wheel_boxed page (slot ∷ slots) = is_some (boxed_wheel page slot) || is_wheel_boxed page slots
@@ -61,7 +62,7 @@ abbrev pub reflector_boxed_text : Language → Option Reflector → List ℕ
 reflector_boxed_text l None = []
 reflector_boxed_text l (Some reflector) = filled (text_in l BOXED_REFLECTOR) (reflector_text reflector ∷ [])
 
--- what goes into the box, slot by slot, and then the reflector
+-- the words for the parts that go into the box: the wheels, slot by slot, then the reflector
 unfoldable pub all_boxed_text : Page → List ℕ
 all_boxed_text page =
     text_in page.language BOXED ++ flat_map (λ slot. wheel_boxed_text (boxed_wheel page slot)) SLOTS

@@ -1,4 +1,4 @@
-//! The boxes to tick: for each setting the words for the hand, and the setting's line.
+//! The checkboxes: each has the words for one setting and, except for pins, the setting's line.
 ghost use Rattle.std.specs.Prelude.{◌≡◌, flat_map};
 ghost use Rattle.kd_state.specs.declared.setting.Setting.TheVariants.{LugTo, Seat};
 ghost use Rattle.kd_state.specs.Machine.{machine_standing};
@@ -20,14 +20,14 @@ use kd_pictures::{Language, draw};
 use kd_state::{Machine, Setting};
 use kd_tables::{Letter, Lug, Model, Place, Sink, Standing, Wheel};
 
-/// Writes the boxes of the page's settings at `spot`.
+/// Writes the checkboxes of the page's settings at `spot`.
 pub(crate) fn draw_boxes<W: Sink>(sink: &mut W, page: &Page<'_>, spot: &Spot)
     ensures { Draws W.taken W.has_failed sink.old sink.new (boxes_at page.now spot.now) }
 {
     draw_boxes_of(sink, page, spot, page.settings());
 }
 
-/// Writes the boxes of those of `settings` that have them at `spot`.
+/// Writes the checkboxes of the `settings` that have them at `spot`.
 fn draw_boxes_of<W: Sink>(sink: &mut W, page: &Page<'_>, spot: &Spot, settings: &[Setting])
     ensures { Draws W.taken W.has_failed sink.old sink.new
         (flat_map (box_at page.now spot.now) settings.now) }
@@ -38,7 +38,7 @@ fn draw_boxes_of<W: Sink>(sink: &mut W, page: &Page<'_>, spot: &Spot, settings: 
     }
 }
 
-/// Writes the box of `setting`, if it is at `spot`.
+/// Writes the checkbox of `setting`, if it is at `spot`.
 fn draw_box_at<W: Sink>(sink: &mut W, page: &Page<'_>, spot: &Spot, setting: &Setting)
     ensures { Draws W.taken W.has_failed sink.old sink.new
         (box_at page.now spot.now setting.now) }
@@ -98,7 +98,7 @@ fn draw_box<W: Sink>(sink: &mut W, page: &Page<'_>, setting: &Setting)
     }
 }
 
-/// Writes the box of a wheel to be put into a slot. If another slot holds the wheel before, it says so.
+/// Writes the checkbox to put a wheel into a slot, with the slot in which it was before, if any.
 fn draw_seat<W: Sink>(sink: &mut W, page: &Page<'_>, slot: u8, wheel: Wheel)
     ensures { Draws W.taken W.has_failed sink.old sink.new
         (seat_text page.now (Seat slot wheel) slot wheel
@@ -121,7 +121,7 @@ fn draw_seat<W: Sink>(sink: &mut W, page: &Page<'_>, slot: u8, wheel: Wheel)
     }
 }
 
-/// Writes the box of a wheel from the box, whose ring nobody sees once the machine is closed.
+/// Writes the checkbox to put a spare wheel into a slot, with its ring, which can't be seen once the machine is closed.
 fn draw_from_box<W: Sink>(sink: &mut W, page: &Page<'_>, slot: u8, wheel: Wheel)
     ensures { Draws W.taken W.has_failed sink.old sink.new
         (from_box_text page.now (Seat slot wheel) slot wheel) }
@@ -141,7 +141,7 @@ fn draw_from_box<W: Sink>(sink: &mut W, page: &Page<'_>, slot: u8, wheel: Wheel)
     fill(sink, page.language(), SEAT_END, &[line]);
 }
 
-/// Writes where the ring of a wheel from the box has to stand.
+/// Writes the letter on which the ring of a spare wheel has to stand.
 fn draw_box_ring<W: Sink>(sink: &mut W, language: Language, ring: Option<Letter>)
     ensures { Draws W.taken W.has_failed sink.old sink.new (box_ring_text language ring) }
 {
@@ -156,7 +156,7 @@ fn draw_box_ring<W: Sink>(sink: &mut W, language: Language, ring: Option<Letter>
     }
 }
 
-/// Writes the box of a lug to be moved to a place of its bar.
+/// Writes the checkbox to move a lug to a place of its bar, with its place before.
 fn draw_lug<W: Sink>(sink: &mut W, page: &Page<'_>, bar: u8, lug: Lug, place: Place)
     ensures { Draws W.taken W.has_failed sink.old sink.new
         (lug_text page.now.language (LugTo bar lug place) lug
@@ -169,7 +169,7 @@ fn draw_lug<W: Sink>(sink: &mut W, page: &Page<'_>, bar: u8, lug: Lug, place: Pl
     fill_in(sink, language, LUG_END, &[Value::Place(place), line]);
 }
 
-/// Writes where the lug is before, if its bar is a machine's.
+/// Writes the place of the lug before the settings; nothing if the machine has no bar with this number.
 fn draw_lug_from<W: Sink>(sink: &mut W, language: Language, lug: Lug, bar: Option<Standing>)
     ensures { Draws W.taken W.has_failed sink.old sink.new (lug_from_text language lug bar) }
 {
@@ -192,7 +192,7 @@ fn slot_name(model: Model, slot: u8) -> Word
     }
 }
 
-/// Which of `slots` holds the wheel; `None` if the wheel is in the box.
+/// Which of `slots` holds the wheel; `None` if the wheel is a spare one in the box.
 pub(crate) fn slot_holding(machine: &Machine, wheel: Wheel, slots: &[u8]) -> Option<u8>
     ensures { result ≡ slot_holding machine.now wheel slots.now }
 {

@@ -18,7 +18,7 @@ use kd_pictures::words::{Mark, is_converter};
 use kd_pictures::{Language, draw};
 use kd_tables::Sink;
 
-/// Writes a day's page: its settings, and both machines.
+/// Writes a day's page: its head, its steps, and the test.
 pub fn draw_day<W: Sink>(sink: &mut W, page: &Page<'_>)
     requires { IsReady page.now.after }
     ensures { Draws W.taken W.has_failed sink.old sink.new (day_text page.now) }
@@ -57,7 +57,7 @@ fn draw_steps<W: Sink>(sink: &mut W, page: &Page<'_>)
     }
 }
 
-/// Writes the picture of a rotor machine's wheels, and the steps.
+/// Writes the pictures of a rotor machine's wheels, then the steps.
 fn draw_rotor_steps<W: Sink>(sink: &mut W, page: &Page<'_>)
     ensures { Draws W.taken W.has_failed sink.old sink.new (rotor_text page.now) }
 {
@@ -69,7 +69,8 @@ fn draw_rotor_steps<W: Sink>(sink: &mut W, page: &Page<'_>)
     draw_windows_step(sink, page);
 }
 
-/// Writes what to compare first, and the picture of the wheels.
+/// Writes what to compare first, with pictures of the wheels before and after the settings; with one picture if there
+/// are no settings.
 fn draw_wheels<W: Sink>(sink: &mut W, page: &Page<'_>)
     ensures { Draws W.taken W.has_failed sink.old sink.new (wheels_text page.now) }
 {

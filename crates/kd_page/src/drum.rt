@@ -19,7 +19,7 @@ use kd_pictures::words::{Mark, Word};
 use kd_pictures::{Language, draw};
 use kd_tables::{Place, Sink, Standing};
 
-/// Writes the step of the lugs.
+/// Writes the step in which lugs are moved.
 pub(crate) fn draw_lugs_step<W: Sink>(sink: &mut W, page: &Page<'_>)
     ensures { Draws W.taken W.has_failed sink.old sink.new
         (lugs_step page.now) }
@@ -31,7 +31,7 @@ pub(crate) fn draw_lugs_step<W: Sink>(sink: &mut W, page: &Page<'_>)
     draw(sink, DRUM_END);
 }
 
-/// Writes what the marks mean, and the head of the table.
+/// Writes the meaning of the marks, and the head of the table.
 #[tactic(auto, unfolding(crate::specs::Drum::drum_head))]
 fn draw_drum_head<W: Sink>(sink: &mut W, language: Language)
     ensures { Draws W.taken W.has_failed sink.old sink.new (drum_head language) }
@@ -61,7 +61,7 @@ fn draw_bars<W: Sink>(sink: &mut W, page: &Page<'_>, bars: &[u8])
     }
 }
 
-/// Writes the row of a bar with its standing before and after.
+/// Writes the row of a bar whose lugs are at the places `was` before the settings, and `is` after them.
 fn draw_bar<W: Sink>(
     sink: &mut W,
     page: &Page<'_>,
@@ -108,7 +108,7 @@ fn is_same_standing(was: Standing, is: Standing) -> bool
     was.left() == is.left() && was.right() == is.right()
 }
 
-/// The end of a row with this many boxes, which has two cells for them.
+/// The end of a row with `count` checkboxes, which fills the rest of their two cells.
 fn bar_end(count: u8) -> &'static str
     ensures { result.now ≡ bar_end count }
 {
@@ -119,7 +119,7 @@ fn bar_end(count: u8) -> &'static str
     }
 }
 
-/// Writes a cell for each of `places` of a bar.
+/// Writes a cell for each of the places `places` of a bar.
 fn draw_cells<W: Sink>(
     sink: &mut W,
     language: Language,

@@ -17,7 +17,7 @@ pub struct ListedDay {
     pub settings: u8,
 }
 
-/// Writes the head of a file with the page of the day `first`, and the pages of the days `others` after it.
+/// Writes the head of a file with the pages of the day `first` and of the later days `others`.
 pub fn draw_head<W: Sink>(
     sink: &mut W,
     language: Language,
@@ -65,7 +65,7 @@ fn draw_title<W: Sink>(
     }
 }
 
-/// The last of these days, of which the first is `day`.
+/// The last of the days `day` and `others`.
 fn last_of(day: ListedDay, others: &[ListedDay]) -> ListedDay
     ensures { result ≡ last_of day others.now }
 {
@@ -75,7 +75,7 @@ fn last_of(day: ListedDay, others: &[ListedDay]) -> ListedDay
     }
 }
 
-/// Writes the list of the days, if there are several.
+/// Writes the list of the days, if there are several of them.
 fn draw_nav<W: Sink>(sink: &mut W, language: Language, first: ListedDay, others: &[ListedDay])
     ensures { Draws W.taken W.has_failed sink.old sink.new (nav_text language first others.now) }
 {

@@ -1,4 +1,5 @@
-//! The page of a day, to hang beside a machine: the settings in an order for the hand, pictures, and a test.
+//! The page of a day, to hang beside a machine: the settings in the order in which an operator makes them, with
+//! pictures, and a test of the machine.
 #![tactic(auto)]
 
 mod boxes;

@@ -1,10 +1,10 @@
-//! `Page`: what the page of a day shows.
+//! `Page`: the values that the page of a day shows.
 use crate::spots::{Spot, count_at};
 use kd_pictures::Language;
 use kd_state::{Machine, Setting};
 use kd_tables::Model;
 
-/// A day, and the settings that turn one machine into another: what each step of a page is made of.
+/// A day's page: a day, two machines, and the settings that turn the first machine into the second.
 #[derive(Drop)]
 pub struct Page<'a> {
     language: Language,
@@ -37,7 +37,7 @@ impl<'a> Page<'a> {
     ghost use Rattle.kd_page.specs.Page.{page_of};
     ghost use Rattle.kd_page.specs.Spots.{count_at};
 
-    /// The page of day `day`: `settings` turn the machine `before` into `after`.
+    /// The page of day `day`. `settings` turn the machine `before` into `after`.
     pub fn new(
         language: Language,
         day: u8,
@@ -94,7 +94,7 @@ impl<'a> Page<'a> {
         self.after.model()
     }
 
-    /// How many settings have their boxes at `spot`.
+    /// How many settings have their checkboxes at `spot`.
     pub(crate) fn count_at(&self, spot: &Spot) -> u8
         ensures { result ≡ count_at spot.now self.now.settings }
     {

@@ -1,4 +1,4 @@
-//! The table of a Converter's pins.
+//! The table of a Converter's pins: which of them are effective after the settings, and which change.
 ghost use Rattle.std.specs.Prelude.{◌≡◌, ◌++◌, flat_map};
 ghost use Rattle.kd_tables.specs.Permutation.{alphabet};
 ghost use Rattle.kd_pictures.specs.Drawing.{Draws};
@@ -19,7 +19,7 @@ use kd_pictures::words::{Mark, Word};
 use kd_pictures::{Language, draw};
 use kd_tables::{Letter, Sink};
 
-/// Writes the step of the pins.
+/// Writes the step in which pins are set.
 pub(crate) fn draw_pins_step<W: Sink>(sink: &mut W, page: &Page<'_>)
     ensures { Draws W.taken W.has_failed sink.old sink.new
         (pins_step page.now) }
@@ -31,7 +31,7 @@ pub(crate) fn draw_pins_step<W: Sink>(sink: &mut W, page: &Page<'_>)
     draw(sink, PINS_END);
 }
 
-/// Writes what the marks mean.
+/// Writes the meaning of the marks.
 #[tactic(auto, unfolding(crate::specs::Pins::pins_caption))]
 fn draw_pins_caption<W: Sink>(sink: &mut W, language: Language)
     ensures { Draws W.taken W.has_failed sink.old sink.new (pins_caption language) }
@@ -53,7 +53,7 @@ fn draw_pin_wheels<W: Sink>(sink: &mut W, page: &Page<'_>, wheels: &[u8])
     }
 }
 
-/// Writes a wheel: its head, and two rows of letters.
+/// Writes a wheel of the table: its head, and two rows of 13 letters.
 fn draw_pin_wheel<W: Sink>(sink: &mut W, page: &Page<'_>, wheel: u8)
     ensures { Draws W.taken W.has_failed sink.old sink.new (pin_wheel page.now wheel) }
 {
@@ -80,7 +80,7 @@ pub(crate) fn alphabet() -> [Letter; 26]
     letters
 }
 
-/// Writes the head of a wheel of which `count` pins change.
+/// Writes the head of a wheel, `count` pins of which change.
 fn draw_pin_head<W: Sink>(sink: &mut W, language: Language, wheel: u8, count: u8)
     ensures { Draws W.taken W.has_failed sink.old sink.new (pin_head language wheel count) }
 {
@@ -89,7 +89,7 @@ fn draw_pin_head<W: Sink>(sink: &mut W, language: Language, wheel: u8, count: u8
     draw_pin_lines(sink, language, wheel, count);
 }
 
-/// Writes the beginning of the lines of a wheel's pins, if `count` isn't 0.
+/// Writes the words with which the settings lines of a wheel's pins begin, if `count` isn't 0.
 fn draw_pin_lines<W: Sink>(sink: &mut W, language: Language, wheel: u8, count: u8)
     ensures { Draws W.taken W.has_failed sink.old sink.new (pin_lines wheel count) }
 {
@@ -115,7 +115,8 @@ fn draw_pin_cells<W: Sink>(sink: &mut W, page: &Page<'_>, wheel: u8, letters: &[
     }
 }
 
-/// Writes the cell of a pin that is `effective` after the settings, or not; `None` if the wheel lacks the letter.
+/// Writes the cell of a pin. `effective` says how it is after the settings; `None` if the wheel doesn't have the
+/// letter.
 fn draw_pin_cell<W: Sink>(
     sink: &mut W,
     page: &Page<'_>,
@@ -154,7 +155,7 @@ fn is_same_pin(effective: bool, was: Option<bool>) -> bool
     }
 }
 
-/// Writes the box of a pin; if it has none, the pin.
+/// Writes the content of a pin's cell: its checkbox; if it has no setting, its letter and mark.
 fn draw_pin_inside<W: Sink>(
     sink: &mut W,
     page: &Page<'_>,

@@ -30,7 +30,7 @@ pub(crate) fn draw_out_step<W: Sink>(sink: &mut W, page: &Page<'_>)
     }
 }
 
-/// Writes the plugboard before, and the table of the `count` plugs to take out.
+/// Writes the picture of the plugboard before the settings, and the table of the `count` plugs to take out.
 fn draw_plugs_out<W: Sink>(sink: &mut W, page: &Page<'_>, count: u8)
     ensures { Draws W.taken W.has_failed sink.old sink.new (plugs_out page.now count) }
 {
@@ -52,7 +52,7 @@ pub(crate) fn draw_in_step<W: Sink>(sink: &mut W, page: &Page<'_>)
     }
 }
 
-/// Writes the plugboard after, and the table of the `count` plugs to put in.
+/// Writes the picture of the plugboard after the settings, and the table of the `count` plugs to put in.
 fn draw_plugs_in<W: Sink>(sink: &mut W, page: &Page<'_>, count: u8)
     ensures { Draws W.taken W.has_failed sink.old sink.new (plugs_in page.now count) }
 {
@@ -63,7 +63,7 @@ fn draw_plugs_in<W: Sink>(sink: &mut W, page: &Page<'_>, count: u8)
     draw(sink, BOARD_STEP_END);
 }
 
-/// Writes what the marks mean, and the table of the `count` plugs to put in, if there are any.
+/// Writes the meaning of the marks; then the table of the `count` plugs to put in, if there are any.
 fn draw_in_table<W: Sink>(sink: &mut W, page: &Page<'_>, count: u8)
     ensures { Draws W.taken W.has_failed sink.old sink.new (in_table page.now count) }
 {
@@ -74,7 +74,7 @@ fn draw_in_table<W: Sink>(sink: &mut W, page: &Page<'_>, count: u8)
     }
 }
 
-/// Writes the table of the plugs to move, under `head`.
+/// Writes the table of the plugs to move. `head` has the meaning of the marks, and the table's head.
 fn draw_plug_table<W: Sink>(sink: &mut W, page: &Page<'_>, head: Text, step: Step)
     ensures { Draws W.taken W.has_failed sink.old sink.new (plug_table page.now
         (in_language page.now.language head.entry.0.now head.entry.1.now) step) }

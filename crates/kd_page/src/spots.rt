@@ -1,4 +1,4 @@
-//! Where a setting has its box on a page.
+//! Where a setting has its checkbox on a page.
 ghost use Rattle.std.specs.Prelude.{◌≡◌, ◌≤◌, length, nat_eq, true};
 ghost use Rattle.std.specs.Option.{option_map_or};
 ghost use Rattle.kd_page.specs.Spots.{cell_of, count_at, is_at, row_of, row_spot, step_of, step_rank, step_spot};
@@ -6,7 +6,7 @@ ghost use Rattle.kd_page.specs.Spots.{cell_of, count_at, is_at, row_of, row_spot
 use kd_state::Setting;
 use kd_tables::Letter;
 
-/// The steps in which a hand makes settings.
+/// The steps of a page, in the order in which an operator makes the settings.
 #[derive(Clone, Copy)]
 pub enum Step {
     Rings,
@@ -18,13 +18,13 @@ pub enum Step {
     Turns,
 }
 
-/// A step of the page, a row of the step's table, or a cell of a row.
+/// A place of a page at which checkboxes stand: a step, a row of the step's table, or a cell of the row.
 #[derive(Clone, Copy)]
 pub struct Spot {
     pub step: Step,
-    /// The number of a cable, pin wheel, bar or slot.
+    /// The row, by the number of its cable, pin wheel, bar or slot; `None` for a whole step.
     pub row: Option<u8>,
-    /// The letter of a pin.
+    /// The cell, by the letter of its pin; `None` for a whole row.
     pub cell: Option<Letter>,
 }
 
@@ -64,7 +64,7 @@ impl Step {
     }
 }
 
-/// How many of `settings` have their boxes at `spot`.
+/// How many of `settings` have their checkboxes at `spot`.
 pub(crate) fn count_at(spot: &Spot, settings: &[Setting]) -> u8
     requires { length settings.now ≤ 192 }
     ensures value { result ≡ count_at spot.now settings.now }
@@ -77,7 +77,7 @@ pub(crate) fn count_at(spot: &Spot, settings: &[Setting]) -> u8
     }
 }
 
-/// Whether `setting` has its box at `spot`.
+/// Whether the checkbox of `setting` is at `spot`.
 pub(crate) fn is_at(spot: &Spot, setting: &Setting) -> bool
     ensures { result ≡ is_at spot.now setting.now }
 {
@@ -86,7 +86,7 @@ pub(crate) fn is_at(spot: &Spot, setting: &Setting) -> bool
         && is_cell(spot.cell, cell_of(setting))
 }
 
-/// Whether `row` is this row, if it is a row.
+/// Whether `row` is the row `number`, or no row is asked for.
 fn is_row(row: Option<u8>, number: u8) -> bool
     ensures { result ≡ option_map_or (nat_eq number) row true }
 {

@@ -1,4 +1,4 @@
-//! The heads of a page's steps, and lists of boxes.
+//! The heads of a page's steps, and lists of checkboxes.
 ghost use Rattle.std.specs.Prelude.{◌≡◌, ◌++◌};
 ghost use Rattle.kd_pictures.specs.Drawing.{Draws};
 ghost use Rattle.kd_page.specs.Steps.{full_step_text, idle_text, list_text, step_text};
@@ -12,7 +12,7 @@ use kd_pictures::texts::{IDLE_STEP, LIST, LIST_END, PLAIN_STEP, STEP};
 use kd_pictures::words::Word;
 use kd_tables::Sink;
 
-/// Writes the head of a step with `count` settings. Sheets of paper come apart, so it repeats the model and the day.
+/// Writes the head of a step with `count` settings. It repeats the model and the day, as sheets of paper come apart.
 pub(crate) fn draw_step<W: Sink>(sink: &mut W, page: &Page<'_>, title: Word, count: u8)
     ensures { Draws W.taken W.has_failed sink.old sink.new (step_text page.now title count) }
 {
@@ -29,7 +29,7 @@ pub(crate) fn draw_step<W: Sink>(sink: &mut W, page: &Page<'_>, title: Word, cou
     );
 }
 
-/// Writes a step without anything inside.
+/// Writes a step without settings, which has only a head.
 pub(crate) fn draw_idle<W: Sink>(sink: &mut W, page: &Page<'_>, title: Word)
     ensures { Draws W.taken W.has_failed sink.old sink.new (idle_text page.now title) }
 {
@@ -46,7 +46,7 @@ pub(crate) fn draw_idle<W: Sink>(sink: &mut W, page: &Page<'_>, title: Word)
     );
 }
 
-/// Writes the head of a step that has more boxes than settings.
+/// Writes the head of a step with more checkboxes than settings; it gives `count`, their number, only if it isn't 0.
 pub(crate) fn draw_full_step<W: Sink>(sink: &mut W, page: &Page<'_>, title: Word, count: u8)
     ensures { Draws W.taken W.has_failed sink.old sink.new (full_step_text page.now title count) }
 {
@@ -66,7 +66,7 @@ pub(crate) fn draw_full_step<W: Sink>(sink: &mut W, page: &Page<'_>, title: Word
     }
 }
 
-/// Writes a list of the boxes of `step`, and the step's end.
+/// Writes the list of the checkboxes of `step`, and the step's end.
 pub(crate) fn draw_list<W: Sink>(sink: &mut W, page: &Page<'_>, step: Step)
     ensures { Draws W.taken W.has_failed sink.old sink.new (list_text page.now step) }
 {

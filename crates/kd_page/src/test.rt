@@ -23,7 +23,7 @@ use kd_pictures::{Language, draw, draw_in};
 use kd_state::Machine;
 use kd_tables::{Letter, Model, Sink};
 
-/// Writes the step of the test of the machine after the settings.
+/// Writes the test step, for the machine after the settings.
 pub(crate) fn draw_test_step<W: Sink>(sink: &mut W, page: &Page<'_>)
     requires { IsReady page.now.after }
     ensures { Draws W.taken W.has_failed sink.old sink.new (test_step page.now) }
@@ -45,7 +45,7 @@ fn test_title(model: Model) -> Word
     }
 }
 
-/// Writes what to do to test the machine.
+/// Writes the instructions for the test.
 fn draw_test_words<W: Sink>(sink: &mut W, language: Language, model: Model)
     ensures { Draws W.taken W.has_failed sink.old sink.new (test_words language model) }
 {
@@ -56,7 +56,7 @@ fn draw_test_words<W: Sink>(sink: &mut W, language: Language, model: Model)
     }
 }
 
-/// Writes the keys, and what the machine makes of them.
+/// Writes the keys, and the letters that the machine makes of them.
 fn draw_test<W: Sink>(sink: &mut W, language: Language, machine: &Machine)
     requires { IsReady machine.now }
     ensures { Draws W.taken W.has_failed sink.old sink.new (test_text language machine.now) }
@@ -68,7 +68,7 @@ fn draw_test<W: Sink>(sink: &mut W, language: Language, machine: &Machine)
     draw_test_end(sink, language, machine.model());
 }
 
-/// Writes what to set again: the windows, or a Converter's letters.
+/// Writes what to set again after the test: the windows, or a Converter's letters.
 fn draw_test_end<W: Sink>(sink: &mut W, language: Language, model: Model)
     ensures { Draws W.taken W.has_failed sink.old sink.new (test_end language model) }
 {
@@ -90,7 +90,7 @@ fn test_keys(machine: &Machine) -> [Letter; 26]
     }
 }
 
-/// What the machine makes of these keys.
+/// The letters that the machine makes of these keys.
 #[tactic(auto, using(kd_state::proofs::Keys::engine_cipher))]
 fn enciphered(machine: &Machine, keys: [Letter; 26]) -> [Letter; 26]
     requires { IsReady machine.now }
@@ -171,7 +171,7 @@ fn draw_separated<W: Sink>(
     draw_again(sink, language, has_number, letter);
 }
 
-/// Writes a letter, on a rotor machine with its number.
+/// Writes a letter to set again, on a rotor machine with its number.
 fn draw_again<W: Sink>(sink: &mut W, language: Language, has_number: bool, letter: Letter)
     ensures { Draws W.taken W.has_failed sink.old sink.new (again_text has_number letter) }
 {
@@ -187,7 +187,8 @@ fn draw_again<W: Sink>(sink: &mut W, language: Language, has_number: bool, lette
     }
 }
 
-/// Writes the line for the letters when the machine is put away, and the number of settings.
+/// Writes the note at the end of the page: a line to fill in the letters when the machine is put away, and the number
+/// of settings.
 fn draw_note<W: Sink>(sink: &mut W, page: &Page<'_>)
     ensures { Draws W.taken W.has_failed sink.old sink.new
         (note_text page.now.language (model_of page.now.after) page.now.settings) }

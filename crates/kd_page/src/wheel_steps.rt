@@ -16,7 +16,7 @@ use kd_pictures::words::Word;
 use kd_pictures::{Language, draw, draw_in};
 use kd_tables::{Reflector, Sink, Wheel};
 
-/// Writes the step of the rings.
+/// Writes the step in which rings are set.
 pub(crate) fn draw_rings_step<W: Sink>(sink: &mut W, page: &Page<'_>)
     ensures { Draws W.taken W.has_failed sink.old sink.new (rings_step page.now) }
 {
@@ -35,7 +35,7 @@ fn draw_rings<W: Sink>(sink: &mut W, page: &Page<'_>, count: u8)
     draw_list(sink, page, Step::Rings);
 }
 
-/// Writes the step of the wheels and the reflector.
+/// Writes the step in which the wheels and the reflector are put in.
 pub(crate) fn draw_seats_step<W: Sink>(sink: &mut W, page: &Page<'_>)
     ensures { Draws W.taken W.has_failed sink.old sink.new (seats_step page.now) }
 {
@@ -47,7 +47,7 @@ pub(crate) fn draw_seats_step<W: Sink>(sink: &mut W, page: &Page<'_>)
     }
 }
 
-/// Writes what goes into the box, and the `count` boxes of what is put in.
+/// Writes the parts that go into the box, and the `count` checkboxes of the parts to put in.
 fn draw_seats<W: Sink>(sink: &mut W, page: &Page<'_>, count: u8)
     ensures { Draws W.taken W.has_failed sink.old sink.new (some_seats_text page.now count) }
 {
@@ -56,7 +56,7 @@ fn draw_seats<W: Sink>(sink: &mut W, page: &Page<'_>, count: u8)
     draw_list(sink, page, Step::Seats);
 }
 
-/// Writes what goes into the box, if anything does.
+/// Writes the parts that go into the box, if there are any.
 fn draw_boxed<W: Sink>(sink: &mut W, page: &Page<'_>)
     ensures { Draws W.taken W.has_failed sink.old sink.new (boxed_text page.now) }
 {
@@ -109,7 +109,7 @@ fn draw_boxed_reflector<W: Sink>(sink: &mut W, language: Language, reflector: Op
     }
 }
 
-/// Whether one of the slots has a wheel that goes into the box.
+/// Whether a wheel of these slots goes into the box.
 fn is_wheel_boxed(page: &Page<'_>, slots: &[u8]) -> bool
     ensures { result ≡ is_wheel_boxed page.now slots.now }
 {
@@ -119,7 +119,7 @@ fn is_wheel_boxed(page: &Page<'_>, slots: &[u8]) -> bool
     }
 }
 
-/// The wheel of a slot before the settings, if no slot has it after them.
+/// The wheel that a slot has before the settings, if no slot has it after them.
 fn boxed_wheel(page: &Page<'_>, slot: u8) -> Option<Wheel>
     ensures { result ≡ boxed_wheel page.now slot }
 {
@@ -130,7 +130,7 @@ fn boxed_wheel(page: &Page<'_>, slot: u8) -> Option<Wheel>
     }
 }
 
-/// The reflector before the settings, if another one is there after them.
+/// The reflector before the settings, if it is another one after them.
 fn boxed_reflector(page: &Page<'_>) -> Option<Reflector>
     ensures { result ≡ boxed_reflector page.now }
 {

@@ -1,4 +1,4 @@
-//! The letters to set last: all windows of a rotor machine, or all pin wheels, have a box.
+//! The letters to set last: each window of a rotor machine, or each pin wheel, has a checkbox.
 ghost use Rattle.std.specs.Prelude.{◌≡◌, ◌++◌, flat_map};
 ghost use Rattle.kd_state.specs.Machine.{machine_pin_letter};
 ghost use Rattle.kd_pictures.specs.Drawing.{Draws};
@@ -19,7 +19,7 @@ use kd_pictures::{draw, draw_in};
 use kd_state::Machine;
 use kd_tables::{Letter, Sink};
 
-/// Writes the step of the windows.
+/// Writes the step in which the windows are set.
 pub(crate) fn draw_windows_step<W: Sink>(sink: &mut W, page: &Page<'_>)
     ensures { Draws W.taken W.has_failed sink.old sink.new (windows_step page.now) }
 {
@@ -63,7 +63,7 @@ fn draw_window_item<W: Sink>(sink: &mut W, page: &Page<'_>, slot: u8, letter: Le
     draw(sink, WINDOW_BOX_END);
 }
 
-/// Writes the step of the letters of the pin wheels.
+/// Writes the step in which the letters of the pin wheels are set.
 pub(crate) fn draw_letters_step<W: Sink>(sink: &mut W, page: &Page<'_>)
     ensures { Draws W.taken W.has_failed sink.old sink.new (letters_step page.now) }
 {
@@ -102,7 +102,7 @@ fn draw_letter_item<W: Sink>(sink: &mut W, page: &Page<'_>, wheel: u8, letter: L
     draw(sink, LETTER_BOX_END);
 }
 
-/// The letter that the window of a slot or the pin wheel shows.
+/// The letter in the window of a slot, or of a pin wheel.
 pub(crate) fn letter_shown(machine: &Machine, number: u8) -> Option<Letter>
     ensures { result ≡ letter_shown machine.now number }
 {

@@ -1,5 +1,5 @@
--- The picture of a plugboard: lines of cables, and sockets. It is drawn twice: before, with the plugs to take out, and
--- after, with the plugs to put in. Words are in language `l`.
+-- The picture of a plugboard: the lines of the cables, and the sockets. It is drawn twice: before the settings, with
+-- the plugs to take out, and after them, with the plugs to put in. Words are in language `l`.
 use Rattle.std.specs.Prelude.{codes, decimal, ℕ, ◌+◌, ◌-◌, ◌*◌, nat_lt, Bool, false, not, ◌||◌, if◌then◌else◌}
 use Rattle.std.specs.Prelude.{is_some}
 use Rattle.std.specs.Prelude.{List, [], ◌∷◌, ◌++◌, flat_map, Option, Some, None, unwrap_or}
@@ -22,15 +22,15 @@ use Rattle.kd_pictures.specs.Sockets.{keyboard, label_y, line_x, socket_x, socke
 use Rattle.kd_pictures.specs.Template.{filled, letter_text}
 use Rattle.kd_pictures.specs.Words.{class_text, word_text}
 
--- the letters at the ends of a cable of the machine
+-- the letters at the two ends of a cable of the machine; both `None` without such a cable
 abbrev pub cable_of : Parts → ℕ → Option ℕ × Option ℕ
 cable_of m number = unwrap_or (machine_cable m number) (None, None)
 
--- whether the letter is in the cable
+-- whether the cable has a plug at the letter
 abbrev pub has_plug : Parts → ℕ → ℕ → Bool
 has_plug m number letter = has_letter (cable_letters (cable_of m number)) letter
 
--- whether a cable's end, if it has a letter, isn't there on machine `n`
+-- whether an end of a cable has a letter at which the cable has no plug on machine `n`
 abbrev pub end_moves : Parts → ℕ → Option ℕ → Bool
 end_moves n number end = option_map_or (λ letter. not (has_plug n number letter)) end false
 
@@ -42,15 +42,15 @@ cable_words number (Some one, Some other) =
 cable_words number (Some one, None) = filled texts.LOOSE_WORDS.now (decimal number ∷ letter_text one ∷ [])
 cable_words number (None, other) = []
 
--- whether the cable has a letter
+-- whether the cable has a plug
 abbrev pub is_plugged : Parts → ℕ → Bool
 is_plugged m number = is_some (cable_of m number).0
 
--- a cable with letters, after a separator
+-- the words for a plugged cable, after a separator
 abbrev pub cable_after : List ℕ → Parts → ℕ → List ℕ
 cable_after separator m number = separator ++ cable_words number (cable_of m number)
 
--- the cables with letters: the first after this separator, the others after a comma
+-- the words for all plugged cables, with `separator` before the first and commas before the others
 abbrev pub cables_after : List ℕ → Parts → List ℕ → List ℕ
 cables_after separator m [] = []
 cables_after separator m (number ∷ numbers) =
@@ -65,15 +65,16 @@ all_cables l m = if has_cables m CABLES then cables_after [] m CABLES else text_
 
 -- ---- The lines of the cables.
 
--- how far from the top the cable with this number runs
+-- the height at which the cable with this number runs, measured from the top
 abbrev pub lane : ℕ → ℕ
 lane number = 139 + 9 * number
 
--- where a line from a socket ends, before it turns into its lane
+-- the height at which a line from a socket at height `y` starts to turn into its lane
 abbrev pub bend : ℕ → ℕ → ℕ
 bend y lane = if nat_lt y lane then lane - 5 else lane + 5
 
--- a line from a socket into its lane; along its lane, and to a socket; open
+-- three pieces of a cable's line: from a socket into the lane; along the lane to a socket; and along the lane to an
+-- open end
 abbrev pub left_half : Class → ℕ → ℕ → List ℕ
 left_half class lane letter = filled texts.LEFT_HALF.now (
     class_text class ∷ decimal (line_x letter) ∷ decimal (socket_y letter) ∷ decimal (bend (socket_y letter) lane)
@@ -87,11 +88,11 @@ right_half lane letter = filled texts.RIGHT_HALF.now (
 abbrev pub open_end : ℕ → List ℕ
 open_end letter = filled texts.OPEN_END.now (decimal (line_x letter + 20) ∷ [])
 
--- the line of a cable from its left end to its right end: down to its lane, along the lane, and up
+-- the line of a cable between two sockets: down to its lane, along the lane, and up
 abbrev pub line_between : Class → ℕ → ℕ → ℕ → List ℕ
 line_between class lane left right = left_half class lane left ++ right_half lane right
 
--- the line of a cable with one plug: it ends open, in its lane
+-- the line of a cable with one plug: from its socket to an open end in its lane
 abbrev pub open_line : Class → ℕ → ℕ → List ℕ
 open_line class lane letter = left_half class lane letter ++ open_end letter
 
@@ -105,7 +106,7 @@ abbrev pub moving_class : Plugs → Class
 moving_class Out = classes.Out
 moving_class In = classes.In
 
--- thick, if a plug of the cable isn't there on machine `n`
+-- the class of a cable's line: thick if a plug of the cable isn't there on machine `n`
 abbrev pub line_class : Plugs → Parts → ℕ → Option ℕ × Option ℕ → Class
 line_class plugs n number cable =
     if end_moves n number cable.0 || end_moves n number cable.1 then moving_class plugs else classes.Plain
@@ -116,20 +117,20 @@ line_text plugs m n number =
 
 -- ---- The sockets.
 
--- the number of the cable with the letter, if there is one
+-- the number of the cable with a plug at the letter; `None` if there is none
 abbrev pub cable_holding : Parts → ℕ → List ℕ → Option ℕ
 cable_holding m letter [] = None
 cable_holding m letter (number ∷ numbers) =
     if has_plug m number letter then Some number else cable_holding m letter numbers
 
--- a plug with a circle round the cable's number
+-- a plug, drawn as the cable's number in a circle
 abbrev pub round_plug : List ℕ → ℕ → ℕ → List ℕ
 round_plug template letter number = filled template (
     decimal (socket_x letter) ∷ decimal (label_y letter) ∷ letter_text letter
     ∷ decimal (socket_x letter) ∷ decimal (socket_y letter)
     ∷ decimal (socket_x letter) ∷ decimal (socket_y letter + 6) ∷ decimal number ∷ [])
 
--- a plug that moves: to take out, a square; to put in, a disc
+-- a plug that moves: a square if it is to take out, a disc if it is to put in
 abbrev pub moving_plug : Plugs → ℕ → ℕ → List ℕ
 moving_plug Out letter number = filled texts.GOES_OUT.now (
     decimal (socket_x letter) ∷ decimal (label_y letter) ∷ letter_text letter
@@ -142,7 +143,7 @@ free_socket letter = filled texts.FREE.now (
     decimal (socket_x letter) ∷ decimal (label_y letter) ∷ letter_text letter
     ∷ decimal (socket_x letter) ∷ decimal (socket_y letter) ∷ [])
 
--- a letter's socket: free, or with a plug of a cable, which moves if it isn't there on machine `n`
+-- the socket of a letter: free, or with a cable's plug, which is drawn as moving if it isn't there on machine `n`
 abbrev pub socket_holding : Plugs → Parts → ℕ → Option ℕ → List ℕ
 socket_holding plugs n letter None = free_socket letter
 socket_holding plugs n letter (Some number) =
@@ -160,7 +161,7 @@ picture_name In = After
 unfoldable pub board_head : Language → Plugs → List ℕ
 board_head l plugs = filled (text_in l texts.BOARD) (word_text l (picture_name plugs) ∷ [])
 
--- the plugboard of machine `m`, which marks the plugs that aren't there on machine `n`
+-- the picture of the plugboard of machine `m`, with the plugs marked that aren't there on machine `n`
 unfoldable pub board_text : Language → Plugs → Parts → Parts → List ℕ
 board_text l plugs m n =
     board_head l plugs ++ all_cables l m ++ texts.TITLE_END.now

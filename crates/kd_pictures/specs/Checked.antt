@@ -1,4 +1,4 @@
--- The texts in two languages say the same: templates take the same values, and words have their meanings.
+-- The texts in both languages agree: templates take the same values, and words have the right meanings.
 use Rattle.std.specs.Prelude.{codes, ◌≡◌, ℕ, count_by, List}
 use Rattle.kd_pictures.specs.declared.language.Language.TheVariants.{English, German}
 use Rattle.kd_pictures.specs.declared.texts.TheConstants as texts
@@ -8,11 +8,11 @@ use Rattle.kd_pictures.specs.Language.{text_in}
 use Rattle.kd_pictures.specs.Template.{is_gap}
 use Rattle.kd_pictures.specs.Words.{word_text}
 
--- The template has this number of signs `~`, each of which takes a value.
+-- The template has `number` signs `~`, each of which stands for a value.
 abbrev pub HasGaps : List ℕ → ℕ → Type 0
 HasGaps template number = count_by is_gap template ≡ number
 
--- The template has this number of signs `~` in both languages.
+-- The template has `number` signs `~` in both languages.
 abbrev pub Takes : record { now : List ℕ } × record { now : List ℕ } → ℕ → Type 0
 Takes text number = HasGaps (text_in English text) number × HasGaps (text_in German text) number
 
@@ -37,11 +37,11 @@ TemplatesTakeTheirValues =
     × HasGaps texts.SET_BAR.now 1 × HasGaps texts.MARKED_LUG.now 1 × HasGaps texts.AGAIN_ROTOR.now 2
     × Takes texts.NOTE_ROTOR 1 × Takes texts.NOTE_PIN 1
 
--- The word has this text in English, and this text in German.
+-- The word reads `english` in English, and `german` in German.
 abbrev pub Reads : Word → List ℕ → List ℕ → Type 0
 Reads word english german = (word_text English word ≡ english) × (word_text German word ≡ german)
 
--- The words that a hand goes by: which way a pin is set, which lug moves, which slot is meant, and which machine a
+-- The words that say what to do: which way to set a pin, which lug to move, which slot to fill, and which machine a
 -- picture shows.
 abbrev pub WordsTellWhatToDo : Type 0
 WordsTellWhatToDo =

@@ -1,4 +1,4 @@
--- What the page takes from files is plain: it has no markup.
+-- Nothing that a page takes from files has markup.
 use Rattle.std.specs.Prelude.{ℕ, ◌^◌, ◌<◌, ◌==◌, Bool, not, ◌||◌, IsTrue}
 use Rattle.std.specs.List.{list_all}
 use Rattle.kd_state.specs.Line.{IsSettingInRange}
@@ -7,11 +7,11 @@ use Rattle.kd_pictures.specs.declared.template.Value.{Value}
 use Rattle.kd_pictures.specs.declared.template.Value.TheVariants as values
 use Rattle.kd_pictures.specs.Template.{value_text}
 
--- whether the byte is none of `<`, `>` and `&`, which HTML reads as markup
+-- whether the byte isn't `<`, `>` or `&`, which HTML reads as markup
 abbrev pub is_plain : ℕ → Bool
 is_plain byte = not (byte == 60 || (byte == 62 || byte == 38))
 
--- A number fits 64 bits, and a setting's numbers are those of settings.
+-- A value in its range: a number fits 64 bits, a letter is below 26, and the numbers of a setting are in range.
 abbrev pub IsValueInRange : Value → Type 0
 IsValueInRange (values.Number number) = number < 2 ^ 64
 IsValueInRange (values.Letter letter) = letter < 26
@@ -26,7 +26,7 @@ IsValueInRange (values.Word word) = Unit {0}
 IsValueInRange (values.Class class) = Unit {0}
 IsValueInRange (values.Mark mark) = Unit {0}
 
--- The values that are filled into templates have no markup. All else on a page is fixed text.
+-- The values that are filled into templates have no markup. Everything else on a page is fixed text.
 abbrev pub ValuesArePlain : Type 0
 ValuesArePlain =
     (l : Language) (value : Value) → IsValueInRange value → IsTrue (list_all is_plain (value_text l value))

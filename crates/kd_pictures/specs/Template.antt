@@ -19,13 +19,13 @@ letter_text letter = letters_text (letter ∷ [])
 abbrev pub ordinal_text : ℕ → List ℕ
 ordinal_text letter = (if nat_lt (letter + 1) 10 then codes "0" else []) ++ decimal (letter + 1)
 
--- how many settings there are
+-- the words for the number of settings
 abbrev pub count_text : Language → ℕ → List ℕ
 count_text l number =
     if number == 0 then text_in l NO_SETTINGS else if number == 1 then text_in l ONE_SETTING
     else decimal number ++ text_in l SETTINGS
 
--- a value; words are in language `l`
+-- the text of a value; its words are in language `l`
 abbrev pub value_text : Language → Value → List ℕ
 value_text l (values.Number number) = decimal number
 value_text l (values.Letter letter) = letter_text letter

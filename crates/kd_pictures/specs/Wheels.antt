@@ -1,5 +1,5 @@
--- The picture of a rotor machine's wheels: a band for the machine before, and a band for the machine after. Words are
--- in language `l`.
+-- The picture of a rotor machine's wheels: a band for the machine before the settings, and one for the machine after
+-- them. Words are in language `l`.
 use Rattle.std.specs.Prelude.{decimal, ℕ, ◌+◌, ◌*◌, nat_eq, Bool, false, if◌then◌else◌, List, [], ◌∷◌, ◌++◌, flat_map}
 use Rattle.std.specs.Prelude.{Option, Some, None}
 use Rattle.std.specs.Option.{option_map_or}
@@ -18,7 +18,7 @@ use Rattle.kd_pictures.specs.Language.{text_in}
 use Rattle.kd_pictures.specs.Template.{filled, letter_text, ordinal_text}
 use Rattle.kd_pictures.specs.Words.{word_text}
 
--- whether the slot of the machine holds the wheel
+-- whether the wheel is in this slot of the machine
 abbrev pub is_seated : Parts → ℕ → Wheel → Bool
 is_seated m slot wheel =
     option_map_or (λ seated. option_map_or (same_wheel wheel) seated false) (machine_slot m slot) false
@@ -29,19 +29,19 @@ abbrev pub reflector_words : Language → Option Reflector → List ℕ
 reflector_words l None = []
 reflector_words l (Some reflector) = filled (text_in l texts.REFLECTOR_WORDS) (reflector_text reflector ∷ [])
 
--- a letter after the words in this template
+-- the words of a template with a letter; nothing without a letter
 abbrev pub letter_words : List ℕ → Option ℕ → List ℕ
 letter_words template None = []
 letter_words template (Some letter) = filled template (letter_text letter ∷ [])
 
--- a wheel in its slot, its ring and its window letter
+-- the words for a wheel in a slot, for its ring, and for its window letter
 abbrev pub wheel_words : Language → Parts → ℕ → Wheel → List ℕ
 wheel_words l m slot wheel =
     filled (text_in l texts.WHEEL_WORDS) (decimal slot ∷ wheel_text wheel ∷ [])
     ++ letter_words (text_in l texts.RING_WORDS) (machine_ring m wheel)
     ++ letter_words (text_in l texts.WINDOW_WORDS) (machine_letter m wheel)
 
--- what a slot holds: nothing, or a wheel with its ring and its window letter
+-- the words for a slot: empty, or a wheel with its ring and its window letter; nothing if the machine lacks the slot
 abbrev pub slot_words : Language → Parts → ℕ → Option (Option Wheel) → List ℕ
 slot_words l m slot None = []
 slot_words l m slot (Some None) = filled (text_in l texts.EMPTY_WORDS) (decimal slot ∷ [])
@@ -65,7 +65,7 @@ reflector_shown y (Some reflector) other =
 abbrev pub slot_x : ℕ → ℕ
 slot_x slot = 80 + 104 * slot
 
--- a wheel; it is marked unless it is in this slot on the other machine
+-- a wheel in a slot, drawn as new unless the other machine has it in this slot
 abbrev pub wheel_shown : Language → ℕ → ℕ → ℕ → Bool → Wheel → List ℕ
 wheel_shown l x y slot is_old wheel =
     filled (if is_old then text_in l texts.WHEEL else text_in l texts.NEW_WHEEL) (
@@ -75,7 +75,7 @@ wheel_shown l x y slot is_old wheel =
 abbrev pub is_same_letter : ℕ → Option ℕ → Bool
 is_same_letter letter other = option_map_or (nat_eq letter) other false
 
--- a ring at a letter; it is framed unless it is at this letter on the other machine
+-- the letter of a ring, framed as new unless the ring has this letter on the other machine
 abbrev pub ring_shown : ℕ → ℕ → Option ℕ → Option ℕ → List ℕ
 ring_shown x y None other = []
 ring_shown x y (Some letter) other =
@@ -95,7 +95,7 @@ empty_shown l x y slot = filled (text_in l texts.EMPTY) (
     decimal (x + 48) ∷ decimal (y + 16) ∷ decimal slot ∷ decimal x ∷ decimal (y + 24)
     ∷ decimal (x + 48) ∷ decimal (y + 54) ∷ [])
 
--- a wheel in its slot, its ring and its window
+-- a wheel in a slot, its ring and its window
 abbrev pub seated_shown : Language → ℕ → ℕ → Parts → Parts → ℕ → Wheel → List ℕ
 seated_shown l x y m n slot wheel =
     wheel_shown l x y slot (is_seated n slot wheel) wheel
@@ -111,7 +111,7 @@ unfoldable pub band_head : Language → ℕ → Word → List ℕ
 band_head l y name = filled (text_in l texts.BAND) (
     decimal (y + 16) ∷ word_text l name ∷ decimal (y + 54) ∷ decimal (y + 84) ∷ decimal (y + 125) ∷ decimal (y + 16) ∷ [])
 
--- the band of machine `m`, which marks what differs in machine `n`
+-- the band of machine `m` at height `y`, in which the differences from machine `n` are marked
 unfoldable pub band_text : Language → ℕ → Word → Parts → Parts → List ℕ
 band_text l y name m n =
     band_head l y name ++ reflector_shown y (machine_reflector m) (machine_reflector n)

@@ -1,4 +1,4 @@
--- Words and marks that are filled into templates: names of models, titles of steps, names of slots, classes.
+-- Words and marks that are filled into templates, such as names of models, titles of steps, and names of slots.
 use Rattle.std.specs.Prelude.{ℕ, Bool, true, false, List, [], ◌∷◌}
 use Rattle.kd_tables.specs.declared.model.Model.{Model}
 use Rattle.kd_tables.specs.declared.model.Model.TheVariants.{EnigmaI, M3, M4, M209}
@@ -12,7 +12,7 @@ use Rattle.kd_pictures.specs.declared.words.Word.TheVariants as words
 use Rattle.kd_pictures.specs.declared.texts.TheConstants as texts
 use Rattle.kd_pictures.specs.Language.{text_in}
 
--- the model's name in words
+-- the full name of the model
 abbrev pub model_name : Model → List ℕ
 model_name EnigmaI = texts.ENIGMA_I.now
 model_name M3 = texts.ENIGMA_M3.now
@@ -25,7 +25,7 @@ is_converter M3 = false
 is_converter M4 = false
 is_converter M209 = true
 
--- A word in language `l`.
+-- the word in language `l`
 abbrev pub word_text : Language → Word → List ℕ
 word_text l words.Language = text_in l texts.LANGUAGE
 word_text l words.Rings = text_in l texts.RINGS

@@ -22,14 +22,15 @@ use crate::words::{Class, Word};
 use kd_state::{Cable, Machine, lies_in};
 use kd_tables::{Letter, Sink};
 
-/// Which plugs a plugboard marks: those to take out, before; or those to put in, after.
+/// Which plugs a plugboard marks: `Out` on the machine before, the plugs to take out; `In` on the machine after, those
+/// to put in.
 #[derive(Clone, Copy)]
 pub enum Plugs {
     Out,
     In,
 }
 
-/// Writes the plugboard of `machine`, with the plugs marked that aren't there on `other`.
+/// Writes the plugboard of `machine`, with the plugs marked that `other` doesn't have there.
 pub fn draw_board<W: Sink>(
     sink: &mut W,
     language: Language,
@@ -64,7 +65,7 @@ fn picture_name(plugs: Plugs) -> Word
     }
 }
 
-/// Writes the cables in words.
+/// Writes all plugged cables in words.
 #[tactic(auto, unfolding(crate::specs::Board::all_cables))]
 pub fn draw_all_cables<W: Sink>(sink: &mut W, language: Language, machine: &Machine)
     ensures { Draws W.taken W.has_failed sink.old sink.new (all_cables language machine.now) }
@@ -76,7 +77,7 @@ pub fn draw_all_cables<W: Sink>(sink: &mut W, language: Language, machine: &Mach
     }
 }
 
-/// Whether one of the cables has a letter.
+/// Whether one of the cables has a plug.
 pub fn has_cables(machine: &Machine, numbers: &[u8]) -> bool
     ensures { result ≡ has_cables machine.now numbers.now }
 {
@@ -87,7 +88,7 @@ pub fn has_cables(machine: &Machine, numbers: &[u8]) -> bool
     }
 }
 
-/// Whether the cable has a letter.
+/// Whether the cable has a plug.
 fn is_plugged(machine: &Machine, number: u8) -> bool
     ensures { result ≡ is_plugged machine.now number }
 {
@@ -95,7 +96,7 @@ fn is_plugged(machine: &Machine, number: u8) -> bool
     one.is_some()
 }
 
-/// Writes the cables that have letters, in words: the first after `separator`, the others after a comma.
+/// Writes the plugged cables in words, with `separator` before the first and commas before the others.
 fn draw_cables_after<W: Sink>(
     sink: &mut W,
     language: Language,
@@ -116,7 +117,7 @@ fn draw_cables_after<W: Sink>(
     }
 }
 
-/// Writes a cable that has letters, in words, after `separator`.
+/// Writes a plugged cable in words, after `separator`.
 fn draw_cable_after<W: Sink>(
     sink: &mut W,
     language: Language,
@@ -153,7 +154,7 @@ fn cable_of(machine: &Machine, number: u8) -> Cable
     machine.cable(number).unwrap_or((None, None))
 }
 
-/// Whether the letter is in the cable.
+/// Whether the cable has a plug at the letter.
 fn has_plug(machine: &Machine, number: u8, letter: Letter) -> bool
     ensures { result ≡ has_plug machine.now number letter }
 {
@@ -194,7 +195,7 @@ fn draw_line<W: Sink>(
     draw_cable_line(sink, language, class, lane, cable_of(machine, number));
 }
 
-/// The class of a cable's line: thick, if one of its plugs isn't there on `other`.
+/// The class of a cable's line: thick if a plug of the cable isn't there on `other`.
 fn line_class(plugs: Plugs, other: &Machine, number: u8, cable: Cable) -> Class
     ensures { result ≡ line_class plugs other.now number cable }
 {
@@ -238,7 +239,7 @@ fn draw_cable_line<W: Sink>(sink: &mut W, language: Language, class: Class, lane
     }
 }
 
-/// Writes the line of a cable from its left end to its right end.
+/// Writes the line of a cable between two sockets.
 fn draw_between<W: Sink>(
     sink: &mut W,
     language: Language,
@@ -255,7 +256,7 @@ fn draw_between<W: Sink>(
     draw_right_half(sink, language, lane, right);
 }
 
-/// Writes the line of a cable with one plug.
+/// Writes the line of a cable with one plug, to its open end.
 fn draw_open<W: Sink>(sink: &mut W, language: Language, class: Class, lane: u16, letter: Letter)
     requires low { 100 ≤ lane }
     requires high { lane < 10000 }
@@ -265,7 +266,7 @@ fn draw_open<W: Sink>(sink: &mut W, language: Language, class: Class, lane: u16,
     draw_open_end(sink, language, letter);
 }
 
-/// Writes a line from a socket into its lane.
+/// Writes the line from a socket into the cable's lane.
 fn draw_left_half<W: Sink>(
     sink: &mut W,
     language: Language,
@@ -294,7 +295,7 @@ fn draw_left_half<W: Sink>(
     );
 }
 
-/// Writes a line along its lane, and to a socket.
+/// Writes the line along a cable's lane and to a socket.
 fn draw_right_half<W: Sink>(sink: &mut W, language: Language, lane: u16, letter: Letter)
     requires low { 100 ≤ lane }
     requires high { lane < 10000 }
@@ -326,7 +327,7 @@ fn draw_open_end<W: Sink>(sink: &mut W, language: Language, letter: Letter)
     );
 }
 
-/// Where a line from a socket at height `y` begins to turn into its lane.
+/// The height at which a line from a socket at height `y` starts to turn into its lane.
 fn bend(y: u16, lane: u16) -> u16
     requires low { 100 ≤ lane }
     requires high { lane < 10000 }
@@ -335,7 +336,7 @@ fn bend(y: u16, lane: u16) -> u16
     if y < lane { lane - 5 } else { lane + 5 }
 }
 
-/// Writes the sockets of the letters with these places in the alphabet.
+/// Writes the sockets of letters; the numbers are their places in the alphabet.
 fn draw_sockets<W: Sink>(
     sink: &mut W,
     language: Language,
@@ -374,7 +375,7 @@ fn draw_socket<W: Sink>(
     }
 }
 
-/// The number of the cable with the letter; `None` if no cable has it.
+/// The number of the cable with a plug at the letter; `None` if there is none.
 fn cable_holding(machine: &Machine, letter: Letter, numbers: &[u8]) -> Option<u8>
     ensures { result ≡ cable_holding machine.now letter numbers.now }
 {
@@ -402,7 +403,7 @@ fn draw_free<W: Sink>(sink: &mut W, language: Language, letter: Letter)
     );
 }
 
-/// Writes a plug that moves: to take out, a square; to put in, a disc.
+/// Writes a plug that moves: a square if it is to take out, a disc if it is to put in.
 fn draw_moving<W: Sink>(sink: &mut W, language: Language, plugs: Plugs, letter: Letter, number: u8)
     ensures { Draws W.taken W.has_failed sink.old sink.new (moving_plug plugs letter number) }
 {
@@ -432,7 +433,7 @@ fn draw_square<W: Sink>(sink: &mut W, language: Language, letter: Letter, number
     );
 }
 
-/// Writes a plug with a circle round the cable's number.
+/// Writes a plug, drawn as the cable's number in a circle.
 fn draw_round<W: Sink>(sink: &mut W, language: Language, template: &str, letter: Letter, number: u8)
     ensures { Draws W.taken W.has_failed sink.old sink.new
         (round_plug template.now letter number) }

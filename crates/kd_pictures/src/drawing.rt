@@ -1,4 +1,4 @@
-//! Writes text to a sink that may have failed.
+//! Writes text to a sink, unless the sink has failed.
 ghost use Rattle.kd_pictures.specs.Drawing.{Draws};
 ghost use Rattle.kd_pictures.specs.Language.{in_language};
 
@@ -6,7 +6,7 @@ use crate::language::Language;
 use crate::texts::Text;
 use kd_tables::{Sink, put_all};
 
-/// Writes `text`, unless the sink has failed.
+/// Writes `text` to `sink`, unless the sink has failed.
 #[tactic(auto, using(crate::proofs::Drawings::Draws_put, crate::proofs::Drawings::Draws_none))]
 pub fn draw<W: Sink>(sink: &mut W, text: &str)
     ensures { Draws W.taken W.has_failed sink.old sink.new text.now }
@@ -16,7 +16,7 @@ pub fn draw<W: Sink>(sink: &mut W, text: &str)
     }
 }
 
-/// Writes `text` in this language, unless the sink has failed.
+/// Writes `text` in `language` to `sink`, unless the sink has failed.
 pub fn draw_in<W: Sink>(sink: &mut W, language: Language, text: Text)
     ensures { Draws W.taken W.has_failed sink.old sink.new
         (in_language language text.entry.0.now text.entry.1.now) }

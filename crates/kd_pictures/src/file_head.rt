@@ -1,4 +1,4 @@
-//! The beginning of a file with pages.
+//! The beginning of a file with pages, up to its title.
 ghost use Rattle.kd_pictures.specs.Drawing.{Draws};
 ghost use Rattle.kd_pictures.specs.FileHead.{file_head};
 
@@ -8,7 +8,7 @@ use crate::texts::HEAD;
 use crate::words::Word;
 use kd_tables::Sink;
 
-/// Writes the beginning of a file in this language.
+/// Writes the beginning of a file, with the code of its language.
 #[tactic(auto, unfolding(crate::specs::FileHead::file_head))]
 pub fn draw_file_head<W: Sink>(sink: &mut W, language: Language)
     ensures { Draws W.taken W.has_failed sink.old sink.new (file_head language) }

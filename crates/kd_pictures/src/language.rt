@@ -12,7 +12,7 @@ pub enum Language {
 }
 
 impl Language {
-    /// The text in this language.
+    /// This language's half of `text`.
     pub fn text(self, text: Text) -> &'static str
         ensures { result.now ≡ in_language self text.entry.0.now text.entry.1.now }
     {

@@ -1,4 +1,4 @@
-//! Laws of the values of templates, of the lines of cables, and of the numbers of a machine's parts.
+//! Laws of the values in templates, of the lines of cables, and of the numbers of a machine's parts.
 ghost use Rattle.std.specs.Prelude.{◌≡◌};
 ghost use Rattle.std.specs.List.{range_with_len};
 ghost use Rattle.kd_pictures.specs.declared.numbers.TheConstants.{BARS, CABLES, LATER_WHEELS, PIN_WHEELS, SLOTS};
@@ -6,13 +6,14 @@ ghost use Rattle.kd_pictures.specs.Sockets.{LinesAreApart};
 ghost use Rattle.kd_pictures.specs.Checked.{TemplatesTakeTheirValues, WordsTellWhatToDo};
 ghost use Rattle.kd_pictures.specs.Plain.{ValuesArePlain};
 
-/// What a page takes from files has no markup: letters, numbers, and the names of models, wheels and reflectors.
+/// Nothing that a page takes from files has markup: no letter or number, and no name of a model, wheel or reflector.
 #[tactic(auto, using(crate::proofs::PlainValues::values_are_plain))]
 pub fn values_are_plain()
     ensures { ValuesArePlain }
 {}
 
-/// Each template takes the values that pages fill into it, and the words for the hand are these, in both languages.
+/// Each template takes the values that pages fill into it, and the words that say what to do have the right meanings,
+/// in both languages.
 pub fn languages_say_the_same()
     ensures templates { TemplatesTakeTheirValues }
     ensures words { WordsTellWhatToDo }

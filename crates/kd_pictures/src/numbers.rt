@@ -6,7 +6,7 @@ pub static SLOTS: [u8; 4] = [1, 2, 3, 4];
 
 pub static PIN_WHEELS: [u8; 6] = [1, 2, 3, 4, 5, 6];
 
-/// The slots and pin wheels after the first.
+/// The slots and pin wheels after the first one.
 pub static LATER_WHEELS: [u8; 5] = [2, 3, 4, 5, 6];
 
 pub static BARS: [u8; 27] = [

@@ -1,25 +1,25 @@
-//! Where the sockets of the plugboard are in its picture.
+//! The places of the plugboard's sockets in its picture.
 ghost use Rattle.std.specs.Prelude.{◌≡◌, ◌≤◌};
 ghost use Rattle.kd_pictures.specs.Sockets.{label_y, line_x, socket_row, socket_x, socket_y};
 
 use kd_tables::Letter;
 
-/// The letters in the order of the sockets, from the left, from the upper row to the lower row.
+/// The letters in the order of the sockets: row by row from the top, in each row from the left.
 pub static KEYBOARD: [u8; 26] = [
     16, 22, 4, 17, 19, 25, 20, 8, 14, 0, 18, 3, 5, 6, 7, 9, 10, 15, 24, 23, 2, 21, 1, 13, 12, 11,
 ];
 
-/// For each letter from A to Z the row of its socket, counted from 0.
+/// The row of each letter's socket, counted from 0 at the top, for A to Z.
 static ROWS: [u8; 26] = [
     1, 2, 2, 1, 0, 1, 1, 1, 0, 1, 1, 2, 2, 2, 0, 2, 0, 0, 1, 0, 0, 2, 0, 2, 2, 0,
 ];
 
-/// For each letter from A to Z the place of its socket in the row, counted from 0.
+/// The place of each letter's socket in its row, counted from 0 at the left, for A to Z.
 static PLACES: [u8; 26] = [
     0, 5, 3, 2, 2, 3, 4, 5, 7, 6, 7, 8, 7, 6, 8, 0, 0, 3, 1, 4, 6, 4, 1, 2, 1, 5,
 ];
 
-/// How far the socket is from the left.
+/// How far the letter's socket is from the left.
 #[tactic(auto, using(crate::proofs::SocketTables::place_is))]
 pub fn socket_x(letter: Letter) -> u16
     ensures value { result ≡ socket_x letter }
@@ -30,7 +30,7 @@ pub fn socket_x(letter: Letter) -> u16
     first + 60 * u16::from(PLACES[letter.index()])
 }
 
-/// How far the socket is from the top.
+/// How far the letter's socket is from the top.
 pub fn socket_y(letter: Letter) -> u16
     ensures value { result ≡ socket_y letter }
     ensures least { 40 ≤ result }
@@ -43,7 +43,7 @@ pub fn socket_y(letter: Letter) -> u16
     }
 }
 
-/// How far the letter beside the socket is from the top.
+/// How far the name of the letter's socket is from the top.
 pub fn label_y(letter: Letter) -> u16
     ensures { result ≡ label_y letter }
 {
@@ -54,7 +54,7 @@ pub fn label_y(letter: Letter) -> u16
     }
 }
 
-/// How far a line from this socket is from the left.
+/// How far from the left a cable's line leaves the letter's socket.
 pub fn line_x(letter: Letter) -> u16
     ensures value { result ≡ line_x letter }
     ensures least { 40 ≤ result }

@@ -33,7 +33,7 @@ pub enum Value {
     Mark(Mark),
 }
 
-/// Writes `template` with its signs `~` replaced by the values, in their order. Words are in this language.
+/// Writes `template` with its signs `~` replaced by the values, in their order. Words are in `language`.
 pub fn fill<W: Sink>(sink: &mut W, language: Language, template: &str, values: &[Value])
     ensures { Draws W.taken W.has_failed sink.old sink.new
         (filled template.now (map (value_text language) values.now)) }
@@ -48,7 +48,7 @@ pub fn fill<W: Sink>(sink: &mut W, language: Language, template: &str, values: &
     }
 }
 
-/// Writes the template `text` in this language, with its signs `~` replaced by the values, in their order.
+/// Writes `text` in `language`, with its signs `~` replaced by the values, in their order.
 pub fn fill_in<W: Sink>(sink: &mut W, language: Language, text: Text, values: &[Value])
     ensures { Draws W.taken W.has_failed sink.old sink.new
         (filled (in_language language text.entry.0.now text.entry.1.now)
@@ -57,7 +57,7 @@ pub fn fill_in<W: Sink>(sink: &mut W, language: Language, text: Text, values: &[
     fill(sink, language, language.text(text), values);
 }
 
-/// The parts of `template` before and after its first sign `~`; all of it and nothing if it has no such sign.
+/// The parts of `template` before and after its first sign `~`; without a sign, `template` and an empty text.
 #[tactic(auto, using(std::proofs::lemmas::Str::Pattern::split_once_first))]
 fn cut(template: &str) -> (&str, &str)
     ensures before { result.0.now ≡ before_first is_gap template.now }
@@ -96,7 +96,7 @@ pub fn draw_letter<W: Sink>(sink: &mut W, letter: Letter)
     draw(sink, text.as_str());
 }
 
-/// Writes letters without anything between them.
+/// Writes letters with nothing between them.
 pub fn draw_letters<W: Sink>(sink: &mut W, letters: &[Letter])
     ensures { Draws W.taken W.has_failed sink.old sink.new (letters_text letters.now) }
 {
@@ -125,7 +125,7 @@ fn draw_zero<W: Sink>(sink: &mut W, is_short: bool)
     }
 }
 
-/// Writes how many settings there are.
+/// Writes the words for the number of settings.
 fn draw_count<W: Sink>(sink: &mut W, language: Language, number: u8)
     ensures { Draws W.taken W.has_failed sink.old sink.new (count_text language number) }
 {

@@ -1,12 +1,13 @@
-//! The fixed texts of a page, those with words in English and in German. In a template, each sign `~` stands for a value.
+//! The fixed texts of a page; those with words are in English and in German. In a template, each sign `~` stands for a
+//! value.
 
 /// A text in English and in German.
 pub type Text = (&'static str, &'static str);
 
-/// The code of the language, for the file's head.
+/// The code of the language, which stands in the file's head.
 pub const LANGUAGE: Text = ("en", "de");
 
-/// The head of the file: before its title, and after it, with the style sheet. The foot of the file.
+/// The head of the file, up to its title; the style sheet, which follows the title; and the foot of the file.
 pub const HEAD: &str =
     "<!DOCTYPE html>\n<html lang=~>\n<meta charset=utf-8>\n<meta name=viewport content=\"width=device-width,initial-scale=1\">\n<title>";
 
@@ -133,7 +134,7 @@ h2{page-break-after:avoid;break-after:avoid}
 @page{margin:10mm 12mm}
 ";
 
-/// What the style sheets of key tables and of messages have beyond that of a day's page.
+/// Further lines of the style sheet, for key tables and for messages.
 pub const MORE_STYLE: &str = ".shown svg{width:110mm;max-width:100%}
 .row{display:flex;align-items:flex-end;border-bottom:1px solid var(--line);padding:.4em 0 .2em}
 .groups,.row label,.text,.heading b{font-family:ui-monospace,Consolas,\"DejaVu Sans Mono\",monospace}
@@ -205,12 +206,13 @@ pub const BODY: &str = "</style>\n<body>\n<main>\n";
 
 pub const FOOT: &str = "</main>\n";
 
-/// The title of a file with one day, and with several: the model, and the first and the last day.
+/// The title of a file with one day: the model and the day; with several days: the model, the first day and the last.
 pub const TITLE_DAY: Text = ("~, day ~", "~, Tag ~");
 
 pub const TITLE_DAYS: Text = ("~, days ~ to ~", "~, Tage ~ bis ~");
 
-/// The list of the days in a file with several days: a day, and its number of settings.
+/// The list of the days in a file with several days. The values of an item are the day, twice, and its number of
+/// settings.
 pub const NAV: Text = (
     "<nav class=days aria-label=\"Days\">\n<ul>\n",
     "<nav class=days aria-label=\"Tage\">\n<ul>\n",
@@ -223,14 +225,15 @@ pub const NAV_DAY: Text = (
 
 pub const NAV_END: &str = "</ul>\n</nav>\n";
 
-/// How many settings there are: none, one, or several.
+/// The words for the number of settings: none, one, or several.
 pub const NO_SETTINGS: Text = ("nothing to change", "nichts zu ändern");
 
 pub const ONE_SETTING: Text = ("1 setting", "1 Handgriff");
 
 pub const SETTINGS: Text = (" settings", " Handgriffe");
 
-/// The head of a day: the day, the model, the day again, and the number of settings. Then what to compare first.
+/// The head of a day. The values are the day, the model, the day again, and the number of settings. On a Converter, the
+/// words for what to compare first follow.
 pub const DAY: Text = (
     "<article id=day-~>\n<header>\n<h1>~, day ~ <small>~</small></h1>\n<p class=fields><span>Machine</span><span>Date</span><span>Done by</span></p>\n<p>",
     "<article id=day-~>\n<header>\n<h1>~, Tag ~ <small>~</small></h1>\n<p class=fields><span>Maschine</span><span>Datum</span><span>Ausgeführt von</span></p>\n<p>",
@@ -243,7 +246,8 @@ pub const COMPARE_PIN: Text = (
 
 pub const DAY_END: &str = "</article>\n";
 
-/// The head of a step: its title, its number of settings, the model, and the day. Without anything to do; without a number.
+/// The head of a step. The values are its title, its number of settings, the model, and the day. Then the head of a
+/// step with nothing to do, and one without a number of settings.
 pub const STEP: Text = (
     "<section>\n<h2>~ <small>~</small><span>~, day ~</span></h2>\n",
     "<section>\n<h2>~ <small>~</small><span>~, Tag ~</span></h2>\n",
@@ -261,12 +265,12 @@ pub const PLAIN_STEP: Text = (
 
 pub const STEP_END: &str = "</section>\n";
 
-/// A list of boxes.
+/// A list of checkboxes.
 pub const LIST: &str = "<ul>\n";
 
 pub const LIST_END: &str = "</ul>\n</section>\n";
 
-/// What goes into the box, before anything is put in.
+/// The parts that go into the box before others are put in.
 pub const BOXED: Text = (
     "<p>Take out, into the box:",
     "<p>Herausnehmen, in den Kasten:",
@@ -278,13 +282,14 @@ pub const BOXED_REFLECTOR: Text = (" reflector <b>~</b>", " Umkehrwalze <b>~</b>
 
 pub const BOXED_END: &str = "</p>\n";
 
-/// A box to tick, with the words for the hand and the setting's line.
+/// A checkbox for a ring. The values are the wheel, the letter, its number, and the setting's line.
 pub const RING: Text = (
     "<li><label><input type=checkbox> wheel <b>~</b>: set the ring to <b>~\u{a0}~</b> <code>~</code></label>\n",
     "<li><label><input type=checkbox> Walze <b>~</b>: Ring auf <b>~\u{a0}~</b> stellen <code>~</code></label>\n",
 );
 
-/// A wheel from the box: the slot, its name, and the wheel; then where its ring has to stand, and the line.
+/// A checkbox to put in a spare wheel, in pieces: the slot, its name, and the wheel; the letter on which its ring has
+/// to stand; and the setting's line.
 pub const SEAT: Text = (
     "<li><label><input type=checkbox> slot ~, ~: put in wheel <b>~</b>, from the box",
     "<li><label><input type=checkbox> Platz ~, ~: Walze <b>~</b> einsetzen, aus dem Kasten",
@@ -309,15 +314,16 @@ pub const REFLECTOR: Text = (
 
 pub const PLUG: &str = "<td><label><input type=checkbox> <b>~</b> <code>~</code></label>";
 
-/// A pin with its box: its letter, its mark, and which way to set it. Its line is split: the head of its wheel has the
-/// beginning.
+/// A checkbox for a pin: its letter, its mark, and which way to set it. The beginning of its settings line stands once,
+/// in the head of the wheel.
 pub const PIN: &str = "<label><input type=checkbox><b>~</b><br>~<small>~</small></label>";
 
 pub const ON: Text = ("ON", "EIN");
 
 pub const OFF: Text = ("OFF", "AUS");
 
-/// A lug with its box: which of the bar's two lugs it is; then where it is before; then where it goes, and its line.
+/// A checkbox for a lug, in pieces: which of the bar's two lugs it is; its place before; its new place, and the
+/// setting's line.
 pub const LUG: &str = "<td><label><input type=checkbox> ~";
 
 pub const LEFT_LUG: Text = ("left lug", "linker");
@@ -331,10 +337,10 @@ pub const LUG_END: Text = (
     " auf <b>~</b> <code>~</code></label>",
 );
 
-/// The line of a turn. It stands in the box of the window.
+/// The settings line of a turn, within the checkbox of the window.
 pub const TURN: &str = " <code>~</code>";
 
-/// The windows of a rotor machine: all have a box.
+/// The windows of a rotor machine, each with a checkbox.
 pub const WINDOWS: Text = (
     "<p>Set all of them: typing may have turned the wheels.</p>\n<ul>\n",
     "<p>Alle einstellen: Beim Tippen können sich die Walzen gedreht haben.</p>\n<ul>\n",
@@ -347,7 +353,7 @@ pub const WINDOW_BOX: Text = (
 
 pub const WINDOW_BOX_END: &str = "</label>\n";
 
-/// The letters of a Converter's wheels: all have a box.
+/// The letters of a Converter's wheels, each with a checkbox.
 pub const LETTERS: Text = (
     "<p>Set all of them: enciphering may have turned the wheels.</p>\n<table class=letters>\n<tr><th scope=row>Wheel<th scope=col>1<th scope=col>2<th scope=col>3<th scope=col>4<th scope=col>5<th scope=col>6\n<tr><th scope=row>letter",
     "<p>Alle einstellen: Beim Schlüsseln können sich die Räder gedreht haben.</p>\n<table class=letters>\n<tr><th scope=row>Rad<th scope=col>1<th scope=col>2<th scope=col>3<th scope=col>4<th scope=col>5<th scope=col>6\n<tr><th scope=row>Buchstabe",
@@ -359,7 +365,7 @@ pub const LETTER_BOX_END: &str = "</label>";
 
 pub const LETTERS_END: &str = "\n</table>\n</section>\n";
 
-/// The picture of the wheels before and after, and in words; if nothing changes, only after.
+/// The picture of the wheels before and after the settings, with a title in words; or only after, if nothing changes.
 pub const WHEELS: Text = (
     "First compare the machine with <i>before</i>; only windows may differ. Thick frames: to set.</p>\n</header>\n<figure class=wheels><svg role=\"img\" viewBox=\"0 0 600 314\"><title>The wheels, from the left. Before: ",
     "Zuerst die Maschine mit <i>vorher</i> vergleichen; nur die Fenster dürfen abweichen. Dick Umrahmtes ist einzustellen.</p>\n</header>\n<figure class=wheels><svg role=\"img\" viewBox=\"0 0 600 314\"><title>Die Walzen, von links. Vorher: ",
@@ -376,7 +382,7 @@ pub const TITLE_END: &str = ".</title>\n";
 
 pub const WHEELS_END: &str = "</svg>\n</figure>\n";
 
-/// A reflector, an empty slot, and a wheel with ring and window, in words.
+/// The words for a reflector, an empty slot, a wheel, its ring, and its window letter.
 pub const REFLECTOR_WORDS: Text = ("reflector ~", "Umkehrwalze ~");
 
 pub const EMPTY_WORDS: Text = ("; slot ~: empty", "; Platz ~: leer");
@@ -387,7 +393,7 @@ pub const RING_WORDS: Text = (", ring ~", ", Ring ~");
 
 pub const WINDOW_WORDS: Text = (", window ~", ", Fenster ~");
 
-/// A band of the picture: its name, its labels, and a reflector, which may be new.
+/// A band of the picture: its name and its labels; then a reflector, old or new.
 pub const BAND: Text = (
     "<text class=\"label bold\" x=\"2\" y=\"~\" font-size=\"20\">~</text>\n<text class=\"label\" x=\"2\" y=\"~\" font-size=\"18\">wheel</text>\n<text class=\"label\" x=\"2\" y=\"~\" font-size=\"18\">ring</text>\n<text class=\"label\" x=\"2\" y=\"~\" font-size=\"18\">window</text>\n<text x=\"134\" y=\"~\" font-size=\"18\">reflector</text>\n",
     "<text class=\"label bold\" x=\"2\" y=\"~\" font-size=\"20\">~</text>\n<text class=\"label\" x=\"2\" y=\"~\" font-size=\"18\">Walze</text>\n<text class=\"label\" x=\"2\" y=\"~\" font-size=\"18\">Ring</text>\n<text class=\"label\" x=\"2\" y=\"~\" font-size=\"18\">Fenster</text>\n<text x=\"134\" y=\"~\" font-size=\"18\">UKW</text>\n",
@@ -399,7 +405,7 @@ pub const REFLECTOR_SHOWN: &str =
 pub const NEW_REFLECTOR: &str =
     "<rect class=\"set\" x=\"96\" y=\"~\" width=\"76\" height=\"122\"/>\n<text class=\"bold\" x=\"134\" y=\"~\" font-size=\"20\">~</text>\n";
 
-/// A slot, empty or with a wheel; a ring; a window. Each may be new.
+/// A slot, empty or with a wheel; a ring; a window. The wheel, ring and window are old or new.
 pub const EMPTY: Text = (
     "<text x=\"~\" y=\"~\" font-size=\"18\">slot ~</text>\n<rect x=\"~\" y=\"~\" width=\"96\" height=\"122\"/>\n<text x=\"~\" y=\"~\" font-size=\"20\">empty</text>\n",
     "<text x=\"~\" y=\"~\" font-size=\"18\">Platz ~</text>\n<rect x=\"~\" y=\"~\" width=\"96\" height=\"122\"/>\n<text x=\"~\" y=\"~\" font-size=\"20\">leer</text>\n",
@@ -426,7 +432,7 @@ pub const WINDOW: &str =
 pub const NEW_WINDOW: &str =
     "<rect class=\"set\" x=\"~\" y=\"~\" width=\"40\" height=\"40\"/>\n<text class=\"bold\" x=\"~\" y=\"~\" font-size=\"26\">~</text>\n<text class=\"bold\" x=\"~\" y=\"~\" font-size=\"20\">~</text>\n";
 
-/// The picture of a plugboard: its title, which has the cables in words.
+/// The picture of a plugboard. Its title has the cables in words.
 pub const BOARD: Text = (
     "<div class=beside><figure><svg role=\"img\" viewBox=\"0 0 560 336\"><title>The plugboard ~. Cables: ",
     "<div class=beside><figure><svg role=\"img\" viewBox=\"0 0 560 336\"><title>Das Steckerbrett ~. Steckerverbindungen: ",
@@ -440,14 +446,15 @@ pub const NO_CABLES: Text = ("none", "keine");
 
 pub const BOARD_END: &str = "</svg>\n<figcaption>";
 
-/// The line of a cable: from its left end into its lane, to its right end, or open.
+/// The line of a cable, in pieces: from a socket into its lane; along the lane to a socket; and along the lane to an
+/// open end.
 pub const LEFT_HALF: &str = "<path~ d=\"M~ ~V~Q~ ~ ~ ~";
 
 pub const RIGHT_HALF: &str = "H~Q~ ~ ~ ~V~\"/>\n";
 
 pub const OPEN_END: &str = "H~\"/>\n";
 
-/// A socket: free, with a plug that stays, with a plug to take out, with a plug to put in.
+/// A socket: free, or with a plug that stays, a plug to take out, or a plug to put in.
 pub const FREE: &str =
     "<text x=\"~\" y=\"~\" font-size=\"22\">~</text>\n<circle class=\"free\" cx=\"~\" cy=\"~\" r=\"4\"/>\n";
 
@@ -460,7 +467,7 @@ pub const GOES_OUT: &str =
 pub const GOES_IN: &str =
     "<text class=\"bold\" x=\"~\" y=\"~\" font-size=\"22\">~</text>\n<circle class=\"in\" cx=\"~\" cy=\"~\" r=\"15\"/>\n<text class=\"on\" x=\"~\" y=\"~\" font-size=\"17\">~</text>\n";
 
-/// What the marks of a plugboard mean. The table of the plugs to move, with a row for each cable.
+/// The meaning of a plugboard's marks, then the table of the plugs to move, with a row for each cable.
 pub const CAPTION_SAME: Text = (
     "After. Circle: stays. Number: the cable’s.</figcaption></figure>\n",
     "Nachher. Kreis: bleibt. Zahl: Nummer der Schnur.</figcaption></figure>\n",
@@ -484,7 +491,8 @@ pub const PLUGS_END: &str = "</table>\n";
 
 pub const BOARD_STEP_END: &str = "</div>\n</section>\n";
 
-/// The table of the pins: a wheel, with the beginning of its lines; a pin, which may change.
+/// The table of the pins. It has the head of a wheel, with the beginning of its settings lines; and the cells of pins,
+/// which may change.
 pub const PINS: Text = (
     "<table class=pins>\n<caption>Pins after: ~ effective, ~ not. Framed pins are to change: ON makes a pin effective, OFF not.</caption>\n",
     "<table class=pins>\n<caption>Stifte nachher: ~ wirksam, ~ unwirksam. Umrahmte Stifte umstellen: EIN macht wirksam, AUS unwirksam.</caption>\n",
@@ -509,7 +517,8 @@ pub const PIN_SHOWN: &str = "~<br>~";
 
 pub const PINS_END: &str = "</table>\n</section>\n";
 
-/// The table of the bars: a bar, which may change; the cell of a place; cells for boxes.
+/// The table of the bars. It has the head of a bar, which may change; the cells of a place; and the rest of the cells
+/// for checkboxes.
 pub const DRUM: Text = (
     "<table class=drum>\n<caption>~ a lug stays here, ~ a lug leaves, ~ a lug comes. Move the lugs of a bar in the order shown.</caption>\n<thead>\n<tr><th scope=col>Bar<th scope=col>1<th scope=col>0L<th scope=col>2<th scope=col>3<th scope=col>4<th scope=col>5<th scope=col>0R<th scope=col>6<th scope=col colspan=2>Lugs to move\n<tbody>\n",
     "<table class=drum>\n<caption>~ Reiter bleibt, ~ Reiter geht, ~ Reiter kommt. Die Reiter einer Stange in der gezeigten Reihenfolge versetzen.</caption>\n<thead>\n<tr><th scope=col>Stange<th scope=col>1<th scope=col>0L<th scope=col>2<th scope=col>3<th scope=col>4<th scope=col>5<th scope=col>0R<th scope=col>6<th scope=col colspan=2>Reiter versetzen\n<tbody>\n",
@@ -531,7 +540,8 @@ pub const BOXES: &str = "\n";
 
 pub const DRUM_END: &str = "</table>\n</section>\n";
 
-/// The test: the keys, and what the machine makes of them. Then the letters to set again, and the number of settings.
+/// The test: the keys to press, and the letters that the machine makes of them. Then the letters to set again, and the
+/// number of settings.
 pub const TEST_ROTOR: Text = (
     "<p>Type the alphabet. The lamps have to give the second line:</p>\n<pre>",
     "<p>Das Alphabet eintippen. Die Lampen müssen die zweite Zeile ergeben:</p>\n<pre>",
@@ -601,7 +611,7 @@ pub const LETTER_STEP: Text = ("3 Letters", "3 Buchstaben");
 
 pub const PRINT_STEP: Text = ("4 Test", "4 Probe");
 
-/// The slots' names.
+/// The names of the slots.
 pub const GREEK: Text = ("Greek", "Griechenwalze");
 
 pub const LEFT: Text = ("left", "links");
@@ -610,7 +620,7 @@ pub const MIDDLE: Text = ("middle", "Mitte");
 
 pub const RIGHT: Text = ("right", "rechts");
 
-/// The names of the pictures, and the classes of moving cables.
+/// The names of the two pictures, and the classes of cables that move, or don't.
 pub const BEFORE: Text = ("before", "vorher");
 
 pub const AFTER: Text = ("after", "nachher");

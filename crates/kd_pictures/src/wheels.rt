@@ -23,7 +23,7 @@ use crate::words::Word;
 use kd_state::Machine;
 use kd_tables::{Letter, Reflector, Sink, Wheel};
 
-/// Writes the picture of the machine before, and below it of the machine after. What differs is marked there.
+/// Writes the picture of the machine before, and below it that of the machine after, with the differences marked.
 pub fn draw_both<W: Sink>(sink: &mut W, language: Language, before: &Machine, after: &Machine)
     ensures { Draws W.taken W.has_failed sink.old sink.new (both_bands language before.now after.now) }
 {
@@ -37,7 +37,7 @@ pub fn draw_both<W: Sink>(sink: &mut W, language: Language, before: &Machine, af
     draw(sink, WHEELS_END);
 }
 
-/// Writes the picture of the machine if nothing changes.
+/// Writes the picture of one machine, if nothing changes.
 pub fn draw_one<W: Sink>(sink: &mut W, language: Language, after: &Machine)
     ensures { Draws W.taken W.has_failed sink.old sink.new (one_band language after.now) }
 {
@@ -48,7 +48,7 @@ pub fn draw_one<W: Sink>(sink: &mut W, language: Language, after: &Machine)
     draw(sink, WHEELS_END);
 }
 
-/// Writes in words how a rotor machine's reflector, wheels, rings and windows are set.
+/// Writes in words which reflector, wheels, rings and window letters a rotor machine has.
 pub fn draw_words<W: Sink>(sink: &mut W, language: Language, machine: &Machine)
     ensures { Draws W.taken W.has_failed sink.old sink.new (machine_words language machine.now) }
 {
@@ -102,7 +102,7 @@ fn draw_slot_words<W: Sink>(
     }
 }
 
-/// Writes a wheel in its slot, its ring and its window letter, in words.
+/// Writes a wheel in a slot, its ring and its window letter, in words.
 fn draw_wheel_words<W: Sink>(
     sink: &mut W,
     language: Language,
@@ -137,7 +137,7 @@ fn draw_letter_words<W: Sink>(
     }
 }
 
-/// Writes a band at height `y`: `machine`, with what differs in `other` marked.
+/// Writes the band of `machine` at height `y`, with the differences from `other` marked.
 fn draw_band<W: Sink>(
     sink: &mut W,
     language: Language,
@@ -266,7 +266,7 @@ fn draw_empty<W: Sink>(sink: &mut W, language: Language, x: u16, y: u16, slot: u
     );
 }
 
-/// Writes a wheel in its slot, its ring and its window.
+/// Writes a wheel in a slot, its ring and its window.
 fn draw_seated<W: Sink>(
     sink: &mut W,
     language: Language,
@@ -409,7 +409,7 @@ fn draw_window<W: Sink>(
     }
 }
 
-/// Whether the slot holds the wheel.
+/// Whether the wheel is in this slot.
 pub fn is_seated(machine: &Machine, slot: u8, wheel: Wheel) -> bool
     ensures { result ≡ is_seated machine.now slot wheel }
 {

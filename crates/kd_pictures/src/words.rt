@@ -6,7 +6,7 @@ use crate::language::Language;
 use crate::texts;
 use kd_tables::Model;
 
-/// A fixed word: the language's code, or the name of a step, a slot, a picture, a pin's state or a lug.
+/// A fixed word: the language's code; the name of a step, a slot, a picture or a lug; or which way a pin is set.
 #[derive(Clone, Copy)]
 pub enum Word {
     Language,
@@ -64,7 +64,7 @@ impl Word {
     }
 }
 
-/// The class of a cable's line.
+/// The class of a cable's line: whether it has a plug to take out, a plug to put in, or neither.
 #[derive(Clone, Copy)]
 pub enum Class {
     Plain,
@@ -84,7 +84,7 @@ impl Class {
     }
 }
 
-/// A mark of a table: of a pin, or of a place on a bar.
+/// A mark in a table, for a pin, or for a place on a bar.
 #[derive(Clone, Copy)]
 pub enum Mark {
     Effective,
@@ -108,7 +108,7 @@ impl Mark {
     }
 }
 
-/// The model's name in words.
+/// The full name of the model.
 pub fn model_name(model: Model) -> &'static str
     ensures { result.now ≡ model_name model }
 {
