@@ -4,7 +4,7 @@
 -- * Without this array, a document with `version`, or with `model` and without `day`, is a machine file.
 -- * Any other document with `day` is a key sheet whose `day` has the wrong type, such as `[day]`.
 -- * A document without the keys `day`, `version` and `model` may be either: a key sheet without its lines `[[day]]`, or
---   a machine file without these two lines. `look` says that it can't tell which.
+--   a machine file without `version` and `model`. `look` says that it can't tell which.
 --
 -- Source: `docs/FORMATS.md`. Test: tests/cases/curator-look.toml
 use Rattle.std.specs.Prelude.{◌&&◌, ◌||◌, Bool, not, is_some, List, Option}

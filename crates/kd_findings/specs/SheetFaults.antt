@@ -89,8 +89,8 @@ abbrev pub faults_after : List Data → List Data → List (Place × SheetFault)
 faults_after earlier [] = []
 faults_after earlier (item ∷ rest) = entry_faults earlier item ++ faults_after (earlier ++ item ∷ []) rest
 
--- The list has the faults of the first entries. It has those of all entries, unless it has at least 300 faults: an
--- honest month of 31 days with at most 8 keys each has fewer.
+-- The list has the faults of the first entries. It has those of all entries, unless it has at least 300 faults: a
+-- month of 31 days with at most 8 keys each has fewer.
 pub record AreSheetFaults (items : List Data) (faults : List (Place × SheetFault)) : Type 0 where
   pub count : ℕ
   pub within : count ≤ length items
