@@ -73,7 +73,7 @@ fn pressed_count(row: &[Cell]) -> usize
     row.iter().filter(|cell| cell.is_pressed).count()
 }
 
-/// Writes a row. `progress` is that after the row.
+/// Writes a row. `progress` includes this row.
 fn draw_row<W: Sink>(
     sink: &mut W,
     language: Language,
