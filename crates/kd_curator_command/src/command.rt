@@ -82,7 +82,7 @@ pub enum Command<F, T> {
     Sheet {
         /// The table.
         table: F,
-        /// Texts for cells that are missing in the table.
+        /// Texts for cells that are blank or missing in the table.
         options: TableOptions<T>,
     },
     /// Puts machine files and key sheets into words, or names their faults.
