@@ -24,7 +24,8 @@ pub fn total_of(parts: &[DamagedPart]) -> u8
     }
 }
 
-/// Whether the numbers of the parts rise as they came, from above `before`. Parts without a number don't count.
+/// Whether the numbers of the parts are in rising order, and the first is above `before`. Parts without a number don't
+/// count.
 pub fn are_rising(before: u8, parts: &[DamagedPart]) -> bool
     ensures { result ≡ are_rising before (numbers_of parts.now) }
 {
@@ -57,7 +58,7 @@ pub fn times_of(parts: &[DamagedPart], number: u16) -> usize
         .count()
 }
 
-/// The part that is shown under this number: the one whose text tells most, or the first of several.
+/// The part that is shown under this number: the one whose text tells most; of several, the first.
 pub fn shown_under(parts: &[DamagedPart], number: u16) -> Option<&DamagedPart>
     ensures { MatchOption result
         (shown_under parts.now number ≡ None)

@@ -53,12 +53,12 @@ listed_text l name (Ok shown) counted = listed_sheet l name.sheet name.part name
 listed_text l name (Err damage) (Some shown) = listed_sheet l name.sheet name.part name.parts
 listed_text l name (Err damage) None = listed_unread l name
 
--- the sheet on which this text is worked
+-- the sheet for a part with this text
 abbrev pub sheet_of_text : Language → Day → PartName → DamagedText → List ℕ
 sheet_of_text l s name shown =
     part_sheet l (sheet_to_receive (day_model s)) s name (warnings_of shown) (received_work s shown)
 
--- the sheet on which a part is worked; none if the part isn't read, not even by count
+-- the sheet for a part; none if the part isn't read, not even by count
 abbrev pub worked_text : Language → Day → PartName → Result DamagedText PartDamage → Option DamagedText → List ℕ
 worked_text l s name (Ok shown) counted = sheet_of_text l s name shown
 worked_text l s name (Err damage) (Some shown) = sheet_of_text l s name shown
