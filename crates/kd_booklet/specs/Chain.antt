@@ -1,4 +1,4 @@
--- Days one after another: each starts from the machine as the day before left it.
+-- The plans of several days in turn: each starts from the machine as the day before left it.
 -- Code: `add_plans` plans one day after another, and stops at the first day that can't be planned.
 -- Test: tests/cases/curator-pages.toml
 use Rattle.std.specs.Prelude.{◌≡◌, ◌≢◌, ◌⊎◌, ℕ, List, [], ◌∷◌, ◌++◌, Option, Some, None}
@@ -12,21 +12,21 @@ use Rattle.kd_booklet.specs.declared.fault.DayFault.{DayFault}
 use Rattle.kd_booklet.specs.declared.fault.NoPlan.{NoPlan}
 use Rattle.kd_booklet.specs.declared.fault.NoPlan.TheVariants.{NoSuchDay, OtherModel}
 
--- The month has day `number`, and the plan sets machine `m` to it. Machine `n` is `m` after the plan.
+-- The month has day `number`. The plan is for this day, and leads from machine `m` to machine `n`.
 pub record IsPlanOf (month : List (Option Day)) (m : Parts) (number : ℕ) (plan : DayPlan) (n : Parts) : Type 0 where
   pub s : Day
   pub of_month : day_of month number ≡ Some s
   pub plans : IsDayPlan m s plan n
 
--- The plans are for the days `numbers`, in the same order. The first day is planned for machine `m`; each later day is
--- planned for the machine that the plan before it leads to.
+-- The plans are for the days `numbers`, in the same order. The first starts from machine `m`; each later one starts
+-- from the machine to which the plan before it leads.
 abbrev pub ArePlanned : List (Option Day) → Parts → List ℕ → List DayPlan → Type 0
 ArePlanned month m [] [] = Unit {0}
 ArePlanned month m (number ∷ numbers) (plan ∷ plans) =
     (n : Parts) × IsPlanOf month m number plan n × ArePlanned month n numbers plans
 ArePlanned month m numbers plans = ⊥
 
--- Why a day can't be planned: the sheet lacks the day, or the day is of another model than the machine.
+-- The reason why a day can't be planned: the sheet doesn't have it, or it is of another model than the machine.
 abbrev pub LacksDay : Model → List (Option Day) → ℕ → NoPlan → Type 0
 LacksDay model month number NoSuchDay = day_of month number ≡ None
 LacksDay model month number OtherModel = (s : Day) × (day_of month number ≡ Some s) × (model ≢ day_model s)
@@ -35,7 +35,7 @@ pub record IsDayFault (model : Model) (month : List (Option Day)) (number : ℕ)
   pub day : fault.day ≡ number
   pub lacks : LacksDay model month number fault.why
 
--- The fault is the fault of the first day that can't be planned.
+-- The fault is that of the first day that can't be planned.
 abbrev pub IsFirstFault : Model → List (Option Day) → List ℕ → DayFault → Type 0
 IsFirstFault model month [] fault = ⊥
 IsFirstFault model month (number ∷ numbers) fault =
@@ -44,7 +44,7 @@ IsFirstFault model month (number ∷ numbers) fault =
 
 -- ---- Plans that are added one by one. No public contract cites this definition.
 
--- `new` is `old`, and then plans of the days `numbers`.
+-- `new` has the plans of `old`, then plans of the days `numbers`, the first of which starts from machine `m`.
 pub record AddsPlans (month : List (Option Day)) (m : Parts) (numbers : List ℕ) (old new : List DayPlan) : Type 0 where
   pub plans : List DayPlan
   pub planned : ArePlanned month m numbers plans

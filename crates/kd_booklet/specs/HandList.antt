@@ -1,4 +1,4 @@
--- The settings of a page: those of a shortest card, in an order for the hand.
+-- The settings of a shortest card, in an order that suits an operator.
 use Rattle.std.specs.Prelude.{◌≡◌, List, IsPermutation}
 use Rattle.kd_state.specs.declared.machine.parts.Parts.{Parts}
 use Rattle.kd_state.specs.declared.setting.Setting.{Setting}
@@ -8,8 +8,8 @@ use Rattle.kd_card.specs.declared.prices.PriceParts.{PriceParts}
 use Rattle.kd_plan.specs.Planned.{IsProvedPlannedCard}
 use Rattle.kd_booklet.specs.HandOrder.{in_hand_order}
 
--- The settings are a planned card's, in an order for the hand: rings first, window letters last. In this order, too,
--- they lead to the day, and no list that leads to the day is shorter.
+-- The settings are those of a planned card in another order: rings first, window letters last. In this order, too, they
+-- lead to the day, and no list that leads to the day is shorter.
 pub record IsHandList (m : Parts) (s : Day) (settings : List Setting) : Type 0 where
   pub planned : List Setting
   pub prices : PriceParts

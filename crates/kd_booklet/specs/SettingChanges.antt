@@ -1,4 +1,4 @@
--- Each setting of a day's list changes what it sets.
+-- Each setting of a day's list changes the thing that it sets.
 use Rattle.std.specs.Prelude.{◌≡◌, ◌≢◌, ℕ, true, false, All, Option, Some, option_map}
 use Rattle.kd_tables.specs.declared.lug.Lug.{Lug}
 use Rattle.kd_tables.specs.declared.lug.Lug.TheVariants.{Left, Right}
@@ -17,17 +17,17 @@ use Rattle.kd_pictures.specs.Wheels.{is_seated}
 use Rattle.kd_booklet.specs.DayPlan.{IsDayPlan}
 use Rattle.kd_booklet.specs.declared.day_plan.DayPlan.{DayPlan}
 
--- the place of a bar's left or right lug, if the machine has this bar
+-- the place of a bar's left or right lug; `None` if the machine has no such bar
 abbrev pub lug_at : Parts → ℕ → Lug → Option Place
 lug_at m bar Left = option_map (λ standing. standing.0) (machine_standing m bar)
 lug_at m bar Right = option_map (λ standing. standing.1) (machine_standing m bar)
 
--- A value is `due` after a list, and was another value before.
+-- The value is `due` after a list, and was another before it.
 abbrev pub Becomes : {A : Type 0} → A → A → A → Type 0
 Becomes before after due = (before ≢ due) × (after ≡ due)
 
--- The letter in a window changes to `letter`. On a rotor machine, the window is the window of the wheel that machine `n`
--- has in slot `number`; on a Converter, it is the window of pin wheel `number`.
+-- The window of a slot, or of a pin wheel, changes to `letter`. In a slot, the wheel is the one that machine `n` has
+-- there.
 abbrev pub WindowTurns : Parts → Parts → ℕ → ℕ → Type 0
 WindowTurns (Rotor m) n number letter =
     (wheel : Wheel) → is_seated n number wheel ≡ true
@@ -35,8 +35,8 @@ WindowTurns (Rotor m) n number letter =
 WindowTurns (Pin m) n number letter =
     Becomes (machine_pin_letter (Pin m) number) (machine_pin_letter n number) (Some letter)
 
--- What the setting sets differs between machine `m`, before a list, and machine `n`, after the list. A page marks this
--- thing, unless it is a Converter's letter.
+-- The thing that the setting sets differs between machine `m`, before a list, and machine `n`, after it, and is then as
+-- the setting says. A page marks this thing, unless it is a Converter's letter.
 abbrev pub Changes : Parts → Parts → Setting → Type 0
 Changes m n (RingTo wheel letter) = Becomes (machine_ring m wheel) (machine_ring n wheel) (Some letter)
 Changes m n (SeatReflector reflector) = Becomes (machine_reflector m) (machine_reflector n) (Some reflector)
@@ -48,7 +48,7 @@ Changes m n (PinTo wheel letter effective) =
 Changes m n (LugTo bar lug place) = Becomes (lug_at m bar lug) (lug_at n bar lug) (Some place)
 Changes m n (Turn number letter) = WindowTurns m n number letter
 
--- Each setting of a day's list changes what it sets. Of a list that turns a wheel twice, this would be false.
+-- Each setting of a day's list changes the thing that it sets. This wouldn't hold of a list that turns a wheel twice.
 abbrev pub DaySettingsChangeThings : Type 0
 DaySettingsChangeThings =
     (m n : Parts) (s : Day) (plan : DayPlan) → IsMachine m → IsLegalDay s → IsDayPlan m s plan n

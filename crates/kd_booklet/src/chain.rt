@@ -1,4 +1,4 @@
-//! The chain of days: each day starts from the machine as the day before left it.
+//! The plans of several days in turn: each starts from the machine as the day before left it.
 ghost use Rattle.std.specs.Prelude.{◌≡◌, ◌+◌, ◌≤◌, length, IfErr, IfOk, OnOk};
 ghost use Rattle.arrayvec.specs.ArrayVec.{array_vec_len};
 ghost use Rattle.kd_state.specs.Machine.{model_of};
@@ -17,7 +17,7 @@ pub type DayPlans = ArrayVec<DayPlan, 31>;
 
 /// Plans the days `numbers`, each from the machine as the day before left it.
 ///
-/// The first day that the sheet lacks, or that is of another model, is the fault.
+/// The fault is that of the first day that the sheet doesn't have, or that is of another model.
 pub fn plan_days(machine: &Machine, sheet: &Sheet, numbers: &[u8]) -> Result<DayPlans, DayFault>
     requires { length numbers.now ≤ 31 }
     ensures planned { IfOk result
@@ -29,7 +29,7 @@ pub fn plan_days(machine: &Machine, sheet: &Sheet, numbers: &[u8]) -> Result<Day
     Ok(plans)
 }
 
-/// Plans the days `numbers`, and adds their plans to `plans`.
+/// Plans the days `numbers`, and appends their plans to `plans`.
 fn add_plans(
     plans: &mut DayPlans,
     machine: &Machine,
@@ -50,7 +50,7 @@ fn add_plans(
     add_plans(plans, &after, sheet, numbers)
 }
 
-/// Day `number` of the sheet, if it is of the machine's model.
+/// Day `number` of the sheet, if the sheet has it, and it is of the machine's model.
 pub fn day_of_model<'a>(
     machine: &Machine,
     sheet: &'a Sheet,

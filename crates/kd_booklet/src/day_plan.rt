@@ -1,4 +1,4 @@
-//! The list of a day, and the machine that the list leads to.
+//! A day's settings, and the machine to which they lead.
 ghost use Rattle.std.specs.Prelude.{◌≡◌};
 ghost use Rattle.kd_state.specs.Machine.{model_of};
 ghost use Rattle.kd_state.specs.SheetDay.{day_model};
@@ -8,7 +8,7 @@ use crate::hand_list::plan_by_hand;
 use kd_state::laws::settings_lead_or_are_refused;
 use kd_state::{Entry, Machine, Parts, Settings, SheetDay, carry_all};
 
-/// A day's settings, in an order for the hand.
+/// A day's settings, in an order that suits an operator.
 #[derive(Default, Drop)]
 pub struct DayPlan {
     /// The day's number.
@@ -16,7 +16,7 @@ pub struct DayPlan {
     pub settings: Settings,
 }
 
-/// Plans a day: a shortest list from `machine` to `day`. Returns also the machine after the list.
+/// Plans a shortest list of settings from `machine` to `day`. Returns the plan, and the machine after the settings.
 pub fn plan_day(machine: &Machine, day: &SheetDay) -> (DayPlan, Machine)
     requires { model_of machine.now ≡ day_model day.now }
     ensures plan { IsDayPlan machine.now day.now result.0 result.1 }

@@ -1,4 +1,4 @@
-//! The settings of a page: those of a shortest card, in an order for the hand.
+//! The settings of a shortest card, in an order that suits an operator.
 ghost use Rattle.std.specs.Prelude.{◌≡◌};
 ghost use Rattle.kd_state.specs.Machine.{model_of};
 ghost use Rattle.kd_state.specs.SheetDay.{day_model};
@@ -9,7 +9,7 @@ use kd_card::Card;
 use kd_plan::plan;
 use kd_state::{Machine, Settings, SheetDay};
 
-/// Plans a shortest card from `machine` to `day`, and returns its settings in an order for the hand.
+/// Plans a shortest card from `machine` to `day`, and returns its settings, rings first and window letters last.
 pub(crate) fn plan_by_hand(machine: &Machine, day: &SheetDay) -> Settings
     requires { model_of machine.now ≡ day_model day.now }
     ensures { IsHandList machine.now day.now result.items }

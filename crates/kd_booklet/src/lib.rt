@@ -1,4 +1,4 @@
-//! The days of a booklet: planned one after another, each list in the order of a page, and drawn.
+//! A booklet: the pages of several days, which are planned one after another, with the settings in the order of a page.
 #![tactic(auto)]
 
 mod chain;

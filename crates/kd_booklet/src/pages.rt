@@ -16,7 +16,7 @@ use kd_page::{Language, ListedDay, Page, draw, draw_day, draw_foot, draw_head};
 use kd_state::{Machine, Parts, carry_all};
 use kd_tables::{Device, Sink};
 
-/// Writes the pages of the days that are planned, in this language: first `first`, and then `others`.
+/// Writes a file with the pages of the planned days `first` and `others`, in `language`.
 pub fn write_pages<W: Sink>(
     sink: &mut W,
     language: Language,
@@ -34,7 +34,7 @@ pub fn write_pages<W: Sink>(
     if sink.failed() { Err(Device) } else { Ok(()) }
 }
 
-/// Draws the head of the file, with the list of days, the pages, and the foot.
+/// Draws the file: its head with the list of days, the pages, and the foot.
 fn draw_pages<W: Sink>(
     sink: &mut W,
     language: Language,
@@ -53,7 +53,7 @@ fn draw_pages<W: Sink>(
     draw_foot(sink);
 }
 
-/// Draws the head of the file.
+/// Draws the head of the file, with the list of the days.
 fn draw_listed<W: Sink>(
     sink: &mut W,
     language: Language,
@@ -76,7 +76,7 @@ fn draw_listed<W: Sink>(
     );
 }
 
-/// Adds the days that are planned to `listed`.
+/// Adds the planned days to `listed`.
 fn list_days(listed: &mut ArrayVec<ListedDay, 31>, plans: &[DayPlan])
     requires { array_vec_len listed.old + length plans.now ≤ 31 }
     ensures { listed.new.items ≡ listed.old.items ++ map listed_day plans.now }
@@ -87,7 +87,7 @@ fn list_days(listed: &mut ArrayVec<ListedDay, 31>, plans: &[DayPlan])
     }
 }
 
-/// The day, with its number of settings.
+/// A planned day as an item of the list of days, with its number of settings.
 fn listed_day(plan: &DayPlan) -> ListedDay
     ensures { result ≡ listed_day plan.now }
 {
@@ -116,7 +116,7 @@ fn draw_plan<W: Sink>(
     after
 }
 
-/// Draws the pages of days that are planned, of which the first is for `machine`.
+/// Draws the pages of planned days, the first of which is for `machine`.
 fn draw_plans<W: Sink>(sink: &mut W, language: Language, machine: &Machine, plans: &[DayPlan])
     requires { AreDrawable machine.now plans.now }
     ensures { (text : List ℕ) × ArePages language machine.now plans.now text

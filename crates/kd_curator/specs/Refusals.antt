@@ -1,4 +1,4 @@
--- Why a command is refused, and the text of the refusal.
+-- The reasons why a command is refused, and the texts of refusals.
 -- Test: tests/cases/curator-pages.toml
 use Rattle.std.specs.Prelude.{codes, ℕ, Bool, true, false, List, Some, None, Result, Ok, Err, if◌then◌else◌}
 use Rattle.kd_tables.specs.declared.refusal.Refusal.TheVariants as refusals
@@ -34,16 +34,16 @@ page_fault_text faults.TooManyParts = codes "because the form has more than 255 
 page_fault_text faults.NotWhole = codes "in part: the form isn't read as one whole message of the day"
 page_fault_text faults.Device = refusal_name refusals.Device
 
--- a refusal that is of no day, or of the only one
+-- a refusal that names no day
 abbrev pub refused_whole : PageFault → Refused
 refused_whole fault = record { day = None; fault = fault }
 
--- why a day can't be planned, as the fault of a refusal
+-- the fault of a refusal, for the reason why a day can't be planned
 abbrev pub fault_of_plan : NoPlan → PageFault
 fault_of_plan plans.NoSuchDay = faults.NoSuchDay
 fault_of_plan plans.OtherModel = faults.OtherModel
 
--- The refusal for a day's fault. It names the day if there are several.
+-- The refusal of a day that can't be planned. It names the day if several days were asked for.
 abbrev pub day_refusal : Bool → DayFault → Refused
 day_refusal several fault = record {
   day = if several then Some fault.day else None;
@@ -54,14 +54,14 @@ abbrev pub is_device_fault : PageFault → Bool
 is_device_fault faults.Device = true
 is_device_fault _ = false
 
--- whether a refusal for this fault comes after something was written: a write failed, or all was written
+-- whether a refusal for this fault comes after output was written: a write failed, or the whole output was written
 abbrev pub comes_after_writing : PageFault → Bool
 comes_after_writing faults.Device = true
 comes_after_writing faults.FaultyFile = true
 comes_after_writing faults.NotWhole = true
 comes_after_writing _ = false
 
--- whether a refusal for this fault comes after all was written: a report on files, or the page of a form
+-- whether a refusal for this fault comes after the whole output was written: a report on files, or the page of a form
 abbrev pub is_after_all : PageFault → Bool
 is_after_all faults.FaultyFile = true
 is_after_all faults.NotWhole = true
@@ -70,41 +70,41 @@ is_after_all _ = false
 abbrev pub refused_device : Refused
 refused_device = refused_whole faults.Device
 
--- whether a refusal says that a write failed
+-- whether the answer is a refusal because a write failed
 abbrev pub is_device : Result (Unit {0}) Refused → Bool
 is_device (Ok done) = false
 is_device (Err refused) = is_device_fault refused.fault
 
--- why there are no tables, as a refusal
+-- the refusal of the command `table` for a fault
 abbrev pub refused_table : TableFault → Refused
 refused_table (tables.Sheet fault) = refused_whole (faults.File fault)
 refused_table tables.Device = refused_device
 
--- why no page for sending is written, as a refusal
+-- the refusal of the command `send` for a fault
 abbrev pub refused_send : SendPageFault → Refused
 refused_send (sends.Order fault) = refused_whole (faults.Message fault)
 refused_send sends.Device = refused_device
 
--- why no page of a form is written, as a refusal
+-- the refusal of the command `receive` for a fault
 abbrev pub refused_receive : ReceivePageFault → Refused
 refused_receive receives.NoMemory = refused_whole (faults.File NoMemory)
 refused_receive receives.TooManyParts = refused_whole faults.TooManyParts
 refused_receive receives.Device = refused_device
 
--- why no key sheet is made of a table, as a refusal
+-- the refusal of the command `sheet` for a fault
 abbrev pub refused_spreadsheet : SpreadsheetFault → Refused
 refused_spreadsheet spreadsheets.Refused = refused_whole faults.FaultyTable
 refused_spreadsheet spreadsheets.Device = refused_device
 refused_spreadsheet spreadsheets.NoMemory = refused_whole (faults.File NoMemory)
 
--- why no report was written whole, as a refusal
+-- the refusal of the command `look` for a fault
 abbrev pub refused_look : LookFault → Refused
 refused_look looks.Device = refused_device
 refused_look looks.NoMemory = refused_whole (faults.File NoMemory)
 
 -- ---- Whether something was written before a refusal.
 
--- whether a command was refused after it had written something
+-- whether a command is refused after it has written output
 abbrev pub has_written : Result (Unit {0}) Refused → Bool
 has_written (Ok done) = false
 has_written (Err refused) = comes_after_writing refused.fault

@@ -1,4 +1,4 @@
-//! A sink that gathers small pieces before it passes them on.
+//! A sink that gathers small pieces of text before it passes them on.
 ghost use Rattle.std.specs.Prelude.{◌≡◌, ◌≤◌, ◌||◌, [], ◌++◌, take, length, nat_lt, Some, OnErr, OnOk, is_err};
 ghost use Rattle.std.specs.Prelude.{option_map};
 ghost use Rattle.std.specs.Io.KnownBytes.{append_known, Appends, Keeps};
@@ -10,7 +10,7 @@ use kd_tables::{Failed, Sink};
 /// The most bytes that are gathered.
 const ROOM: usize = 4096;
 
-/// A sink that gathers bytes, and passes them on to another sink when there is no room for more, and at `flush`.
+/// A sink that gathers bytes. It passes them on to another sink when it has no room for more, and at `flush`.
 #[derive(Drop)]
 pub(crate) struct BufferedSink<W: Sink + Drop> {
     sink: W,
@@ -29,7 +29,7 @@ impl<W: Sink + Drop> BufferedSink<W> {
         }
     }
 
-    /// Returns the sink. Bytes that were gathered, but not passed on, are lost.
+    /// Returns the other sink. Gathered bytes that weren't passed on are lost.
     pub(crate) fn into_sink(self) -> W
         ensures { result ≡ self.sink }
     {
@@ -37,7 +37,7 @@ impl<W: Sink + Drop> BufferedSink<W> {
         sink
     }
 
-    /// Passes on all bytes that are gathered. If the other sink fails, the bytes that it didn't take stay.
+    /// Passes on all gathered bytes. If the other sink fails, the bytes that it didn't take stay gathered.
     pub(crate) fn flush(&mut self) -> Result<(), Failed>
         ensures kept { Keeps (append_known (W.taken self.old.sink) self.old.gathered.items)
             (append_known (W.taken self.new.sink) self.new.gathered.items) }
@@ -77,7 +77,7 @@ impl<W: Sink + Drop> Sink for BufferedSink<W> {
     }
 }
 
-/// Writes as many of `bytes` to `sink` as it takes, and returns how many these are: all, unless it fails.
+/// Writes `bytes` to `sink`, and returns how many of them it took: all, unless it failed.
 #[tactic(auto, using(kd_tables::proofs::SeveralPuts::takes_more, kd_tables::proofs::SeveralPuts::still_failed))]
 fn pass_on<W: Sink>(sink: &mut W, bytes: &[u8]) -> usize
     ensures within { result ≤ length bytes.now }

@@ -11,20 +11,20 @@ use kd_sheet::SheetFault;
 use kd_table::SpreadsheetFault;
 use kd_tables::{Device, Refusal, Text};
 
-/// Why a command is refused, wholly or in part.
+/// Why a command is refused, though part of its output may be written.
 #[derive(Clone, Copy, Debug, PartialEq, Eq)]
 pub enum PageFault {
     /// The machine file or the key sheet has this fault, or memory ran out.
     File(SheetFault),
-    /// The sheet has no such day.
+    /// The sheet doesn't have the day.
     NoSuchDay,
     /// The machine and the sheet's day are of different models.
     OtherModel,
-    /// The machine isn't ready or not on the day's key, the message has this fault, or memory ran out for it.
+    /// The machine isn't ready, or isn't on the day's key; the message has this fault; or memory ran out for it.
     Message(FormFault),
-    /// A spreadsheet's table has faults, which are told in words.
+    /// A spreadsheet's table has faults. Notes on standard error say which.
     FaultyTable,
-    /// A file that was looked at has faults, which are told in words.
+    /// A file that was looked at has faults. The report says which.
     FaultyFile,
     /// A form would have more than 255 parts.
     TooManyParts,
@@ -36,9 +36,9 @@ pub enum PageFault {
 }
 
 impl PageFault {
-    /// Returns the refusal's number and name, followed by the fault's values, such as a key, if it has any.
+    /// The refusal's number and name, followed by the fault's values, such as a key, if it has any.
     ///
-    /// Faults that are told in words have no number here.
+    /// Faults with notes or a report of their own have no number here.
     pub fn text(&self) -> Text
         ensures { result.bytes ≡ page_fault_text self.now }
     {

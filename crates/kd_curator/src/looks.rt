@@ -1,4 +1,4 @@
-//! The command `look`: says in words what files say, or what is wrong with them.
+//! The command `look`: puts files into words, or names their faults.
 ghost use Rattle.std.specs.Prelude.{◌≡◌, ◌∷◌, ◌++◌, ◌||◌, false, option_map, Err, IsErr};
 ghost use Rattle.kd_tables.specs.Ports.{port};
 ghost use Rattle.kd_look.specs.Look.{IsLookAnswer, is_device as is_look_device, named_text};
@@ -13,7 +13,7 @@ use kd_look::{LookFault, NamedFile, Outcome, look_at};
 use kd_tables::Sink;
 use std::alloc::Global;
 
-/// Writes what the files say, or what is wrong with them.
+/// Writes the contents of files in words, or their faults.
 pub(crate) fn look_at_files<W: Sink>(
     alloc: Global,
     names: &UpToThree<&str>,
@@ -34,7 +34,7 @@ pub(crate) fn look_at_files<W: Sink>(
     answer_of(look_at_all(alloc, first, second, third, sink))
 }
 
-/// Another file with its name, if there is one.
+/// The file with its name; `None` if there is none.
 fn named<'a>(name: Option<&'a str>, file: &'a Option<Content>) -> Option<NamedFile<'a>>
     ensures { list_of_option (option_map named_text result)
         ≡ other_text (option_map (λ text. text.now) name.entry) file.entry.now }
@@ -46,7 +46,7 @@ fn named<'a>(name: Option<&'a str>, file: &'a Option<Content>) -> Option<NamedFi
     })
 }
 
-/// Writes what one file, two or three say, or what is wrong with them.
+/// Writes the contents of one, two or three files in words, or their faults.
 fn look_at_all<W: Sink>(
     alloc: Global,
     first: NamedFile<'_>,
@@ -69,7 +69,7 @@ fn look_at_all<W: Sink>(
     }
 }
 
-/// The program's answer, given what was found in the files.
+/// The answer of the command `look`, after the outcome for all files.
 fn answer_of(told: Result<Outcome, LookFault>) -> Result<(), Refused>
     ensures { result ≡ look_answer told }
 {

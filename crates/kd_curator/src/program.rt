@@ -49,13 +49,14 @@ use std::convert::AsStr;
 /// Carries out the command line `words`, which begins with the program's own name. Pages and tables are in `language`,
 /// unless the words ask for another one.
 ///
-/// Returns the exit status and the sink. The status is 0 for success, 2 for other words than a command's, and 1 for a
-/// refusal. With status 1 or 2, a text that says why is written to `errors`; the command `sheet` tells there a table's
-/// faults, and the columns that it doesn't read, too, and `receive` what is wrong with a form. Each file is read once, in
-/// the order of the command line. If a file can't be read, no later file is asked for, and nothing is written to `sink`.
+/// Returns the exit status and the sink. The status is 0 for success, 2 if the words aren't a command, and 1 for a
+/// refusal. With status 1 or 2, a text that says why is written to `errors`. Before it, the command `sheet` writes
+/// notes there on a table's faults and unread columns, and `receive` on what is wrong with a form. Each file is read
+/// once, in the order of the command line. If a file can't be read, no later file is asked for, and nothing is written
+/// to `sink`.
 ///
-/// If the words name a file for the output, nothing is written to `sink`. All that the command writes goes to a new file
-/// in `new_files`, which has this name exactly if everything was written that the answer says.
+/// If the words name an output file, nothing is written to `sink`. The output goes to a new file in `new_files`, which
+/// has this name exactly if the whole output was written.
 pub fn run_curator<'n, S: AsStr, F: Files<'n>, N: NewFiles, W: Sink + Drop, E: Sink>(
     alloc: Global,
     language: Language,
@@ -90,7 +91,7 @@ pub fn run_curator<'n, S: AsStr, F: Files<'n>, N: NewFiles, W: Sink + Drop, E: S
     }
 }
 
-/// Carries `command` out, and writes its output to the new file `name`.
+/// Carries `command` out, with its output in the new file `name`.
 fn run_to_file<'n, F: Files<'n>, N: NewFiles, E: Sink>(
     alloc: Global,
     language: Language,
@@ -118,10 +119,10 @@ fn run_to_file<'n, F: Files<'n>, N: NewFiles, E: Sink>(
     }
 }
 
-/// Publishes the new file `file` as `name`, if everything was written that `answer` says. Otherwise removes it.
+/// Publishes the new file `file` as `name`, if `answer` says that the whole output was written. Otherwise removes it.
 ///
-/// The file was begun under the name `other`. Without a fault, it is published exactly if everything was written, and no
-/// write to it failed.
+/// The file was begun under the name `other`. Without a fault, it is published exactly if the whole output was written,
+/// and no write to it failed.
 fn end_file<N: NewFiles>(
     answer: &Result<(), Stop>,
     new_files: &mut N,
@@ -145,7 +146,7 @@ fn end_file<N: NewFiles>(
     }
 }
 
-/// Carries `command` out, and gathers what is written before it is passed on to `sink`.
+/// Carries `command` out. Its output is gathered before it is passed on to `sink`.
 fn run_gathering<'n, F: Files<'n>, W: Sink + Drop, E: Sink>(
     alloc: Global,
     language: Language,
@@ -167,7 +168,7 @@ fn run_gathering<'n, F: Files<'n>, W: Sink + Drop, E: Sink>(
     (answer, gathering.into_sink())
 }
 
-/// Reads the files that `command` names, and carries it out.
+/// Reads the files of `command`, and carries it out.
 fn run_command<'n, F: Files<'n>, W: Sink, E: Sink>(
     alloc: Global,
     language: Language,
@@ -190,7 +191,7 @@ fn run_command<'n, F: Files<'n>, W: Sink, E: Sink>(
     Stop::of_answer(carry_out(alloc, language, command, sink, errors))
 }
 
-/// Answers words that aren't a command, for the reason `none`: shows help, if they ask for it.
+/// Answers words that don't mean a command: shows help if they ask for it, otherwise stops for the reason `none`.
 fn answer_other_words<W: Sink>(none: NoCommand, sink: &mut W) -> Result<(), Stop>
     ensures carried { (l : Language) (words : List (List ℕ)) (known : Option (List ℕ → Option (List ℕ)))
         → HasNoCommand words none
@@ -206,7 +207,7 @@ fn answer_other_words<W: Sink>(none: NoCommand, sink: &mut W) -> Result<(), Stop
     }
 }
 
-/// Reads the files that `command` names.
+/// Reads the files of `command`.
 fn read_files<'n, F: Files<'n>>(
     alloc: Global,
     command: NamedCommand<'n>,
@@ -363,7 +364,7 @@ fn read_spreadsheet<'n, F: Files<'n>>(
     Ok(Command::Sheet { table, options })
 }
 
-/// Reads the files of the command `look`.
+/// Reads the files for the command `look`.
 fn read_looked<'n, F: Files<'n>>(
     alloc: Global,
     names: UpToThree<&'n str>,
@@ -392,7 +393,7 @@ fn read_looked<'n, F: Files<'n>>(
     })
 }
 
-/// Reads another file, if there is a name.
+/// Reads the file `name`; `None` without a name.
 fn read_other<'n, F: Files<'n>>(
     alloc: Global,
     name: Option<&'n str>,
@@ -479,7 +480,7 @@ fn carry_out<W: Sink, E: Sink>(
     }
 }
 
-/// Does `task` with the machine in the file `machine` and the key sheet `sheet`.
+/// Carries out `task` with the machine in the file `machine` and the key sheet `sheet`.
 fn do_task<W: Sink>(
     alloc: Global,
     language: Language,
@@ -505,7 +506,7 @@ fn do_task<W: Sink>(
     }
 }
 
-/// Does `task` with the machine in the file `machine`, the key sheet `sheet`, and `message`.
+/// Carries out `task` with the machine in the file `machine`, the key sheet `sheet`, and the message `message`.
 fn work_message<W: Sink, E: Sink>(
     alloc: Global,
     language: Language,
@@ -532,7 +533,7 @@ fn work_message<W: Sink, E: Sink>(
     }
 }
 
-/// Writes `text`, which the words ask for.
+/// Writes `text`, for which the words ask.
 fn show<W: Sink>(text: &str, sink: &mut W) -> Result<(), Refused>
     ensures written { WritesText refused_device text.now
         (port W.taken W.has_failed sink.old sink.new) result }
@@ -542,7 +543,8 @@ fn show<W: Sink>(text: &str, sink: &mut W) -> Result<(), Refused>
     Ok(())
 }
 
-/// Passes on what is gathered, if everything was written. The answer is `Device` if the sink doesn't take all of it.
+/// Passes the gathered bytes on, if the whole output was written. The answer is `Device` if the sink doesn't take all
+/// of them.
 fn pass_rest_on<W: Sink + Drop>(
     done: Result<(), Stop>,
     sink: &mut BufferedSink<W>,
@@ -563,7 +565,7 @@ fn pass_rest_on<W: Sink + Drop>(
     }
 }
 
-/// Whether everything was written that the answer says.
+/// Whether the answer `done` says that the whole output was written.
 fn is_whole(done: &Result<(), Stop>) -> bool
     ensures { result ≡ is_whole done.now }
 {

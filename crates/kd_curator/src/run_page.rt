@@ -1,4 +1,4 @@
-//! The command `page`: writes an HTML page of each day, from the machine as the day before left it.
+//! The command `page`: writes an HTML page for each day, each from the machine as the day before left it.
 ghost use Rattle.std.specs.Prelude.{◌≡◌, ◌||◌, ◌+◌, ◌-◌, ◌≤◌, ◌++◌, filter, false, IfErr, IfOk, IsErr, length};
 ghost use Rattle.std.specs.List.{range_with_len};
 ghost use Rattle.kd_state.specs.Machine.{model_of};
@@ -18,11 +18,11 @@ use kd_state::Machine;
 use kd_tables::{Model, Sink};
 use std::alloc::Global;
 
-/// Writes the pages of `days`, from the machine in the file `machine` on, in one HTML file in this language.
+/// Writes the pages of `days`, the first from the machine in the file `machine`, in one HTML file in `language`.
 ///
-/// Without `days`, these are all days that the sheet has for the machine's model. Faults are tested in this order:
-/// faults of the machine file, faults of the sheet, and then, day by day, `NoSuchDay` and `OtherModel`. For all of these
-/// faults, nothing is written. For `Device`, only a prefix of the file is written.
+/// Without `days`, all days are written that the sheet has for the machine's model. Faults are tested in this order:
+/// faults of the machine file, faults of the sheet, and then, day by day, `NoSuchDay` and `OtherModel`. For all of
+/// these faults, nothing is written. For `Device`, only a prefix of the file is written.
 pub fn run_page<W: Sink>(
     alloc: Global,
     language: Language,
@@ -42,7 +42,7 @@ pub fn run_page<W: Sink>(
     write_days(language, &machine, &sheet, &days, sink)
 }
 
-/// Does what `run_page` does, for a machine and a sheet that are already read. Allocates nothing.
+/// Writes the pages for a machine and a sheet that are already read, as `run_page` does. Allocates no memory.
 pub fn write_days<W: Sink>(
     language: Language,
     machine: &Machine,
@@ -76,7 +76,7 @@ fn plan_or_refuse(machine: &Machine, sheet: &Sheet, days: &Days) -> Result<DayPl
     }
 }
 
-/// The days, or without `days` all days that the sheet has for the model.
+/// The days; without `days`, all the sheet's days of the model.
 fn wanted_days(days: Option<Days>, model: Model, sheet: &Sheet) -> Days
     ensures { result ≡ wanted_days days model sheet.now }
 {
@@ -90,7 +90,7 @@ fn wanted_days(days: Option<Days>, model: Model, sheet: &Sheet) -> Days
     }
 }
 
-/// Adds the days from `number` on that the sheet has for the model.
+/// Adds the sheet's days of the model from `number` on.
 fn add_days_of(days: &mut Days, model: Model, sheet: &Sheet, number: u8)
     requires { length days.old + (32 - number) ≤ 31 }
     ensures { days.new ≡ days.old ++ filter (has_day_of model sheet.now)
@@ -102,7 +102,7 @@ fn add_days_of(days: &mut Days, model: Model, sheet: &Sheet, number: u8)
     }
 }
 
-/// Whether the sheet has day `number`, and the day is of this model.
+/// Whether the sheet has day `number`, and this day is of the model.
 #[tactic(auto, unfolding(crate::specs::RunPage::has_day_of))]
 fn has_day_of(model: Model, sheet: &Sheet, number: u8) -> bool
     ensures { result ≡ has_day_of model sheet.now number }

@@ -1,4 +1,4 @@
-//! The command `receive`: writes an HTML page that says how a form is deciphered by hand, and its text.
+//! The command `receive`: writes an HTML page that shows how to decipher a form by hand, with the form's text.
 ghost use Rattle.std.specs.Prelude.{◌≡◌, ◌||◌, false, IsErr, MatchResult};
 ghost use Rattle.kd_form.specs.OnTheKey.{IsKeyFault, IsReadyOnKey};
 ghost use Rattle.kd_tables.specs.Ports.{port};
@@ -18,13 +18,13 @@ use kd_state::{Machine, SheetDay};
 use kd_tables::Sink;
 use std::alloc::Global;
 
-/// Writes the page for receiving `form` on the machine in the file `machine`, which must be on the key of day `number` of
-/// the sheet `sheet`.
+/// Writes the page for receiving `form` on the machine in the file `machine`, which must be on the key of day `number`
+/// of the sheet `sheet`.
 ///
-/// Faults are tested in this order: faults of the machine file, faults of the sheet, `NoSuchDay`, `NotReady`, `NotOnKey`,
-/// and `TooManyParts`. For all of these faults, nothing is written. For `Device`, only a prefix of the page is written. For
-/// `NotWhole`, the page is written. If a page is written, what is wrong with the form, and what to ask for, is told to
-/// `errors`.
+/// Faults are tested in this order: faults of the machine file, faults of the sheet, `NoSuchDay`, `NotReady`,
+/// `NotOnKey`, and `TooManyParts`. For all of these faults, nothing is written. For `Device`, only a prefix of the page
+/// is written. For `NotWhole`, the page is written. If a page is written, so are notes to `errors`: what is wrong with
+/// the form, and what to ask for.
 pub fn run_receive<W: Sink, E: Sink>(
     alloc: Global,
     language: Language,
@@ -52,7 +52,7 @@ pub fn run_receive<W: Sink, E: Sink>(
     )
 }
 
-/// Does what `run_receive` does, for a machine and a sheet that are already read.
+/// Writes the page for a machine and a sheet that are already read, as `run_receive` does.
 fn write_form<W: Sink, E: Sink>(
     alloc: Global,
     language: Language,

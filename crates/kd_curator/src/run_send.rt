@@ -1,4 +1,4 @@
-//! The command `send`: writes an HTML page that says how an order is enciphered by hand.
+//! The command `send`: writes an HTML page that shows how to encipher an order by hand.
 ghost use Rattle.std.specs.Prelude.{◌≡◌, ◌||◌, false, IsErr};
 ghost use Rattle.kd_tables.specs.Ports.{port};
 ghost use Rattle.kd_curator.specs.MachineAndSheet.{IsAnswerOnSheet};
@@ -39,7 +39,7 @@ pub fn run_send<W: Sink>(
     write_order(alloc, language, &machine, &sheet, number, order, sink)
 }
 
-/// Does what `run_send` does, for a machine and a sheet that are already read.
+/// Writes the page for a machine and a sheet that are already read, as `run_send` does.
 fn write_order<W: Sink>(
     alloc: Global,
     language: Language,

@@ -1,4 +1,4 @@
-//! The command `type`: writes an HTML page on which a machine is typed on.
+//! The command `type`: writes an HTML page with which to type on a machine.
 ghost use Rattle.std.specs.Prelude.{◌≡◌, ◌||◌, false, IsErr};
 ghost use Rattle.kd_tables.specs.Ports.{port};
 ghost use Rattle.kd_curator.specs.MachineAndSheet.{IsAnswerOnMachine};
@@ -14,11 +14,11 @@ use kd_tables::Sink;
 use kd_typing_page::draw_typing_page;
 use std::alloc::Global;
 
-/// Writes the page on which the machine in the file `machine` is typed on, in this language. The table in the page types
-/// as the machine enciphers.
+/// Writes the page with which to type on the machine in the file `machine`, in `language`. Typing on the page's table
+/// gives the machine's ciphertext.
 ///
-/// Faults are tested in this order: faults of the machine file, and `NotReady`. For these faults, nothing is written. For
-/// `Device`, only a prefix of the page is written.
+/// Faults are tested in this order: faults of the machine file, and `NotReady`. For these faults, nothing is written.
+/// For `Device`, only a prefix of the page is written.
 pub fn run_type<W: Sink>(
     alloc: Global,
     language: Language,
@@ -34,7 +34,7 @@ pub fn run_type<W: Sink>(
     write_typing_page(language, &machine, sink)
 }
 
-/// Does what `run_type` does, for a machine that is already read. Allocates nothing.
+/// Writes the page for a machine that is already read, as `run_type` does. Allocates no memory.
 pub fn write_typing_page<W: Sink>(
     language: Language,
     machine: &Machine,
@@ -51,7 +51,7 @@ pub fn write_typing_page<W: Sink>(
     }
 }
 
-/// The answer after a page was written, given whether the sink has failed.
+/// The answer after a page was written; `failed` says whether the sink has failed.
 fn answer_after(failed: bool) -> Result<(), Refused>
     ensures { result ≡ answer_after failed }
 {

@@ -1,4 +1,4 @@
-//! The command `sheet`: makes a key sheet of a spreadsheet's table, or writes a key sheet to fill in.
+//! The command `sheet`: makes a key sheet from a spreadsheet's table, or writes a key sheet to fill in.
 ghost use Rattle.std.specs.Prelude.{◌≡◌, ◌≤◌, ◌||◌, false, IsErr};
 ghost use Rattle.kd_tables.specs.Ports.{port};
 ghost use Rattle.kd_table.specs.Notes.{Tells};
@@ -13,7 +13,7 @@ use kd_table::{TableOptions, run_sheet, write_empty_month};
 use kd_tables::{Model, Sink};
 use std::alloc::Global;
 
-/// Writes the key sheet that the days of `table` make. Tells the table's faults to `errors`, if it has any.
+/// Writes the key sheet with the days of `table`. Writes notes on the table's faults, if it has any, to `errors`.
 pub(crate) fn make_sheet<W: Sink, E: Sink>(
     alloc: Global,
     table: &[u8],

@@ -1,4 +1,4 @@
-//! `Stop`: why the program stops without success, with its exit status and its text on standard error.
+//! `Stop`: why the program stops without success. It gives the exit status, and the text on standard error.
 ghost use Rattle.std.specs.Prelude.{◌≡◌, ◌≤◌, ◌+◌, ◌++◌};
 ghost use Rattle.arrayvec.specs.ArrayString.{array_string_len};
 ghost use Rattle.kd_tables.specs.Ports.{port};
@@ -19,7 +19,7 @@ type DayLine = ArrayString<96>;
 /// Why the program stops without success.
 #[derive(Drop)]
 pub enum Stop {
-    /// The command line isn't a command. The text says why.
+    /// The command line doesn't mean a command. The text says why.
     Usage(String),
     /// A file that the command line names can't be read.
     Unread(FileFault),
@@ -27,7 +27,7 @@ pub enum Stop {
     Refused(Refused),
 }
 
-/// Writes to `errors` the text for the `Stop` in `answer`, if there is one; returns the exit status.
+/// Writes to `errors` the text for the `Stop` in `answer`, if it has one; returns the exit status.
 ///
 /// The exit status is the same even if the text can't be written.
 pub fn end_program<E: Sink>(answer: &Result<(), Stop>, errors: &mut E) -> u8
@@ -51,7 +51,7 @@ fn refusal_line(refused: Refused) -> DayLine
     line
 }
 
-/// Appends the day's number, if there is one.
+/// Appends the words for the day, if there is one.
 fn push_day(line: &mut DayLine, day: Option<u8>)
     requires { array_string_len line.old ≤ 1 }
     ensures bytes { line.new.bytes ≡ line.old.bytes ++ day_prefix day }
@@ -86,7 +86,7 @@ impl Stop {
         }
     }
 
-    /// Why the words of the command line can't be read: no memory, or a word that isn't UTF-8.
+    /// Why the program stops if the words can't be read: memory ran out, or a word isn't UTF-8.
     pub fn of_words(alloc: Global, error: &io::Error) -> Stop
         ensures { IsWordsStop (error_kind error.now) result }
     {

@@ -1,4 +1,4 @@
-//! The command `table`: writes a key sheet as printed tables, or as a table for a spreadsheet.
+//! The command `table`: writes a key sheet as printed tables, or as a CSV table for a spreadsheet.
 ghost use Rattle.std.specs.Prelude.{◌≡◌, ◌||◌, false, IsErr};
 ghost use Rattle.kd_tables.specs.Ports.{port};
 ghost use Rattle.kd_curator.specs.Refusals.{is_device};
@@ -10,7 +10,7 @@ use kd_key_table::{Language, TableForm};
 use kd_tables::Sink;
 use std::alloc::Global;
 
-/// Writes the tables of the key sheet `sheet`, in this language.
+/// Writes the tables of the key sheet `sheet`, a page in `language`.
 pub(crate) fn write_tables<W: Sink>(
     alloc: Global,
     language: Language,

@@ -1,5 +1,5 @@
--- The grammar of the command line: `page`, `list`, `send`, `receive`, `type`, `table`, `sheet` and `look`, with their
--- arguments and with help.
+-- The grammar of the command line: the commands `page`, `list`, `send`, `receive`, `type`, `table`, `sheet` and `look`,
+-- with their arguments, and help.
 -- Code: `grammar` builds the grammar by calls of the library `clap`.
 -- Test: tests/cases/curator-words.toml
 use Rattle.std.specs.Prelude.{codes, decimal, ◌≡◌, ◌≢◌, ℕ, Bool, true, false, List, [], ◌∷◌, ◌++◌, Option, Some, None}
@@ -36,7 +36,7 @@ use Rattle.kd_curator_command.specs.declared.grammar.CommandWords.{CommandWords}
 use Rattle.kd_curator_command.specs.declared.grammar.Sort.{Sort}
 use Rattle.kd_curator_command.specs.declared.grammar.Sort.TheVariants as sorts
 
--- an argument that each command line must have
+-- an argument that has to be given
 abbrev pub needed : List ℕ → Rule
 needed name = record (new_rule name) { required = true }
 
@@ -49,15 +49,15 @@ command_shape name last = record (new_shape name) {
 abbrev pub option_rule : List ℕ → Rule
 option_rule name = record (new_rule name) { long = Some name; value_names = 1 }
 
--- the option `--in`, for the language
+-- the option `--in`, for the language of the output
 abbrev pub language_option : Rule
 language_option = option_rule (codes "in")
 
--- an option of one letter, with a value
+-- an option of one letter, such as `-o`, with a value
 abbrev pub lettered : List ℕ → ℕ → Rule
 lettered name letter = record (new_rule name) { short = Some letter; value_names = 1 }
 
--- the option `-o` (111), for the file that is written
+-- the option `-o` (byte 111), for the output file
 abbrev pub output_option : Rule
 output_option = lettered (codes "output") 111
 
@@ -72,11 +72,11 @@ page_shape =
 abbrev pub list_shape : Shape
 list_shape = with_rule (command_shape (codes "list") (needed (codes "DAY"))) output_option
 
--- an option without a value
+-- an option that takes no value
 abbrev pub flag : List ℕ → Rule
 flag name = record (new_rule name) { long = Some name; action = Some SetTrue }
 
--- the option `--csv`, which has no value
+-- the option `--csv`, which takes no value
 abbrev pub csv_flag : Rule
 csv_flag = flag (codes "csv")
 
@@ -111,7 +111,7 @@ type_shape = record (new_shape (codes "type")) {
   rules = needed (codes "MACHINE") ∷ language_option ∷ output_option ∷ [];
 }
 
--- the program without its commands
+-- the grammar of the program alone, without its commands
 abbrev pub program_alone : App
 program_alone = record {
   top = record (new_shape (codes "curator")) {
@@ -135,11 +135,11 @@ curator_grammar = record {
 -- Code: `clap` parses the command line; `command_of` makes the command from the arguments that `clap` found.
 -- Test: tests/cases/curator-words.toml
 
--- A command that has the names of its files.
+-- A command with the names of its files, before any is read.
 abbrev pub NamedCommand : Type 0
 NamedCommand = Command (List ℕ) (List ℕ)
 
--- the command, with its borrowed texts replaced by the texts themselves
+-- the command, with texts in place of borrowed texts
 abbrev pub unborrowed_command : Command (Bor (List ℕ)) (Bor (List ℕ)) → NamedCommand
 unborrowed_command (commands.OnMachine machine sheet task) = commands.OnMachine machine.now sheet.now task
 unborrowed_command (commands.Message machine sheet message task) =
@@ -150,21 +150,21 @@ unborrowed_command (commands.Sheet table options) = commands.Sheet table.now (te
 unborrowed_command (commands.Look names files) = commands.Look (unborrowed_three names) (unborrowed_three files)
 unborrowed_command (commands.EmptySheet model days) = commands.EmptySheet model days
 
--- A command that has the bytes of its files.
+-- A command with the contents of its files.
 abbrev pub ReadCommand : Type 0
 ReadCommand = Command (List ℕ) (List ℕ)
 
--- The argument DAYS, which `page` may lack, names these days.
+-- The argument DAYS names these days; `None` if it isn't given.
 abbrev pub HasDays : List Row → Option (List ℕ) → Type 0
 HasDays rows None = first_of (codes "DAYS") rows ≡ None
 HasDays rows (Some days) =
     (word : List ℕ) × (first_of (codes "DAYS") rows ≡ Some word) × AreDays word days
 
--- The argument DAY is this day's number.
+-- The argument DAY is the number of this day.
 abbrev pub HasDay : List Row → ℕ → Type 0
 HasDay rows day = (first_of (codes "DAY") rows ≡ Some (decimal day)) × IsDayNumber day
 
--- The option `--in` has this language's code. `None`: it isn't used.
+-- The option `--in` has the code of this language; `None` if it isn't used.
 abbrev pub HasLanguage : List Row → Option Language → Type 0
 HasLanguage rows language = first_of (codes "in") rows ≡ option_map language_code language
 
@@ -172,28 +172,28 @@ abbrev pub task_name : Task → List ℕ
 task_name (tasks.Page days language) = codes "page"
 task_name (tasks.List day) = codes "list"
 
--- The arguments in `rows` are those of the task.
+-- The arguments in `rows` ask for this task.
 abbrev pub HasArguments : List Row → Task → Type 0
 HasArguments rows (tasks.Page days language) = HasDays rows days × HasLanguage rows language
 HasArguments rows (tasks.List day) = HasDay rows day
 
--- `said` is a command's name and the values of its arguments. They mean the task `task`.
+-- The command's name and the values of its arguments, `said`, mean the task `task`.
 pub record IsTaskOf (said : List ℕ × List Row) (task : Task) : Type 0 where
   pub name : said.0 ≡ task_name task
   pub arguments : HasArguments said.1 task
 
--- `said` is a command's name and the values of its arguments. They mean the task `task`, with these files.
+-- The command's name and the values of its arguments, `said`, mean the task `its_task` with these files.
 pub record IsTaskWith (said : List ℕ × List Row) (machine_file key_sheet : List ℕ) (its_task : Task) : Type 0 where
   pub machine : first_of (codes "MACHINE") said.1 ≡ Some machine_file
   pub sheet : first_of (codes "SHEET") said.1 ≡ Some key_sheet
   pub task : IsTaskOf said its_task
 
--- The arguments in `rows` ask for tables in this form: as CSV with the option `--csv`, as a page without it.
+-- The arguments in `rows` ask for tables in this form: CSV with the option `--csv`, a page without it.
 abbrev pub HasForm : List Row → TableForm → Type 0
 HasForm rows forms.Csv = first_of (codes "csv") rows ≡ Some (codes "true")
 HasForm rows forms.Page = first_of (codes "csv") rows ≢ Some (codes "true")
 
--- the name of the command for a message, and that of the argument for its file
+-- the name of the command for a kind of message; then the name of the argument for its file
 abbrev pub message_name : MessageKind → List ℕ
 message_name kinds.Order = codes "send"
 message_name kinds.Form = codes "receive"
@@ -202,7 +202,7 @@ abbrev pub message_argument : MessageKind → List ℕ
 message_argument kinds.Order = codes "ORDER"
 message_argument kinds.Form = codes "FORM"
 
--- They mean the command `send` or `receive`, with these files and this task.
+-- `said` means the command `send` or `receive`, with these files and this task.
 pub record IsMessageOf (said : List ℕ × List Row) (machine_file key_sheet its_message : List ℕ) (its_task : MessageTask)
     : Type 0 where
   pub name : said.0 ≡ message_name its_task.kind
@@ -212,14 +212,14 @@ pub record IsMessageOf (said : List ℕ × List Row) (machine_file key_sheet its
   pub day : HasDay said.1 its_task.day
   pub language : HasLanguage said.1 its_task.language
 
--- They mean the command `type`, with this file and this language.
+-- `said` means the command `type`, with this file and this language.
 pub record IsTypingPageOf (said : List ℕ × List Row) (machine_file : List ℕ) (its_language : Option Language)
     : Type 0 where
   pub name : said.0 ≡ codes "type"
   pub machine : first_of (codes "MACHINE") said.1 ≡ Some machine_file
   pub language : HasLanguage said.1 its_language
 
--- They mean the command `table`, with this file, this form and this language.
+-- `said` means the command `table`, with this file, this form and this language.
 pub record IsTableOf (said : List ℕ × List Row) (key_sheet : List ℕ) (its_form : TableForm)
     (its_language : Option Language) : Type 0 where
   pub name : said.0 ≡ codes "table"
@@ -227,11 +227,11 @@ pub record IsTableOf (said : List ℕ × List Row) (key_sheet : List ℕ) (its_f
   pub form : HasForm said.1 its_form
   pub language : HasLanguage said.1 its_language
 
--- the text of an option; an empty text if it isn't used
+-- the value of an option; empty if the option isn't used
 abbrev pub option_text : List ℕ → List Row → List ℕ
 option_text name rows = unwrap_or (first_of name rows) []
 
--- the options of `sheet`
+-- the values of the options of `sheet`
 abbrev pub option_texts : List Row → OptionTexts
 option_texts rows = record {
   model = option_text (codes "model") rows;
@@ -239,25 +239,26 @@ option_texts rows = record {
   window = option_text (codes "window") rows;
 }
 
--- whether no option has a text
+-- whether all options are empty
 abbrev pub are_blank : OptionTexts → Bool
 are_blank options =
     (length options.model == 0) && (length options.reflector == 0) && (length options.window == 0)
 
--- They mean the command `sheet`, with this table and these options, and without `--empty`.
+-- `said` means the command `sheet`, with this table and these options, and without `--empty`.
 pub record IsSheetOf (said : List ℕ × List Row) (its_table : List ℕ) (its_options : OptionTexts) : Type 0 where
   pub name : said.0 ≡ codes "sheet"
   pub filled : first_of (codes "empty") said.1 ≡ None
   pub table : first_of (codes "TABLE") said.1 ≡ Some its_table
   pub options : its_options ≡ option_texts said.1
 
--- The words are a model's name, and a number of days, from 1 to 31.
+-- The words are the name of a model, and a number of days from 1 to 31.
 pub record IsMonthNamed (model_word days_word : List ℕ) (model : Model) (days : ℕ) : Type 0 where
   pub named : model_text model ≡ model_word
   pub numbered : decimal days ≡ days_word
   pub within : IsDayNumber days
 
--- They mean the command `sheet --empty`, with this model and this number of days, and without other options.
+-- `said` means the command `sheet --empty`, with this model and this number of days, and without other options of
+-- `sheet`.
 pub record IsEmptySheetOf (said : List ℕ × List Row) (model : Model) (days : ℕ) : Type 0 where
   pub name : said.0 ≡ codes "sheet"
   pub model_word : List ℕ
@@ -267,7 +268,7 @@ pub record IsEmptySheetOf (said : List ℕ × List Row) (model : Model) (days : 
   pub month : IsMonthNamed model_word days_word model days
   pub alone : are_blank (option_texts said.1) ≡ true
 
--- They mean the command `look`, with these files.
+-- `said` means the command `look`, with these files.
 pub record IsLookOf (said : List ℕ × List Row) (names files : UpToThree (List ℕ)) : Type 0 where
   pub name : said.0 ≡ codes "look"
   pub first : first_of (codes "FILE") said.1 ≡ Some names.first
@@ -275,7 +276,7 @@ pub record IsLookOf (said : List ℕ × List Row) (names files : UpToThree (List
   pub third : first_of (codes "FILE3") said.1 ≡ names.third
   pub same : files ≡ names
 
--- They mean the command `command`.
+-- `said`, a command's name and the values of its arguments, means the command `command`.
 abbrev pub IsCommandOf : List ℕ × List Row → NamedCommand → Type 0
 IsCommandOf said (commands.OnMachine machine sheet task) = IsTaskWith said machine sheet task
 IsCommandOf said (commands.Message machine sheet message task) = IsMessageOf said machine sheet message task
@@ -285,7 +286,7 @@ IsCommandOf said (commands.Sheet table options) = IsSheetOf said table options
 IsCommandOf said (commands.Look names files) = IsLookOf said names files
 IsCommandOf said (commands.EmptySheet model days) = IsEmptySheetOf said model days
 
--- What is said, if anything, means the command `command`.
+-- `said` is there, and means the command `command`.
 abbrev pub IsMeant : Option (List ℕ × List Row) → NamedCommand → Type 0
 IsMeant said command = IsSomeAnd said (λ x. IsCommandOf x command)
 
@@ -294,11 +295,11 @@ pub record IsCommandLineOf (words : List (List ℕ)) (command : NamedCommand) : 
   pub taken : fault_of curator_grammar words ≡ []
   pub said : IsMeant (subcommand_of curator_grammar words) command
 
--- the file that the option `-o` names, if it is used with a command
+-- the value of the option `-o`; `None` if the option isn't used, or there is no command
 abbrev pub output_said : Option (List ℕ × List Row) → Option (List ℕ)
 output_said said = option_and_then (λ x. first_of (codes "output") x.1) said
 
--- the file that the command line `words` names for its output, if it names one
+-- the output file in the command line `words`; `None` if it names none
 abbrev pub output_of : List (List ℕ) → Option (List ℕ)
 output_of words = output_said (subcommand_of curator_grammar words)
 
@@ -313,7 +314,7 @@ CommandLinesMeanOneCommand =
 
 -- ---- What a command line is that is no command.
 
--- whether the words ask for help or for the version
+-- whether an error of this kind shows help or the version
 abbrev pub is_help : ErrorKind → Bool
 is_help DisplayHelp = true
 is_help DisplayVersion = true
@@ -323,7 +324,7 @@ is_help _ = false
 abbrev pub AsksForHelp : List (List ℕ) → Type 0
 AsksForHelp words = (kind : ErrorKind) × (fault_of curator_grammar words ≡ kind ∷ []) × IsTrue (is_help kind)
 
--- Why there is no command. `Asked`: a word asks for help or for the version. `Usage`: the words mean no command.
+-- Why there is no command. `Asked`: a word asks for help or for the version. `Usage`: the words don't mean a command.
 abbrev pub HasNoCommand : List (List ℕ) → NoCommand → Type 0
 HasNoCommand words (Asked text) =
     (kind : ErrorKind) × IsAmong kind (fault_of curator_grammar words) × IsTrue (is_help kind)
@@ -332,7 +333,7 @@ HasNoCommand words NoMemory = Unit {0}
 
 -- ---- What inner functions make of grammars and errors. No public contract cites these definitions.
 
--- the rule of an argument, by its name
+-- the rule of an argument with this name and of this sort
 abbrev pub rule_of_sort : List ℕ → Sort → Rule
 rule_of_sort name sorts.Needed = needed name
 rule_of_sort name sorts.Optional = new_rule name
@@ -343,7 +344,7 @@ rule_of_sort name sorts.Flag = flag name
 abbrev pub rule_of_argument : Argument → Rule
 rule_of_argument argument = rule_of_sort argument.name.now argument.sort
 
--- a command with a rule for each of its arguments
+-- the grammar of a command: a rule for each of its arguments
 abbrev pub shape_of : CommandWords → Shape
 shape_of words = record (new_shape words.name.now) { rules = map rule_of_argument words.arguments.now }
 
@@ -351,29 +352,29 @@ shape_of words = record (new_shape words.name.now) { rules = map rule_of_argumen
 abbrev pub with_commands : App → List CommandWords → App
 with_commands app commands = fold (λ a words. with_subcommand a (shape_of words)) app commands
 
--- `grammar` is the command `shape`, and no argument is global.
+-- `grammar` is the grammar of the command `shape`, without global arguments.
 pub record IsMadeOf (grammar : Grammar) (shape : Shape) : Type 0 where
   pub made : app_of grammar ≡ record { top = shape; subs = [] }
   pub local : (out-Command grammar).has_globals ≡ false
 
--- The arguments in `rows` are those of a task of this kind.
+-- The arguments in `rows` ask for this task, with a message of this kind.
 pub record IsMessageTask (rows : List Row) (kind : MessageKind) (task : MessageTask) : Type 0 where
   pub same : task.kind ≡ kind
   pub day : HasDay rows task.day
   pub language : HasLanguage rows task.language
 
--- clap's error of this kind gives this reason.
+-- An error of `clap` of this kind leads to this reason for having no command.
 abbrev pub IsToldAs : ErrorKind → NoCommand → Type 0
 IsToldAs kind (Asked text) = IsTrue (is_help kind)
 IsToldAs kind (Usage text) = (is_help kind ≡ false) × (kind ≢ OutOfMemory)
 IsToldAs kind NoMemory = Unit {0}
 
--- `word` is a value of the option `--csv`: `true` means tables as CSV.
+-- The value `word` of the option `--csv` asks for tables in this form: `true` for CSV.
 abbrev pub IsFormNamed : List ℕ → TableForm → Type 0
 IsFormNamed word forms.Csv = word ≡ codes "true"
 IsFormNamed word forms.Page = word ≢ codes "true"
 
--- the command, with the borrowed texts of its options replaced by the texts themselves
+-- the command, with texts in place of its options' borrowed texts
 abbrev pub with_texts : Command (List ℕ) (Bor (List ℕ)) → ReadCommand
 with_texts (commands.OnMachine machine sheet task) = commands.OnMachine machine sheet task
 with_texts (commands.Message machine sheet message task) = commands.Message machine sheet message task

@@ -23,35 +23,35 @@ use kd_tables::Model;
 use std::alloc::{AllocError, Global};
 use std::convert::AsStr;
 
-/// The text of the error for `sheet --empty` with other words than a model and a number of days.
+/// The error for `sheet --empty` without the name of a model or a number of days.
 const NO_MONTH: &str =
     "--empty needs Enigma I, M3, M4 or M-209, then a number of days from 1 to 31, and no other option but -o";
 
 /// The hint for a model's name without quotes.
 const IN_QUOTES: &str = "Write \"Enigma I\" in quotes.\n";
 
-/// The text of the error for an argument that isn't a day.
+/// The error for an argument DAY that isn't the number of a day.
 const NO_DAY: &str = "the day is a number from 1 to 31";
 
-/// The text of the error for an option `--in` with another language.
+/// The error for an option `--in` with another value than a language's code.
 const NO_LANGUAGE: &str = "--in takes de or en";
 
-/// The text of the error for an argument that names no days.
+/// The error for an argument DAYS that doesn't name days.
 const NO_DAYS: &str = "days are numbers from 1 to 31, each once, such as 2, 1-31 or 1,4,2";
 
-/// A command, with its files or their names, and with the texts of its options.
+/// A command. `F` are its files, or their names; `T` are the texts of its options.
 #[derive(Drop)]
 pub enum Command<F, T> {
-    /// Writes how a machine is set to days of a key sheet.
+    /// Writes how to set a machine to days of a key sheet.
     OnMachine {
         /// The machine file.
         machine: F,
         /// The key sheet.
         sheet: F,
-        /// What is written.
+        /// What to write: pages, or a list.
         task: Task,
     },
-    /// Writes how a message is worked by hand.
+    /// Writes how to encipher or decipher a message by hand.
     Message {
         /// The machine file.
         machine: F,
@@ -59,35 +59,35 @@ pub enum Command<F, T> {
         sheet: F,
         /// The order or the form.
         message: F,
-        /// What is written.
+        /// Which message, and of which day.
         task: MessageTask,
     },
-    /// Writes a page on which a machine is typed on.
+    /// Writes a page with which to type on a machine.
     TypingPage {
         /// The machine file.
         machine: F,
-        /// The language of the page, if the words say it.
+        /// The language of the page; `None` if the words don't say.
         language: Option<Language>,
     },
     /// Writes a key sheet as printed tables.
     Table {
         /// The key sheet.
         sheet: F,
-        /// The form in which it is written.
+        /// The form of the tables.
         form: TableForm,
-        /// The language of the tables, if the words say it.
+        /// The language of the tables; `None` if the words don't say.
         language: Option<Language>,
     },
-    /// Makes a key sheet of a spreadsheet's table.
+    /// Makes a key sheet from a spreadsheet's table.
     Sheet {
         /// The table.
         table: F,
-        /// What is used where the table says nothing.
+        /// Texts for cells that are blank or missing in the table.
         options: TableOptions<T>,
     },
-    /// Says in words what machine files and key sheets say, or what is wrong with them.
+    /// Puts machine files and key sheets into words, or names their faults.
     Look {
-        /// The files' names.
+        /// The names of the files.
         names: UpToThree<T>,
         /// The files.
         files: UpToThree<F>,
@@ -95,59 +95,59 @@ pub enum Command<F, T> {
     /// Writes a key sheet to fill in.
     EmptySheet {
         model: Model,
-        /// How many days the sheet has.
+        /// The number of days in the sheet.
         days: u8,
     },
 }
 
-/// What is written of a machine and of days.
+/// What to write of a machine and of days.
 #[derive(Drop)]
 pub enum Task {
-    /// Pages of days.
+    /// A page for each day.
     Page {
-        /// The days; `None` means all days that the sheet has for the machine's model.
+        /// The days; `None` for all days that the sheet has for the machine's model.
         days: Option<Days>,
-        /// The language of the pages, if the words say it.
+        /// The language of the pages; `None` if the words don't say.
         language: Option<Language>,
     },
-    /// The settings of this day's page, as a list that `desk apply` carries out.
+    /// The settings of this day's page, as a list for `desk apply`.
     List(u8),
 }
 
-/// What is written of a message.
+/// What to write of a message.
 #[derive(Clone, Copy)]
 pub struct MessageTask {
     pub kind: MessageKind,
-    /// The day of the sheet.
+    /// The day of the sheet whose key is used.
     pub day: u8,
-    /// The language of the page, if the words say it.
+    /// The language of the page; `None` if the words don't say.
     pub language: Option<Language>,
 }
 
-/// Which message a page is of.
+/// The kind of a message.
 #[derive(Clone, Copy, Debug, PartialEq, Eq)]
 pub enum MessageKind {
-    /// An order, which is sent.
+    /// An order to send.
     Order,
-    /// A form, which is received.
+    /// A received form.
     Form,
 }
 
 /// A command with the names of its files, before any file is read.
 pub type NamedCommand<'a> = Command<&'a str, &'a str>;
 
-/// What a command line means.
+/// A command, and where its output goes.
 #[derive(Drop)]
 pub struct CommandLine<'a> {
     pub command: NamedCommand<'a>,
-    /// The new file that is written; `None` means standard output.
+    /// The new file for the output; `None` for standard output.
     pub output: Option<&'a str>,
 }
 
-/// Why a command line gives no command.
+/// Why a command line doesn't mean a command.
 #[derive(Drop)]
 pub enum NoCommand {
-    /// The words ask for help or for the version, which is this text.
+    /// The words ask for help, or for the version: this text.
     Asked(String),
     /// The words aren't a command. The text says why.
     Usage(String),
@@ -196,7 +196,7 @@ fn parse_by<'a, S: AsStr>(
     }
 }
 
-/// The file that the option `-o` names, if it is used.
+/// The value of the option `-o`, if it is used.
 fn output_said<'a>(matches: &ArgMatches<'a>) -> Option<&'a str>
     ensures { option_map (λ name. name.now) result ≡ output_said (subcommand_rows_of matches.now) }
 {
@@ -204,7 +204,7 @@ fn output_said<'a>(matches: &ArgMatches<'a>) -> Option<&'a str>
     words.get_str("output")
 }
 
-/// What is wrong with words that clap takes, but that mean no command.
+/// What is wrong with words that clap accepts, but that don't mean a command.
 fn why_not(matches: &ArgMatches<'_>) -> &'static str {
     match matches.subcommand() {
         Some(("sheet", _)) => NO_MONTH,
@@ -215,7 +215,7 @@ fn why_not(matches: &ArgMatches<'_>) -> &'static str {
     }
 }
 
-/// Why there is no command, if clap takes the words, but a word doesn't name days, a model or a language.
+/// Why there is no command: clap accepts the words, but a word doesn't name days, a model or a language.
 fn no_days(alloc: Global, grammar: &mut Grammar<'_>, why: &str) -> NoCommand
     ensures { IsToldAs ErrorKind.InvalidValue result }
 {
@@ -225,7 +225,7 @@ fn no_days(alloc: Global, grammar: &mut Grammar<'_>, why: &str) -> NoCommand
     }
 }
 
-/// What to do about a model's name that was typed without quotes. An empty text if none was.
+/// The hint for a model's name that was typed without quotes; an empty text if none was.
 fn quotes_hint<S: AsStr>(words: &[S]) -> &'static str {
     let mut is_begun = false;
     for word in words {
@@ -238,7 +238,7 @@ fn quotes_hint<S: AsStr>(words: &[S]) -> &'static str {
     ""
 }
 
-/// Why there is no command, after clap has given `error`, and `hint`, which says more.
+/// Why there is no command: clap's error, and `hint`, which is added to it.
 fn no_command(alloc: Global, error: &Error, hint: &str) -> NoCommand
     ensures { IsToldAs (kind_of error.now) result }
 {
@@ -263,7 +263,7 @@ impl From<AllocError> for NoCommand {
     }
 }
 
-/// The command that `matches` mean; `None` if an argument has a wrong value.
+/// The command that `matches` mean; `None` if the value of an argument is wrong.
 fn meant_command<'a>(matches: &ArgMatches<'a>) -> Option<NamedCommand<'a>>
     ensures said { IfSome result (λ command.
         IsMeant (subcommand_rows_of matches.now) (unborrowed_command command)) }
@@ -274,7 +274,7 @@ fn meant_command<'a>(matches: &ArgMatches<'a>) -> Option<NamedCommand<'a>>
     command_of(name, words)
 }
 
-/// The command named `name`, with the arguments in `words`; `None` if one has a wrong value.
+/// The command `name` with the arguments in `words`; `None` if the value of an argument is wrong.
 fn command_of<'a>(name: &str, words: &ArgMatches<'a>) -> Option<NamedCommand<'a>>
     ensures said { IfSome result (λ command.
         IsCommandOf (name.now, rows_of (found_of words.now)) (unborrowed_command command)) }
@@ -292,7 +292,7 @@ fn command_of<'a>(name: &str, words: &ArgMatches<'a>) -> Option<NamedCommand<'a>
     }
 }
 
-/// The command for a message of this kind, with the arguments in `words`; `None` if one has a wrong value.
+/// The command for a message of this kind, with the arguments in `words`; `None` if the value of an argument is wrong.
 fn message_of<'a>(words: &ArgMatches<'a>, kind: MessageKind) -> Option<NamedCommand<'a>>
     ensures said { IfSome result (λ command.
         IsCommandOf (message_name kind, rows_of (found_of words.now)) (unborrowed_command command)) }
@@ -321,7 +321,7 @@ fn message_argument(kind: MessageKind) -> &'static str
     }
 }
 
-/// What is written of a message of this kind; `None` if an argument has a wrong value.
+/// The task for a message of this kind; `None` if the value of an argument is wrong.
 fn message_task(words: &ArgMatches<'_>, kind: MessageKind) -> Option<MessageTask>
     ensures said { IfSome result (IsMessageTask (rows_of (found_of words.now)) kind) }
     ensures none { result ≡ None → (task : MessageTask)
@@ -336,7 +336,7 @@ fn message_task(words: &ArgMatches<'_>, kind: MessageKind) -> Option<MessageTask
     })
 }
 
-/// The command `type`, with the machine in `words`; `None` if an argument has a wrong value.
+/// The command `type` with the arguments in `words`; `None` if the value of an argument is wrong.
 fn typing_page_of<'a>(words: &ArgMatches<'a>) -> Option<NamedCommand<'a>>
     ensures said { IfSome result (λ command.
         IsCommandOf (codes "type", rows_of (found_of words.now)) (unborrowed_command command)) }
@@ -348,7 +348,7 @@ fn typing_page_of<'a>(words: &ArgMatches<'a>) -> Option<NamedCommand<'a>>
     Some(Command::TypingPage { machine, language })
 }
 
-/// The command `table`, with the key sheet in `words`; `None` if an argument has a wrong value.
+/// The command `table` with the arguments in `words`; `None` if the value of an argument is wrong.
 fn table_of<'a>(words: &ArgMatches<'a>) -> Option<NamedCommand<'a>>
     ensures said { IfSome result (λ command.
         IsCommandOf (codes "table", rows_of (found_of words.now)) (unborrowed_command command)) }
@@ -365,7 +365,7 @@ fn table_of<'a>(words: &ArgMatches<'a>) -> Option<NamedCommand<'a>>
     })
 }
 
-/// The form of tables for which the arguments in `words` ask.
+/// The form of tables for which the option `--csv` in `words` asks.
 fn form_of(words: &ArgMatches<'_>) -> TableForm
     ensures { HasForm (rows_of (found_of words.now)) result }
 {
@@ -375,7 +375,7 @@ fn form_of(words: &ArgMatches<'_>) -> TableForm
     }
 }
 
-/// The form of tables, if the option `--csv` has the value `word`: `true` if the option is used.
+/// The form of tables for the value `word` of the option `--csv`, which is `true` if the option is used.
 fn form_named(word: &str) -> TableForm
     ensures { IsFormNamed word.now result }
 {
@@ -386,7 +386,7 @@ fn form_named(word: &str) -> TableForm
     }
 }
 
-/// The command `look`, with the files in `words`.
+/// The command `look` with the files in `words`.
 fn look_of<'a>(words: &ArgMatches<'a>) -> Option<NamedCommand<'a>>
     ensures said { IfSome result (λ command.
         IsCommandOf (codes "look", rows_of (found_of words.now)) (unborrowed_command command)) }
@@ -410,7 +410,7 @@ fn look_of<'a>(words: &ArgMatches<'a>) -> Option<NamedCommand<'a>>
     })
 }
 
-/// The command `sheet`, with the table or the month in `words`; `None` if the month isn't one.
+/// The command `sheet` with the arguments in `words`; `None` if they use `--empty`, but don't fit it.
 fn sheet_of<'a>(words: &ArgMatches<'a>) -> Option<NamedCommand<'a>>
     ensures said { IfSome result (λ command.
         IsCommandOf (codes "sheet", rows_of (found_of words.now)) (unborrowed_command command)) }
@@ -440,21 +440,21 @@ fn options_of<'a>(words: &ArgMatches<'a>) -> TableOptions<&'a str>
     }
 }
 
-/// The text of an option; an empty text if it isn't used.
+/// The value of the option `name`; empty if it isn't used.
 fn option_text<'a>(words: &ArgMatches<'a>, name: &str) -> &'a str
     ensures { result.now ≡ option_text name.now (rows_of (found_of words.now)) }
 {
     words.get_str(name).unwrap_or("")
 }
 
-/// Whether no option has a text.
+/// Whether all options are empty.
 fn are_blank(options: &TableOptions<&str>) -> bool
     ensures { result ≡ are_blank (texts_of options.now) }
 {
     options.model.is_empty() && options.reflector.is_empty() && options.window.is_empty()
 }
 
-/// The model with this name, and this number of days; `None` if there is no such model or month.
+/// The model and the number of days with these names; `None` if one of them is wrong.
 fn month_named(model: &str, days: &str) -> Option<(Model, u8)>
     ensures said { IfSome result (λ month. IsMonthNamed model.now days.now month.0 month.1) }
     ensures none { result ≡ None → (month : Model × ℕ)
@@ -465,7 +465,8 @@ fn month_named(model: &str, days: &str) -> Option<(Model, u8)>
     Some((model, days))
 }
 
-/// The command of a task, named `name`, with the arguments in `words`; `None` if one has a wrong value.
+/// The command `page` or `list`, named `name`, with the arguments in `words`; `None` if the value of an argument is
+/// wrong.
 fn task_with_files<'a>(name: &str, words: &ArgMatches<'a>) -> Option<NamedCommand<'a>>
     requires table { name.now ≢ codes "table" }
     requires sheet { name.now ≢ codes "sheet" }
@@ -488,7 +489,7 @@ fn task_with_files<'a>(name: &str, words: &ArgMatches<'a>) -> Option<NamedComman
     })
 }
 
-/// The task of the command named `name`, with the days in `words`.
+/// The task of the command named `name`, `page` or `list`.
 fn task_of(name: &str, words: &ArgMatches<'_>) -> Option<Task>
     ensures said { IfSome result (IsTaskOf (name.now, rows_of (found_of words.now))) }
     ensures none { result ≡ None → (task : Task)
@@ -501,7 +502,7 @@ fn task_of(name: &str, words: &ArgMatches<'_>) -> Option<Task>
     }
 }
 
-/// The task `page`, with the days in the argument DAYS; `None` if an argument has a wrong value.
+/// The task `page` with the arguments in `words`; `None` if the value of an argument is wrong.
 fn page_of(words: &ArgMatches<'_>) -> Option<Task>
     ensures said { IfSome result (IsTaskOf (codes "page", rows_of (found_of words.now))) }
     ensures none { result ≡ None → (task : Task)
@@ -512,7 +513,7 @@ fn page_of(words: &ArgMatches<'_>) -> Option<Task>
     Some(Task::Page { days, language })
 }
 
-/// The task `list`, with the day in the argument DAY; `None` if it isn't a day.
+/// The task `list` with the day in the argument DAY; `None` if it doesn't name a day.
 fn list_of(words: &ArgMatches<'_>) -> Option<Task>
     ensures said { IfSome result (IsTaskOf (codes "list", rows_of (found_of words.now))) }
     ensures none { result ≡ None → (task : Task)
@@ -522,11 +523,11 @@ fn list_of(words: &ArgMatches<'_>) -> Option<Task>
     Some(Task::List(day))
 }
 
-/// An argument has a value that it can't have.
+/// The error for an argument with a wrong value.
 #[derive(Clone, Copy)]
 struct WrongValue;
 
-/// The days in the argument DAYS, if it is there.
+/// The days in the argument DAYS; `None` if it isn't given.
 fn days_asked(words: &ArgMatches<'_>) -> Result<Option<Days>, WrongValue>
     ensures said { IfOk result (HasDays (rows_of (found_of words.now))) }
     ensures none { IsErr result → (days : Option (List ℕ))
@@ -541,7 +542,7 @@ fn days_asked(words: &ArgMatches<'_>) -> Result<Option<Days>, WrongValue>
     }
 }
 
-/// The day in the argument DAY; `None` if it isn't there, or isn't a day.
+/// The day in the argument DAY; `None` if it isn't given, or doesn't name a day.
 fn day_asked(words: &ArgMatches<'_>) -> Option<u8>
     ensures said { IfSome result (HasDay (rows_of (found_of words.now))) }
     ensures none { result ≡ None → (day : ℕ) → ¬ (HasDay (rows_of (found_of words.now)) day) }
@@ -551,7 +552,7 @@ fn day_asked(words: &ArgMatches<'_>) -> Option<u8>
     Some(day)
 }
 
-/// The language in the option `--in`, if it is used.
+/// The language in the option `--in`; `None` if it isn't used.
 fn language_asked(words: &ArgMatches<'_>) -> Result<Option<Language>, WrongValue>
     ensures said { IfOk result (HasLanguage (rows_of (found_of words.now))) }
     ensures none { IsErr result → (language : Option Language)

@@ -9,7 +9,7 @@ use arrayvec::ArrayVec;
 use kd_state::day_of_text;
 use std::marker::Model;
 
-/// Days of a month, at most 31, in the order of their pages.
+/// Up to 31 days of a month, in the order of their pages.
 #[derive(Drop)]
 pub struct Days {
     numbers: ArrayVec<u8, 31>,
@@ -24,7 +24,7 @@ impl Model for Days {
 }
 
 impl Days {
-    /// Creates a list without days.
+    /// An empty list of days.
     pub fn new() -> Self
         ensures { result ≡ [] }
     {
@@ -52,7 +52,7 @@ impl Days {
         }
     }
 
-    /// Adds the day `number`. `None` if there are 31 days already.
+    /// Adds the day `number`. Returns `None` if there are 31 days already.
     pub fn add(&mut self, number: u8) -> Option<()>
         ensures { AddsDays (Some (number ∷ [])) self.old self.new result }
     {
@@ -64,7 +64,7 @@ impl Days {
     }
 }
 
-/// The days that `word` names, such as `2`, `1-31` or `1,4,2`. `None` for other words, and if a day comes twice.
+/// The days that `word` names, such as `2`, `1-31` or `1,4,2`. `None` for any other word, and if a day comes twice.
 pub fn days_of_word(word: &str) -> Option<Days>
     ensures { MatchOption result
         ((days : List ℕ) → ¬ (AreDays word.now days))
@@ -88,7 +88,7 @@ fn has_twice(days: &[u8]) -> bool
     }
 }
 
-/// Adds the days of ranges that are joined by commas.
+/// Adds the days of `text`, a list of ranges joined by commas.
 fn add_ranges(days: &mut Days, text: &str) -> Option<()>
     ensures { AddsDays (days_named text.now) days.old days.new result }
 {
@@ -101,7 +101,7 @@ fn add_ranges(days: &mut Days, text: &str) -> Option<()>
     }
 }
 
-/// Adds the days of a range: one day, or all from a day to another.
+/// Adds the days of a range: `3` is one day; `3-7` are all days from 3 to 7.
 #[tactic(auto, using(std::proofs::lemmas::Str::Pattern::split_once_first), unfolding(crate::specs::Days::range_named))]
 fn add_range(days: &mut Days, text: &str) -> Option<()>
     ensures { AddsDays (range_named text.now) days.old days.new result }
@@ -119,7 +119,7 @@ fn add_range(days: &mut Days, text: &str) -> Option<()>
     }
 }
 
-/// The day whose number is `text`, in decimal.
+/// The day whose decimal number is `text`.
 fn day_of(text: &str) -> Option<u8>
     ensures { result ≡ day_named text.now }
 {

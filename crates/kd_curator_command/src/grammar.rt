@@ -10,18 +10,18 @@ use std::alloc::{AllocError, Global};
 /// The version that `--version` shows.
 const VERSION: &str = "1.0";
 
-/// Whether an argument must be there, and whether it is an option.
+/// The sort of an argument: whether it has to be given, or is an option.
 #[derive(Clone, Copy)]
 pub(crate) enum Sort<'a> {
-    /// It must be there.
+    /// An argument that has to be given.
     Needed,
-    /// It may be missing.
+    /// An argument that may be left out.
     Optional,
-    /// It is an option with a value, which help calls by this name.
+    /// An option with a value; help shows the value by this name.
     Valued(&'a str),
-    /// It is an option of one letter, with a value, which help calls by this name.
+    /// An option of one letter with a value; help shows the value by this name.
     Lettered(char, &'a str),
-    /// It is an option without a value.
+    /// An option that takes no value.
     Flag,
 }
 
@@ -30,15 +30,15 @@ pub(crate) enum Sort<'a> {
 pub(crate) struct Argument<'a> {
     pub(crate) name: &'a str,
     pub(crate) sort: Sort<'a>,
-    /// What it is, for help.
+    /// The text of help on the argument.
     pub(crate) help: &'a str,
 }
 
-/// A command with its arguments.
+/// A command and its arguments.
 #[derive(Clone, Copy)]
 pub(crate) struct CommandWords<'a> {
     pub(crate) name: &'a str,
-    /// What it does, for help.
+    /// The text of help on the command.
     pub(crate) about: &'a str,
     pub(crate) arguments: &'a [Argument<'a>],
 }
@@ -208,7 +208,7 @@ pub(crate) fn grammar<'a>(alloc: Global) -> Result<Grammar<'a>, AllocError>
     with_commands(alloc, program_grammar(alloc), &COMMANDS)
 }
 
-/// The grammar of the program without its commands.
+/// The grammar of the program alone, without its commands.
 fn program_grammar<'a>(alloc: Global) -> Grammar<'a>
     ensures { app_of result ≡ program_alone }
 {
@@ -248,7 +248,7 @@ fn command_grammar<'a>(alloc: Global, words: &CommandWords<'a>) -> Result<Gramma
     Ok(command)
 }
 
-/// An argument, as clap takes it.
+/// The argument in the form that clap needs.
 fn argument_of<'a>(alloc: Global, argument: &Argument<'a>) -> Arg<'a>
     ensures rule { rule_of result ≡ rule_of_argument argument.now }
     ensures local { result.global ≡ false }
@@ -264,7 +264,7 @@ fn argument_of<'a>(alloc: Global, argument: &Argument<'a>) -> Arg<'a>
     }
 }
 
-/// An argument that each command line must have.
+/// An argument that has to be given.
 fn needed<'a>(alloc: Global, name: &'a str, help: &'a str) -> Arg<'a>
     ensures rule { rule_of result ≡ needed name.entry.now }
     ensures local { result.global ≡ false }
@@ -272,7 +272,7 @@ fn needed<'a>(alloc: Global, name: &'a str, help: &'a str) -> Arg<'a>
     Arg::new(alloc, name).required(true).help(help)
 }
 
-/// An argument that a command line may lack.
+/// An argument that may be left out.
 fn optional<'a>(alloc: Global, name: &'a str, help: &'a str) -> Arg<'a>
     ensures rule { rule_of result ≡ new_rule name.entry.now }
     ensures local { result.global ≡ false }
@@ -280,7 +280,7 @@ fn optional<'a>(alloc: Global, name: &'a str, help: &'a str) -> Arg<'a>
     Arg::new(alloc, name).help(help)
 }
 
-/// An option with a value, which help calls `value`.
+/// An option with a value; help shows the value by the name `value`.
 fn option<'a>(alloc: Global, name: &'a str, value: &'a str, help: &'a str) -> Arg<'a>
     ensures rule { rule_of result ≡ option_rule name.entry.now }
     ensures local { result.global ≡ false }
@@ -291,7 +291,7 @@ fn option<'a>(alloc: Global, name: &'a str, value: &'a str, help: &'a str) -> Ar
         .help(help)
 }
 
-/// An option of one letter, with a value, which help calls `value`.
+/// An option of one letter with a value; help shows the value by the name `value`.
 fn lettered<'a>(
     alloc: Global,
     name: &'a str,
@@ -308,7 +308,7 @@ fn lettered<'a>(
         .help(help)
 }
 
-/// An option without a value.
+/// An option that takes no value.
 fn flag<'a>(alloc: Global, name: &'a str, help: &'a str) -> Arg<'a>
     ensures rule { rule_of result ≡ flag name.entry.now }
     ensures local { result.global ≡ false }

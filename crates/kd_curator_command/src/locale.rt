@@ -4,7 +4,8 @@ ghost use Rattle.kd_curator_command.specs.Locale.{language_code, language_of};
 
 use kd_pictures::Language;
 
-/// The language of a locale, the value of the environment's `LANG`: German if it begins with `de`, otherwise English.
+/// The language for a locale, the value of the environment variable `LANG`: German if it begins with `de`, otherwise
+/// English.
 #[tactic(auto, unfolding(crate::specs::Locale::language_of))]
 pub fn language_of(locale: &str) -> Language
     ensures { result ≡ language_of locale.now }

@@ -1,6 +1,6 @@
-//! `UpToThree`: one thing, two or three, such as the files of `look`.
+//! `UpToThree`: one, two or three things of a kind, such as the files of `look`.
 
-/// One thing, two or three, in their order.
+/// One, two or three things of a kind, in order.
 #[derive(Drop)]
 pub struct UpToThree<T> {
     pub first: T,

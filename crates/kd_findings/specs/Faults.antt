@@ -1,5 +1,5 @@
--- The faults of a machine file: for each key in the order of testing, the fault with which the desk refuses the key's
--- value. The desk stops at a file's first fault; here each key is judged for itself.
+-- The faults of a machine file: for each key, in the order of testing, the fault with which the desk refuses its value.
+-- The desk stops at a file's first fault; here, each key is judged separately.
 -- Test: tests/cases/curator-look.toml
 use Rattle.std.specs.Prelude.{ℕ, nat_le, true, List, [], ◌∷◌, ◌++◌, length, map, slice_get, Option, None, Result, Ok, Err}
 use Rattle.std.specs.Prelude.{if◌then◌else◌}
@@ -32,19 +32,19 @@ use Rattle.kd_findings.specs.declared.place.Place.{Place}
 abbrev pub in_file : Key → Place
 in_file key = record { entry = None; day = None; key = key }
 
--- the place of another key beside a place
+-- a place beside this one, at another key
 abbrev pub at_key : Place → Key → Place
 at_key place key = record place { key = key }
 
--- the list of the fault at this place, if there is one
+-- the list of this fault at this place; empty without a fault
 abbrev pub at_place : Place → Option SheetFault → List (Place × SheetFault)
 at_place place fault = option_to_list (option_map (λ one. (place, one)) fault)
 
--- the fault with which the value at a place is refused, if it is
+-- the fault with which the desk refuses the value at a place; none if it reads the value
 abbrev pub fault_at : {A : Type 0} → Place → Result A SheetFault → List (Place × SheetFault)
 fault_at place reading = at_place place (result_err reading)
 
--- the faults of what a model needs; or that the model is refused
+-- the fault of the model; if the model is read, the faults of the keys that it needs
 abbrev pub after_model : Place → (Model → List (Place × SheetFault)) → Result Model SheetFault → List (Place × SheetFault)
 after_model place faults (Ok model) = faults model
 after_model place faults (Err fault) = (place, fault) ∷ []
@@ -71,7 +71,7 @@ model_file_faults table model = rotor_file_faults model table
 abbrev pub version_in : Members → Result ℕ SheetFault
 version_in table = read_at keys.Version (number_up_to 2) table
 
--- the model of a machine file, if the file's version has this model; a version with a fault counts as one that has it
+-- the model in a machine file. The file's version must know the model; a version with a fault counts as one that does.
 unfoldable pub file_model : Members → Result Model SheetFault
 file_model table = do
   model ← model_in table
@@ -84,7 +84,7 @@ machine_faults table =
     fault_at (in_file keys.Version) (version_in table)
     ++ after_model (in_file keys.Model) (model_file_faults table) (file_model table)
 
--- the faults of findings, each with its place, without their words
+-- the faults in findings, with their places, but without the words
 abbrev pub faults_of : List Finding → List (Place × SheetFault)
 faults_of findings = map (λ finding. (finding.place, finding.fault)) findings
 
@@ -94,7 +94,8 @@ first_fault faults = option_map (λ fault. fault.1) (slice_get faults 0)
 
 -- ---- What inner functions answer. No public contract cites this definition.
 
--- the item of which the words for a fault speak: the item of the check's slip, if the slip has this fault
+-- the number of the item that the words for a fault are about: the item in the slip of `checked`, if the slip has this
+-- fault
 abbrev pub told_item : SheetFault → Result (Unit {0}) Slip → Option ℕ
 told_item fault (Err (slips.Fault found item words)) = if (fault_eq.ghosts).eq found fault then item else None
 told_item fault checked = None

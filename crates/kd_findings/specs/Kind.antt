@@ -1,10 +1,10 @@
--- Which documents are machine files, and which are key sheets. Names don't count, only the keys at the top of the file.
+-- Which documents are machine files, and which are key sheets: their keys at the top decide, not the file's name.
 --
 -- * A document with the array `day` is a key sheet.
 -- * Without this array, a document with `version`, or with `model` and without `day`, is a machine file.
 -- * Any other document with `day` is a key sheet whose `day` has the wrong type, such as `[day]`.
--- * A document with none of the keys `day`, `version` and `model` may be either: no line `[[day]]` stands in it, or no
---   line of a machine file is left. `look` says that it can't tell which.
+-- * A document without the keys `day`, `version` and `model` may be either: a key sheet without its lines `[[day]]`, or
+--   a machine file without `version` and `model`. `look` says that it can't tell which.
 --
 -- Source: `docs/FORMATS.md`. Test: tests/cases/curator-look.toml
 use Rattle.std.specs.Prelude.{◌&&◌, ◌||◌, Bool, not, is_some, List, Option}
@@ -15,7 +15,7 @@ use Rattle.kd_sheet.specs.Key.{key_name}
 use Rattle.kd_sheet.specs.declared.key.Key.{Key}
 use Rattle.kd_sheet.specs.declared.key.Key.TheVariants as keys
 
--- the items of the array `day`, if the document has this array
+-- the items of the array `day`; `None` if the document has no such array
 abbrev pub entries_of : Members → Option (List Data)
 entries_of document = option_and_then as_items (get_member (key_name keys.Day) document)
 

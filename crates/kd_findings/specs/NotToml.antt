@@ -1,15 +1,15 @@
--- The words for a file that isn't TOML: the line and the column at which the parser's fault begins.
+-- The words for a file that isn't TOML: the line and the column at which the parser found a fault.
 -- Source: TOML 1.1, toml.io; UTF-8, RFC 3629.
 -- Test: tests/cases/curator-look.toml
 use Rattle.std.specs.Prelude.{codes, ◌≡◌, ◌≤◌, ℕ, ◌+◌, ◌++◌, ◌==◌, ◌||◌, nat_lt, Bool, List, [], ◌∷◌, count_by}
 use Rattle.std.specs.Prelude.{length, reverse, take, if◌then◌else◌}
 use Rattle.kd_findings.specs.Texts.{IsInOneLine, titled}
 
--- the number of the line that has the byte at `index`, counted from 1
+-- the line of the byte at `index`, counted from 1
 abbrev pub line_at : List ℕ → ℕ → ℕ
 line_at text index = count_by (λ byte. byte == 10) (take index text) + 1
 
--- whether a character begins with the byte: in UTF-8, the bytes 128 to 191 go on with a character
+-- whether a character begins with the byte: in UTF-8, bytes from 128 to 191 continue a character
 abbrev pub begins_character : ℕ → Bool
 begins_character byte = nat_lt byte 128 || nat_lt 191 byte
 
@@ -19,21 +19,21 @@ characters_to_feed [] = 0
 characters_to_feed (byte ∷ rest) = if byte == 10 then 0
     else if begins_character byte then characters_to_feed rest + 1 else characters_to_feed rest
 
--- the column of the byte at `index`, counted from 1: one more than the characters that stand before it in its line
+-- the column of the byte at `index`, counted in characters from 1
 abbrev pub column_at : List ℕ → ℕ → ℕ
 column_at text index = characters_to_feed (reverse (take index text)) + 1
 
--- the line, the column, and what is wrong there
+-- the words for a place: the line, the column, and `reason`, which says what is wrong there
 unfoldable pub place_words : ℕ → ℕ → List ℕ → List ℕ
 place_words line column reason = titled (codes ", line ") line ++ titled (codes ", column ") column ++ codes ": " ++ reason
 
--- The words name the line and the column of the byte at `start`, and go on in this line.
+-- The words are the line and the column of the byte at `start`, then a reason without a line end.
 pub record NamesPlace (text : List ℕ) (start : ℕ) (words : List ℕ) : Type 0 where
   pub reason : List ℕ
   pub plain : IsInOneLine reason
   pub whole : words ≡ place_words (line_at text start) (column_at text start) reason
 
--- The words name the line and the column of a byte of the text, or of its end.
+-- The words name some place in the text, or the end of the text, and give a reason.
 pub record SaysNotToml (text words : List ℕ) : Type 0 where
   pub start : ℕ
   pub within : start ≤ length text

@@ -1,8 +1,8 @@
--- Texts made of pieces, one after another, and the words for a place in a file.
+-- Texts that are made of pieces, and the words for a place in a file.
 use Rattle.std.specs.Prelude.{codes, ◌≡◌, ◌≢◌, ◌⊎◌, ℕ, ◌++◌, List, [], ◌∷◌, Option, Some, None, decimal, slice_index, EachIndex}
 use Rattle.std.specs.Option.{option_map_or}
 
--- The text is a piece that satisfies `First`, and then what `Others` holds of.
+-- The text is a piece that satisfies `First`, then others that satisfy `Others`.
 pub record BeginsWith (First Others : List ℕ → Type 0) (text : List ℕ) : Type 0 where
   pub piece : List ℕ
   pub others : List ℕ
@@ -10,7 +10,7 @@ pub record BeginsWith (First Others : List ℕ → Type 0) (text : List ℕ) : T
   pub after : Others others
   pub whole : text ≡ piece ++ others
 
--- The text has a piece for each of the things, in their order. `IsPiece` says of a thing what its piece is.
+-- The text has a piece for each item of a list, in their order. `IsPiece` relates an item to its piece.
 abbrev pub ArePieces : {A : Type 0} → (A → List ℕ → Type 0) → List A → List ℕ → Type 0
 ArePieces IsPiece [] text = text ≡ []
 ArePieces IsPiece (first ∷ rest) text = BeginsWith (IsPiece first) (λ others. ArePieces IsPiece rest others) text
@@ -23,15 +23,15 @@ IsInOneLine text = EachIndex text (λ index. slice_index text index ≢ 10)
 abbrev pub EndsAtFeed : List ℕ → List ℕ → Type 0
 EndsAtFeed text line = (text ≡ line) ⊎ ((rest : List ℕ) × (text ≡ line ++ 10 ∷ rest))
 
--- a number with what stands before it
+-- `title`, then a number
 unfoldable pub titled : List ℕ → ℕ → List ℕ
 titled title number = title ++ decimal number
 
--- the number of an item, if it has to be told
+-- the words for an item's number; nothing without a number
 abbrev pub item_words : Option ℕ → List ℕ
 item_words item = option_map_or (titled (codes " ")) item []
 
--- the day of an entry in words; for an entry whose day can't be read, the entry's number
+-- the words for an entry: its day or, if the day can't be read, the entry's number
 unfoldable pub entry_words : Option ℕ → Option ℕ → List ℕ
 entry_words (Some day) entry = titled (codes ", day ") day
 entry_words None (Some entry) = titled (codes ", entry ") entry

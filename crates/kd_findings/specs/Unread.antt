@@ -1,4 +1,4 @@
--- The keys that a machine file or a key sheet has, and that its reader doesn't read.
+-- The keys of a machine file or a key sheet that the desk doesn't know, and so doesn't read.
 -- Test: tests/cases/curator-look.toml
 use Rattle.std.specs.Prelude.{ℕ, Bool, not, List, [], ◌∷◌, ◌++◌, length, map, Option, Some, None, bytes_eq}
 use Rattle.std.specs.Prelude.{if◌then◌else◌}
@@ -17,14 +17,14 @@ use Rattle.kd_findings.specs.Kind.{entries_of, is_machine_file}
 use Rattle.kd_findings.specs.SheetFaults.{number_in}
 use Rattle.kd_findings.specs.declared.unread.Unread.{Unread}
 
--- The name of a key that nobody reads, and where it stands: in an entry of a key sheet, which is counted from 1, with
--- the entry's day if it is known; or in the file itself.
+-- An unread key: its name; the entry of the key sheet in which it stands, counted from 1, or `None` for the file
+-- itself; and the entry's day, if it is known.
 pub record UnreadKey : Type 0 where
   pub entry : Option ℕ
   pub day : Option ℕ
   pub name : List ℕ
 
--- the keys of a rotor machine's file, and of a Converter's
+-- the keys of a rotor machine's file; then those of a Converter's file
 abbrev pub rotor_file_keys : List Key
 rotor_file_keys =
     keys.Version ∷ keys.Model ∷ keys.Reflector ∷ keys.Slots ∷ keys.Rings ∷ keys.Letters ∷ keys.Cables ∷ []
@@ -32,13 +32,13 @@ rotor_file_keys =
 abbrev pub pin_file_keys : List Key
 pin_file_keys = keys.Version ∷ keys.Model ∷ keys.Letters ∷ keys.Pins ∷ keys.Bars ∷ []
 
--- the keys that are read in a machine file of this model; if the model isn't known, the keys of all machine files
+-- the keys of a machine file of this model; if the model isn't known, the keys of all machine files
 abbrev pub file_keys : Option Model → List Key
 file_keys (Some M209) = pin_file_keys
 file_keys (Some model) = rotor_file_keys
 file_keys None = rotor_file_keys ++ pin_file_keys
 
--- the keys of a rotor machine's day, and of a Converter's
+-- the keys of a rotor machine's day; then those of a Converter's day
 abbrev pub rotor_day_keys : List Key
 rotor_day_keys =
     keys.Day ∷ keys.Model ∷ keys.Reflector ∷ keys.Wheels ∷ keys.Rings ∷ keys.Window ∷ keys.Plugs ∷ keys.Groups ∷ []
@@ -46,7 +46,7 @@ rotor_day_keys =
 abbrev pub pin_day_keys : List Key
 pin_day_keys = keys.Day ∷ keys.Model ∷ keys.Rows ∷ keys.Pins ∷ keys.Window ∷ keys.List ∷ []
 
--- the keys that are read in an entry of this model; if the model isn't known, the keys of all entries
+-- the keys of an entry of this model; if the model isn't known, the keys of all entries
 abbrev pub day_keys : Option Model → List Key
 day_keys (Some M209) = pin_day_keys
 day_keys (Some model) = rotor_day_keys
@@ -61,28 +61,28 @@ abbrev pub names_in : Members → List (List ℕ)
 names_in no_members = []
 names_in (member name value rest) = name ∷ names_in rest
 
--- the keys of a table other than `known`; `entry` and `day` say which table it is
+-- the keys of a table that aren't `known`, with the entry and the day of the table
 unfoldable pub unread_in : Option ℕ → Option ℕ → List Key → Members → List UnreadKey
 unread_in entry day known table = map (λ name. record { entry = entry; day = day; name = name })
     (filter (λ name. not (is_name_of known name)) (names_in table))
 
--- the keys of an entry that nobody reads, if the entry is a table
+-- the unread keys of an entry; none if it isn't a table
 unfoldable pub unread_in_entry : ℕ → Data → List UnreadKey
 unread_in_entry number item = option_map_or (λ table.
     unread_in (Some number) (result_ok (number_in table)) (day_keys (result_ok (model_in table))) table) (as_table item) []
 
--- the keys of the entries that nobody reads, entry by entry
+-- the unread keys of all entries
 abbrev pub unread_in_entries : List Data → List UnreadKey
 unread_in_entries items = flat_map (λ number. option_map_or (unread_in_entry number) (numbered_item items number) [])
     (range_with_len 1 (length items))
 
--- the keys that are known in a document without the array `day`: those of a machine file, otherwise those of both kinds
--- of files, since the lines of a day may stand at the top of a file that lacks its first `[[day]]`
+-- the known keys of a document without the array `day`. In a machine file, these are the keys of its model; otherwise
+-- all keys, as a key sheet without its first line `[[day]]` has a day's keys at the top.
 abbrev pub top_keys : Members → List Key
 top_keys document = if is_machine_file document then file_keys (result_ok (model_in document))
     else rotor_file_keys ++ pin_file_keys ++ rotor_day_keys ++ pin_day_keys
 
--- The keys of a document that nobody reads. A key sheet has the key `day` alone, and the keys of its entries.
+-- The unread keys of a document. At the top of a key sheet, only `day` is known.
 unfoldable pub unread_keys : Members → List UnreadKey
 unread_keys document = option_map_or
     (λ items. unread_in None None (keys.Day ∷ []) document ++ unread_in_entries items) (entries_of document)
@@ -90,7 +90,7 @@ unread_keys document = option_map_or
 
 -- ---- What inner functions answer. No public contract cites these definitions.
 
--- a key that nobody reads, as it was found
+-- the view of an unread key that the code found
 abbrev pub unread_key : Unread → UnreadKey
 unread_key found = record { entry = found.entry; day = found.day; name = found.name.now }
 

@@ -1,4 +1,4 @@
-//! `Finding`: a fault of a file, with its place and in words.
+//! `Finding`: a fault of a file, with its place and words for it.
 ghost use Rattle.std.specs.Prelude.{◌≡◌, ◌++◌, IfOk, OnOk, Some};
 ghost use Rattle.kd_findings.specs.Faults.{at_place, faults_of, told_item};
 
@@ -7,7 +7,7 @@ use kd_sheet::SheetFault;
 use kd_slips::slip::Slip;
 use std::alloc::{AllocError, Global};
 
-/// A fault with its place, in words.
+/// A fault, its place, and words for it.
 #[derive(Drop)]
 pub struct Finding {
     pub fault: SheetFault,
@@ -19,12 +19,13 @@ pub struct Finding {
 /// What is wrong with a value.
 #[derive(Drop)]
 pub struct Explanation {
-    /// The number of the item in the key's list, counted from 1, if it needs to be told.
+    /// The number of the item with the fault in the key's list, counted from 1; `None` if the words are about the whole
+    /// value.
     pub item: Option<usize>,
     pub words: String,
 }
 
-/// What `checked` says of `fault`; general words if it says nothing of it.
+/// The words that `checked` has for `fault`; general words if it has none.
 fn explain(
     alloc: Global,
     fault: SheetFault,
@@ -42,7 +43,7 @@ fn explain(
     }
 }
 
-/// Appends `fault` to `list`, in the words of `checked`.
+/// Appends `fault` to `list`, with the words that `checked` has for it.
 fn push_fault(
     list: &mut Vec<Finding>,
     alloc: Global,
@@ -62,7 +63,8 @@ fn push_fault(
     Ok(())
 }
 
-/// Appends the fault with which the desk refuses the value at `place`, if it does, in the words of `checked`.
+/// Appends the fault with which the desk refuses the value at `place`, if it does, with the words that `checked` has
+/// for it.
 pub fn note(
     list: &mut Vec<Finding>,
     alloc: Global,

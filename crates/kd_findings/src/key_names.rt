@@ -1,10 +1,10 @@
-//! Names of keys that nobody reads, and the keys that were meant.
+//! Names of unread keys, and the keys that may have been meant.
 ghost use Rattle.std.specs.Prelude.{◌≡◌};
 ghost use Rattle.kd_findings.specs.Unread.{is_name_of};
 
 use kd_sheet::Key;
 
-/// Names that other files or other people use for a key.
+/// Other names for keys, from other files, or in common use.
 const OTHER_NAMES: [(&str, Key); 12] = [
     ("plugs", Key::Cables),
     ("plugboard", Key::Cables),
@@ -27,7 +27,7 @@ pub fn is_known(keys: &[Key], name: &str) -> bool
     keys.iter().any(|key| key.name() == name)
 }
 
-/// How many bytes `one` and `other` have in common at their starts, if capital and small letters don't count.
+/// How many bytes at their starts `one` and `other` share, capital and small letters counting as equal.
 fn common_start(one: &[u8], other: &[u8]) -> usize {
     let mut count = 0usize;
     for (byte, another) in one.iter().zip(other) {
@@ -39,7 +39,7 @@ fn common_start(one: &[u8], other: &[u8]) -> usize {
     count
 }
 
-/// How many bytes `one` and `other` have in common at their ends, if capital and small letters don't count.
+/// How many bytes at their ends `one` and `other` share, capital and small letters counting as equal.
 fn common_end(one: &[u8], other: &[u8]) -> usize {
     let mut count = 0usize;
     for (byte, another) in one.iter().rev().zip(other.iter().rev()) {
@@ -51,13 +51,14 @@ fn common_end(one: &[u8], other: &[u8]) -> usize {
     count
 }
 
-/// Whether one byte more, less or changed makes `one` into `other`, if capital and small letters don't count.
+/// Whether adding, dropping or changing one byte makes `one` equal to `other`, capital and small letters counting as
+/// equal.
 pub fn is_near(one: &[u8], other: &[u8]) -> bool {
     let common = common_start(one, other).saturating_add(common_end(one, other));
     one.len().max(other.len()) <= common.saturating_add(1)
 }
 
-/// The key of `keys` that is named `name` elsewhere.
+/// The key of `keys` for which `name` is another name.
 fn named_elsewhere(keys: &[Key], name: &str) -> Option<Key> {
     for (other, key) in &OTHER_NAMES {
         if *other == name && keys.contains(key) {
@@ -67,7 +68,7 @@ fn named_elsewhere(keys: &[Key], name: &str) -> Option<Key> {
     None
 }
 
-/// The key of `keys` that was meant by `name`, if there is one.
+/// The key of `keys` that `name` is another or a mistyped name of, if there is one.
 pub fn meant_key(keys: &[Key], name: &str) -> Option<Key> {
     match keys
         .iter()

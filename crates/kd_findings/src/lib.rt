@@ -1,6 +1,6 @@
-//! Finds all faults of machine files and key sheets, each with its place and in words, and warns.
+//! Finds all faults of machine files and key sheets, each with its place and in words, and adds warnings.
 //!
-//! The desk stops at a file's first fault. This crate judges each key for itself, by the readers of the desk.
+//! The desk stops at a file's first fault. This crate judges each key separately, with the desk's own readers.
 #![tactic(auto)]
 
 mod explanation_words;

@@ -39,7 +39,7 @@ fn file_version(model: Model) -> u8
     }
 }
 
-/// Whether machine files of this version have `model`; without a version, whether any have.
+/// Whether machine files of this version can have `model`; without a version, whether those of any version can.
 fn has_model(version: Option<u8>, model: Model) -> bool
     ensures { result ≡ option_map_or (nat_le (file_version model)) version true }
 {
@@ -70,7 +70,7 @@ fn check_model(alloc: Global, table: &Table) -> Result<(), Slip> {
     )
 }
 
-/// Words for the letters of a machine file, one for each wheel of the box.
+/// The words for which wheels of the box a machine file gives letters.
 fn each_wheel(model: Model) -> &'static str {
     match model {
         Model::EnigmaI => ", one for each of the wheels I to V",
@@ -80,7 +80,7 @@ fn each_wheel(model: Model) -> &'static str {
     }
 }
 
-/// Appends the fault of a key whose text has a letter for each wheel of the box.
+/// Appends the fault at a key whose text has a letter for each wheel of the box.
 fn judge_box_letters(
     list: &mut Vec<Finding>,
     alloc: Global,
@@ -98,7 +98,7 @@ fn judge_box_letters(
     note(list, alloc, Place::in_file(key), fault, checked)
 }
 
-/// Appends the faults of a rotor machine's file, after version and model.
+/// Appends the faults at the keys of a rotor machine's file, except version and model.
 fn judge_rotors(
     list: &mut Vec<Finding>,
     alloc: Global,
@@ -128,7 +128,7 @@ fn judge_rotors(
     note(list, alloc, Place::in_file(Key::Cables), cables, checked)
 }
 
-/// Appends the faults of a Converter's file, after version and model.
+/// Appends the faults at the keys of a Converter's file, except version and model.
 #[tactic(auto, using(std::proofs::Common::append_assoc), unfolding(crate::specs::Faults::pin_file_faults))]
 fn judge_converter(list: &mut Vec<Finding>, alloc: Global, table: &Table) -> Result<(), AllocError>
     ensures { OnOk result (faults_of list.new.items
@@ -155,7 +155,7 @@ fn judge_converter(list: &mut Vec<Finding>, alloc: Global, table: &Table) -> Res
     )
 }
 
-/// Appends the faults of a machine file's model, and of the keys that the model has.
+/// Appends the fault of a machine file's model; if the model is read, the faults at the keys that it needs.
 fn judge_model(list: &mut Vec<Finding>, alloc: Global, table: &Table) -> Result<(), AllocError>
     ensures { OnOk result (faults_of list.new.items ≡ faults_of list.old.items
         ++ after_model (in_file keys.Model) (model_file_faults (table_view table.now))

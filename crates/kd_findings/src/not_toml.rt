@@ -1,4 +1,4 @@
-//! Words for a file that isn't TOML: the place, what the parser says, and what is most often wrong there.
+//! The words for a file that isn't TOML: the place, what the parser says, and the likely mistake.
 ghost use Rattle.std.specs.Prelude.{◌≡◌, ◌+◌, ◌==◌, count_by, reverse, IfOk, None};
 ghost use Rattle.std.specs.Result.{result_ok};
 ghost use Rattle.std.specs.String.{string_bytes};
@@ -64,7 +64,7 @@ fn has_leading_zero(line: &[u8]) -> bool {
     })
 }
 
-/// What is most often wrong in a line where the parser says `message`.
+/// The likely mistake in a line about which the parser says `message`.
 fn hint(line: &[u8], message: &str) -> &'static str {
     let quotes = line.iter().filter(|byte| **byte == b'"').count();
     if message == "invalid UTF-8" {
@@ -86,7 +86,7 @@ fn hint(line: &[u8], message: &str) -> &'static str {
     }
 }
 
-/// What the file is, if it is an order or a form.
+/// Words for a file that is an order or a form, otherwise `None`.
 fn message_words(bytes: &[u8]) -> Option<&'static str> {
     match bytes.strip_prefix(b"PART ")? {
         [b'0'..=b'9', ..] => Some(
@@ -98,7 +98,7 @@ fn message_words(bytes: &[u8]) -> Option<&'static str> {
     }
 }
 
-/// What is wrong at a place in line `line`: what the parser says, and what is most often wrong there.
+/// What is wrong in line `line`: what the parser says, and the likely mistake.
 fn reason_for(
     alloc: Global,
     bytes: &[u8],
@@ -112,7 +112,7 @@ fn reason_for(
     format!(in alloc; "this isn't TOML: {message}; {advice}")
 }
 
-/// Words for a place, and for what is wrong there.
+/// The words for a place, and for what is wrong there.
 #[tactic(auto, using(std::proofs::Common::append_assoc), unfolding(crate::specs::NotToml::place_words))]
 fn place_words(alloc: Global, place: TextPlace, reason: &str) -> Result<String, AllocError>
     ensures { IfOk result (λ words. string_bytes words
@@ -126,7 +126,7 @@ fn place_words(alloc: Global, place: TextPlace, reason: &str) -> Result<String, 
     Ok(words)
 }
 
-/// Words for the place where the parser's fault begins, and for what is wrong there.
+/// The words for the place of the parser's fault, and for what is wrong there.
 fn words_at(alloc: Global, bytes: &[u8], error: &Error) -> Result<String, AllocError>
     requires { IsWithin bytes.now error.now }
     ensures { IfOk result (λ words. NamesPlace bytes.now (span_start error.now) (string_bytes words)) }
@@ -139,7 +139,7 @@ fn words_at(alloc: Global, bytes: &[u8], error: &Error) -> Result<String, AllocE
     place_words(alloc, place, first_line(reason.as_str()))
 }
 
-/// Words for the place where `bytes` stop being TOML, and for what is wrong there.
+/// The words for the place at which `bytes` stop being TOML, and for what is wrong there.
 pub fn toml_words(alloc: Global, bytes: &[u8]) -> Result<String, AllocError>
     requires { result_ok (document_of bytes.now) ≡ None }
     ensures { IfOk result (λ words. SaysNotToml bytes.now (string_bytes words)) }

@@ -38,7 +38,7 @@ impl Place {
         }
     }
 
-    /// The place of `key` beside this place.
+    /// The place of another key beside this place.
     pub fn at(self, key: Key) -> Self
         ensures { result ≡ at_key self key }
     {

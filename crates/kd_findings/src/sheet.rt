@@ -57,7 +57,7 @@ fn have_number(items: &[Value], number: u8) -> bool
     }
 }
 
-/// The day of an entry, or the fault with which the desk refuses it after the items `earlier`.
+/// The day of an entry, or the fault with which the desk refuses it; `earlier` are the items before the entry.
 #[tactic(auto, unfolding(crate::specs::SheetFaults::new_day))]
 fn new_day(earlier: &[Value], table: &Table) -> Result<u8, SheetFault>
     ensures { result ≡ new_day (map view earlier.now) (table_view table.now) }
@@ -69,7 +69,7 @@ fn new_day(earlier: &[Value], table: &Table) -> Result<u8, SheetFault>
     Ok(number)
 }
 
-/// The number of the first of `items` that is an entry with the day `number`, counted from 1.
+/// The number, counted from 1, of the first of `items` that is an entry with the day `number`.
 fn entry_with(items: &[Value], number: u8) -> usize {
     let mut entry = 1usize;
     for item in items {
@@ -81,7 +81,7 @@ fn entry_with(items: &[Value], number: u8) -> usize {
     entry
 }
 
-/// Explains why the day of an entry after the items `earlier` is refused.
+/// Explains why the day of an entry is refused; `earlier` are the items before the entry.
 fn check_day(alloc: Global, earlier: &[Value], table: &Table) -> Result<(), Slip> {
     check_number(alloc, table, Key::Day, DAYS)?;
     let Ok(day) = number_at(table, Key::Day, DAYS) else {
@@ -95,7 +95,7 @@ fn check_day(alloc: Global, earlier: &[Value], table: &Table) -> Result<(), Slip
     )
 }
 
-/// Appends the faults of a rotor machine's day, after day and model, up to the window letters.
+/// Appends the faults at the keys of a rotor machine's day from `reflector` to `window`.
 fn judge_rotors(
     list: &mut Vec<Finding>,
     alloc: Global,
@@ -143,7 +143,7 @@ fn judge_rotors(
     )
 }
 
-/// Appends the faults of a Converter's day, after day and model.
+/// Appends the faults at the keys of a Converter's day, except day and model.
 fn judge_converter(
     list: &mut Vec<Finding>,
     alloc: Global,
@@ -183,7 +183,7 @@ fn check_model(alloc: Global, table: &Table) -> Result<(), Slip> {
     Ok(())
 }
 
-/// Appends the faults of an entry's model, and of the keys that the model has.
+/// Appends the fault of an entry's model; if the model is read, the faults at the keys that it needs.
 fn judge_model(
     list: &mut Vec<Finding>,
     alloc: Global,
@@ -206,7 +206,7 @@ fn judge_model(
     }
 }
 
-/// Appends the faults of the entry `table`, which stands after the items `earlier`.
+/// Appends the faults of the entry `table`; `earlier` are the items before it.
 fn judge_table(
     list: &mut Vec<Finding>,
     alloc: Global,
@@ -223,7 +223,7 @@ fn judge_table(
     judge_model(list, alloc, table, place)
 }
 
-/// Explains why an item of the list `day` that is no table is refused.
+/// Explains why an item of the list `day` is refused that isn't a table.
 fn refuse_entry(alloc: Global, item: &Value) -> Result<(), Slip> {
     refuse(
         SheetFault::BadValue(Key::Day),
@@ -234,7 +234,7 @@ fn refuse_entry(alloc: Global, item: &Value) -> Result<(), Slip> {
     )
 }
 
-/// Appends the faults of the entry `item`, which stands after the items `earlier`.
+/// Appends the faults of the entry `item`; `earlier` are the items before it.
 fn judge_entry(
     list: &mut Vec<Finding>,
     alloc: Global,
@@ -254,7 +254,7 @@ fn judge_entry(
     }
 }
 
-/// Finds the faults of the entries of a key sheet, up to the entry with the three hundredth fault.
+/// Finds the faults of a key sheet's entries. The entry with fault number 300 is the last that is judged.
 pub fn sheet_faults(alloc: Global, items: &[Value]) -> Result<Vec<Finding>, AllocError>
     ensures { IfOk result (λ list. AreSheetFaults (map view items.now) (faults_of list.items)) }
 {

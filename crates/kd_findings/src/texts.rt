@@ -1,4 +1,4 @@
-//! The first line of words, and the words for a place in a file.
+//! The first line of a text, and the words for a place in a file.
 ghost use Rattle.std.specs.Prelude.{◌≡◌, ◌++◌, OnOk};
 ghost use Rattle.std.specs.String.{string_bytes};
 ghost use Rattle.kd_findings.specs.Texts.{EndsAtFeed, IsInOneLine, entry_words, item_words, titled};
@@ -27,7 +27,7 @@ pub fn push_titled(text: &mut String, title: &str, number: usize) -> Result<(), 
     text.push_str(buffer.format(number))
 }
 
-/// Appends the number of an item, if it has to be told.
+/// Appends the words for an item's number; nothing without a number.
 pub fn push_item(text: &mut String, item: Option<usize>) -> Result<(), AllocError>
     ensures { OnOk result (string_bytes text.new ≡ string_bytes text.old ++ item_words item) }
 {
@@ -37,7 +37,7 @@ pub fn push_item(text: &mut String, item: Option<usize>) -> Result<(), AllocErro
     }
 }
 
-/// Appends the day of an entry; for an entry whose day can't be read, the entry's number.
+/// Appends the words for an entry: its day or, if the day can't be read, the entry's number.
 #[tactic(auto, unfolding(crate::specs::Texts::entry_words))]
 pub fn push_entry(
     text: &mut String,

@@ -1,4 +1,4 @@
-//! Finds the keys of a file that nobody reads.
+//! Finds the keys of a file that the desk doesn't know, and so doesn't read.
 ghost use Rattle.std.specs.Prelude.{◌≡◌, ◌++◌, IfOk, OnOk, map};
 ghost use Rattle.toml.specs.View.{table_view, view};
 ghost use Rattle.kd_findings.specs.Unread.{day_keys, file_keys, unread_in, unread_in_entries, unread_in_entry};
@@ -43,7 +43,7 @@ static ANY_FILE: [Key; 12] = [
     Key::Bars,
 ];
 
-/// The keys of machine files and of entries.
+/// All keys of machine files and of entries.
 static ANY_KEY: [Key; 26] = [
     Key::Version,
     Key::Model,
@@ -113,7 +113,7 @@ static ANY_DAY: [Key; 14] = [
     Key::List,
 ];
 
-/// A key that a file has and that nobody reads.
+/// A key of a file that the desk doesn't know, and so doesn't read.
 #[derive(Clone, Copy)]
 pub struct Unread<'t> {
     /// The number of the entry of a key sheet in which the key stands, counted from 1; `None` for the file itself.
@@ -124,18 +124,18 @@ pub struct Unread<'t> {
     pub meant: Meant,
 }
 
-/// What was perhaps meant by a key that nobody reads.
+/// What an unread key may have been meant to be.
 #[derive(Clone, Copy)]
 pub enum Meant {
     /// Another key.
     Key(Key),
     /// The entries of a key sheet.
     Entries,
-    /// Nothing that is known.
+    /// Nothing that this crate knows.
     Unknown,
 }
 
-/// What was perhaps meant by the key `name` with the value `value`, in a table that has `keys`.
+/// What the key `name` with the value `value` may have been meant to be, in a table with the keys `keys`.
 fn meant_by(keys: &[Key], name: &str, value: &Value) -> Meant {
     if (value.is_table() || value.is_array()) && is_near(name.as_bytes(), b"day") {
         return Meant::Entries;
@@ -146,7 +146,7 @@ fn meant_by(keys: &[Key], name: &str, value: &Value) -> Meant {
     }
 }
 
-/// The keys that are read in a machine file of this model.
+/// The keys of a machine file of this model.
 fn file_keys(model: Option<Model>) -> &'static [Key]
     ensures { result.now ≡ file_keys model }
 {
@@ -157,7 +157,7 @@ fn file_keys(model: Option<Model>) -> &'static [Key]
     }
 }
 
-/// The keys that are read in an entry of this model.
+/// The keys of an entry of this model.
 fn day_keys(model: Option<Model>) -> &'static [Key]
     ensures { result.now ≡ day_keys model }
 {
@@ -168,7 +168,7 @@ fn day_keys(model: Option<Model>) -> &'static [Key]
     }
 }
 
-/// The keys that are known in a document without the array `day`.
+/// The known keys of a document without the array `day`.
 fn top_keys(document: &Table) -> &'static [Key]
     ensures { result.now ≡ top_keys (table_view document.now) }
 {
@@ -179,7 +179,7 @@ fn top_keys(document: &Table) -> &'static [Key]
     }
 }
 
-/// Appends the keys of `table` other than `keys`.
+/// Appends the keys of `table` that aren't among `keys`.
 #[tactic(auto, unfolding(crate::specs::Unread::unread_in))]
 fn push_unread<'t>(
     list: &mut Vec<Unread<'t>>,
@@ -206,7 +206,7 @@ fn push_unread<'t>(
     Ok(())
 }
 
-/// Appends the keys of entry `entry` that nobody reads, if it is a table.
+/// Appends the unread keys of entry `entry`, if it is a table.
 #[tactic(auto, unfolding(crate::specs::Unread::unread_in_entry))]
 fn push_entry_keys<'t>(
     list: &mut Vec<Unread<'t>>,
@@ -226,7 +226,7 @@ fn push_entry_keys<'t>(
     }
 }
 
-/// Appends the keys of the entries `items` that nobody reads.
+/// Appends the unread keys of the entries `items`.
 fn push_entries<'t>(list: &mut Vec<Unread<'t>>, items: &'t [Value]) -> Result<(), AllocError>
     ensures { OnOk result (unread_of list.new.items
         ≡ unread_of list.old.items ++ unread_in_entries (map view items.now)) }
@@ -237,7 +237,7 @@ fn push_entries<'t>(list: &mut Vec<Unread<'t>>, items: &'t [Value]) -> Result<()
     Ok(())
 }
 
-/// Finds the keys of a document that nobody reads.
+/// Finds the unread keys of a document.
 #[tactic(auto, using(std::proofs::Common::append_assoc), unfolding(crate::specs::Unread::unread_keys))]
 pub fn unread_keys(alloc: Global, document: &Table) -> Result<Vec<Unread<'_>>, AllocError>
     ensures { IfOk result (λ list. unread_of list.items ≡ unread_keys (table_view document.now)) }

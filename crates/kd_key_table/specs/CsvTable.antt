@@ -1,4 +1,4 @@
--- The days of a sheet as a table for a spreadsheet, in the form CSV: a row for each day, from the first day on.
+-- A key sheet's days as a CSV table for a spreadsheet: a row for each day, from the first day on.
 use Rattle.std.specs.Prelude.{decimal, ℕ, Bool, if◌then◌else◌, List, [], ◌++◌, flat_map, zip}
 use Rattle.std.specs.Prelude.{Option, Some, None}
 use Rattle.std.specs.List.{list_any}
@@ -25,7 +25,7 @@ abbrev pub day_cells : RotorDay → List ℕ
 day_cells day =
     decimal day.day ++ texts.COMMA.now ++ model_text day.model ++ texts.COMMA.now ++ reflector_text day.reflector
 
--- the wheels, the rings, the cables, the ground and the groups
+-- the wheels, the rings, the cables, the ground setting and the groups
 abbrev pub key_cells : RotorDay → List ℕ
 key_cells day =
     texts.COMMA.now ++ words_text name_text day.wheels
@@ -41,11 +41,11 @@ rotor_line has_lists day = day_cells day ++ key_cells day ++ list_cells has_list
 
 -- ---- The row of a Converter's day.
 
--- the letter of a pin if the pin is effective
+-- the letter of a pin; nothing if the pin isn't effective
 abbrev pub effective_letter : ℕ × Bool → List ℕ
 effective_letter pin = if pin.1 then letter_text pin.0 else []
 
--- the cell of a wheel, with the letters of its effective pins
+-- the cell of a pin wheel, with the letters of its effective pins
 abbrev pub effective_cell : List ℕ → List Bool → List ℕ
 effective_cell letters pins = texts.COMMA.now ++ flat_map effective_letter (zip letters pins)
 
@@ -70,7 +70,7 @@ day_line has_lists (Some (Pin values)) = pin_line values
 unfoldable pub has_lists : List (Option Day) → Bool
 has_lists month = list_any (has_day_of M209 month) DAYS
 
--- the names of the columns, among them those of key lists if the month has a Converter's day
+-- the names of the columns, with those of key lists only if the month has a Converter's day
 abbrev pub head_line : Bool → List ℕ
 head_line has_lists =
     texts.COLUMN_NAMES.now ++ (if has_lists then texts.LIST_COLUMN_NAMES.now else []) ++ texts.ROW_END.now

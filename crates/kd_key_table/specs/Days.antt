@@ -8,23 +8,23 @@ use Rattle.kd_state.specs.SheetDay.{Day, day_model}
 use Rattle.kd_sheet.specs.Sheet.{day_of}
 use Rattle.kd_key_table.specs.declared.days.TheConstants.{DAYS, LAST_DAY_FIRST}
 
--- whether two models are the same, by the derived `==`
+-- whether two models are the same, by their derived `==`
 abbrev pub same_model : Model → Model → Bool
 same_model = (model_eq.ghosts).eq
 
--- whether the month has day `number`, and the day is of the model
+-- whether the month has day `number`, and this day is of the model
 unfoldable pub has_day_of : Model → List (Option Day) → ℕ → Bool
 has_day_of model month number = option_map_or (λ s. same_model (day_model s) model) (day_of month number) false
 
--- the days that the month has for the model, the last day first
+-- the month's days of the model, the last day first
 abbrev pub days_of : Model → List (Option Day) → List ℕ
 days_of model month = filter (has_day_of model month) LAST_DAY_FIRST
 
--- the first of the days of which `last` is the last, and the others are listed from the last of them on
+-- the first of some days: `last` is the last of them, and the list has the others in falling order
 abbrev pub first_of : ℕ → List ℕ → ℕ
 first_of last [] = last
 first_of last (day ∷ earlier) = first_of day earlier
 
--- whether the month has any day
+-- whether the month has at least one day
 abbrev pub has_days : List (Option Day) → Bool
 has_days month = list_any (λ number. is_some (day_of month number)) DAYS

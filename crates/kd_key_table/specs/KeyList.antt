@@ -1,5 +1,5 @@
--- The key list of a Converter's day, as its manual prints it: the bars' lugs, the effective pins, and the check. Words
--- are in language `l`.
+-- The key list of a Converter's day, in the form of the manual: the lugs of the bars, the effective pins, and the
+-- 26-letter check. Words are in language `l`.
 -- Source: War Department TM 11-380.
 use Rattle.std.specs.Prelude.{decimal, ℕ, ◌+◌, nat_lt, Bool, if◌then◌else◌, List, [], ◌∷◌, ◌++◌, flat_map, replicate}
 use Rattle.std.specs.Prelude.{slice_get, Option, Some, None}
@@ -22,24 +22,24 @@ use Rattle.kd_key_table.specs.Words.{words_text}
 
 -- ---- The lines of the bars. Line `n` has bar `n`, and the `n`th pin of each wheel; lines are counted from 0.
 
--- the bar's number, with two digits, and the numbers of the wheels at its lugs
+-- the bar's number, in two digits, and the numbers of the wheels at its two lugs
 abbrev pub bar_head : ℕ → ℕ × ℕ → List ℕ
 bar_head bar reading =
     filled (if nat_lt bar 10 then texts.BAR_BELOW_TEN.now else texts.BAR.now)
     (decimal bar ∷ decimal reading.0 ∷ decimal reading.1 ∷ [])
 
--- the pin's letter if the pin is effective; a hyphen if it isn't; nothing if the wheel has no such pin
+-- the pin's letter if the pin is effective, a hyphen if it isn't; nothing if the wheel has no pin at this place
 abbrev pub pin_shown : Option ℕ → Bool → List ℕ
 pin_shown None effective = texts.NO_PIN.now
 pin_shown (Some letter) effective =
     if effective then filled texts.EFFECTIVE.now (letter_text letter ∷ []) else texts.INEFFECTIVE.now
 
--- the cell of the pin at `place` of wheel `wheel`
+-- the cell of the pin at place `place` of wheel `wheel`
 abbrev pub pin_cell : PinSet → ℕ → ℕ → List ℕ
 pin_cell pins place wheel =
     pin_shown (slice_get (ring_of wheel) place) (is_effective (pins_on (pins_of pins) wheel) place)
 
--- the cells of all six wheels
+-- the cells of the pins at place `place` of all six wheels
 unfoldable pub pin_cells : PinSet → ℕ → List ℕ
 pin_cells pins place = flat_map (pin_cell pins place) pin_wheels
 
@@ -48,7 +48,7 @@ bar_line pins numbered = bar_head (numbered.0 + 1) numbered.1 ++ pin_cells pins 
 
 -- ---- The key list.
 
--- the 26-letter check: what the machine makes of 26 times A on the day's key, but with A on each of its wheels
+-- the 26-letter check: the cipher of 26 times A, with the day's pins and lugs, and A on each wheel
 unfoldable pub check_of : PinDay → List ℕ
 check_of day = sheet_cipher (Pin (record day { window = replicate 6 0 })) (replicate 26 0)
 

@@ -1,5 +1,5 @@
--- The table of a rotor model: a row for each day, the last day on top, so that a used day is cut off below.
--- Words are in language `l`.
+-- The table of a rotor machine's model: a row for each day, the last day on top, so that used days are cut off at the
+-- bottom. Words are in language `l`.
 use Rattle.std.specs.Prelude.{decimal, ℕ, Bool, true, false, List, [], ◌∷◌, ◌++◌, flat_map, Option, Some, None}
 use Rattle.kd_tables.specs.declared.model.Model.{Model}
 use Rattle.kd_tables.specs.declared.model.Model.TheVariants.{EnigmaI, M3, M4, M209}
@@ -20,7 +20,7 @@ use Rattle.kd_key_table.specs.Words.{ground_text, group_text, name_text, pair_te
 abbrev pub wheel_cell : SheetWheel → List ℕ
 wheel_cell wheel = filled texts.WHEEL.now (name_text wheel ∷ [])
 
--- whether the model's sheets have a number for a ring, not a letter
+-- whether the model's key sheets give rings as numbers, not as letters
 abbrev pub has_numbered_rings : Model → Bool
 has_numbered_rings EnigmaI = true
 has_numbered_rings M3 = false
@@ -36,7 +36,7 @@ setting_cells day =
     filled texts.ROW.now (decimal day.day ∷ reflector_text day.reflector ∷ []) ++ flat_map wheel_cell day.wheels
     ++ flat_map (ring_cell (has_numbered_rings day.model)) day.wheels
 
--- the cables, the ground, which has a window letter for each wheel, and the groups
+-- the cables, the ground setting with a letter for each wheel, and the groups
 abbrev pub word_cells : RotorDay → List ℕ
 word_cells day =
     texts.CELL.now ++ words_text pair_text day.pairs ++ texts.CELL.now ++ words_text ground_text day.wheels
@@ -45,7 +45,7 @@ word_cells day =
 unfoldable pub row_text : RotorDay → List ℕ
 row_text day = setting_cells day ++ word_cells day
 
--- the row of a rotor machine's day
+-- the row of a rotor machine's day; nothing for another day
 abbrev pub row_of : Option Day → List ℕ
 row_of None = []
 row_of (Some (Rotor values)) = row_text values
@@ -53,7 +53,7 @@ row_of (Some (Pin values)) = []
 
 -- ---- The table.
 
--- the day, or the first day and the last
+-- the words for the days of a table: one day, or the first day and the last
 abbrev pub span_text : Language → ℕ → List ℕ → List ℕ
 span_text l last [] = filled (text_in l texts.ONE_DAY) (decimal last ∷ [])
 span_text l last (day ∷ earlier) =
@@ -66,17 +66,17 @@ month_head l model last earlier =
     filled (text_in l texts.MONTH) (model_name model ∷ []) ++ span_text l last earlier
     ++ filled (text_in l texts.COLUMNS) (slots ∷ slots ∷ slots ∷ slots ∷ [])
 
--- the table of the day `last`, and of the days `earlier`, the last of them first
+-- the table of the day `last` and of the days `earlier`, which are in falling order
 unfoldable pub table_text : Language → Model → List (Option Day) → ℕ → List ℕ → List ℕ
 table_text l model month last earlier =
     month_head l model last earlier ++ flat_map (λ number. row_of (day_of month number)) (last ∷ earlier)
     ++ texts.MONTH_END.now
 
--- the table of the days of a model, the last day first; no table without days
+-- the table of a model's days, which are in falling order; nothing if there are none
 abbrev pub table_of_days : Language → Model → List (Option Day) → List ℕ → List ℕ
 table_of_days l model month [] = []
 table_of_days l model month (last ∷ earlier) = table_text l model month last earlier
 
--- the table of all days that the month has for the model
+-- the table of all the month's days of the model
 unfoldable pub month_table : Language → Model → List (Option Day) → List ℕ
 month_table l model month = table_of_days l model month (days_of model month)

@@ -1,4 +1,4 @@
--- The table for a spreadsheet, as `curator sheet` reads it.
+-- What the command `curator sheet` reads in a table that `curator table` wrote.
 use Rattle.std.specs.Prelude.{◌≡◌, ℕ, List, Option, Ok}
 use Rattle.std.specs.Bool.{MatchBool}
 use Rattle.kd_state.specs.SheetDay.{Day}
@@ -9,14 +9,14 @@ use Rattle.kd_table.specs.Table.{IsRefusedTable, TableMeans}
 use Rattle.kd_key_table.specs.CsvTable.{csv_text}
 use Rattle.kd_key_table.specs.Days.{has_days}
 
--- The table means the days of this month, and no others.
+-- The table means the days of this month, and no other days.
 pub record MeansMonth (options : OptionTexts) (table : List ℕ) (month : List (Option Day)) : Type 0 where
   pub days : List Day
   pub means : TableMeans options table days
   pub same_month : month_of days ≡ month
 
--- The table that is written of a sheet means exactly the days of the sheet, whatever the options are. The table of a
--- sheet without days is refused.
+-- The CSV table of a key sheet means exactly the days of the sheet, whatever the options are. The table of a sheet
+-- without days is refused.
 abbrev pub TablesAreReadBack : Type 0
 TablesAreReadBack = (options : OptionTexts) (sheet : List ℕ) (month : List (Option Day)) → sheet_of sheet ≡ Ok month
     → MatchBool (has_days month) (MeansMonth options (csv_text month) month) (IsRefusedTable options (csv_text month))

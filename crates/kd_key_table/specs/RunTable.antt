@@ -1,4 +1,4 @@
--- What `run_table` answers.
+-- What `run_table` writes and answers.
 use Rattle.std.specs.Prelude.{◌≡◌, ◌⊎◌, ℕ, Bool, true, false, List, Result, Ok, Err, MatchResult}
 use Rattle.kd_tables.specs.Ports.{Port}
 use Rattle.kd_host.specs.Writing.{WritesText}
@@ -16,8 +16,8 @@ is_device (Ok done) = false
 is_device (Err Device) = true
 is_device (Err (Sheet fault)) = false
 
--- The tables of the sheet's month were written in this form and language, or a prefix of them if the sink failed. Or the answer is
--- the sheet's first fault. Or memory ran out; no clause says that it really did.
+-- The tables of the sheet's month were written in this form and language, or a prefix of them if the sink failed; or
+-- the answer is the sheet's first fault; or it is that memory ran out, which no clause excludes.
 abbrev pub IsTableAnswer : Language → TableForm → List ℕ → Port → Result (Unit {0}) TableFault → Type 0
 IsTableAnswer l form sheet sink answer =
     MatchResult (sheet_of sheet) (λ month. WritesText Device (file_text l form month) sink answer)

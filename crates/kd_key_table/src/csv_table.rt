@@ -1,4 +1,4 @@
-//! The days of a sheet as a table for a spreadsheet: a row for each day.
+//! A key sheet's days as a CSV table for a spreadsheet: a row for each day, from the first day on.
 ghost use Rattle.std.specs.Prelude.{◌≡◌, ◌++◌, flat_map, option_copied, Some, zip};
 ghost use Rattle.std.specs.List.{list_any};
 ghost use Rattle.kd_pictures.specs.Drawing.{Draws};
@@ -24,7 +24,7 @@ use kd_sheet::Sheet;
 use kd_state::{Entry, PinEntry, RotorEntry, SheetDay, SheetWheel};
 use kd_tables::{Letter, Model, Reading, Sink, ring1, ring2, ring3, ring4, ring5, ring6};
 
-/// Writes the table of the sheet's days.
+/// Writes the CSV table of the sheet's days.
 #[tactic(auto, unfolding(crate::specs::CsvTable::csv_text))]
 pub(crate) fn draw_csv<W: Sink>(sink: &mut W, sheet: &Sheet)
     ensures { Draws W.taken W.has_failed sink.old sink.new (csv_text sheet.now) }
@@ -42,7 +42,7 @@ fn has_lists(sheet: &Sheet) -> bool
     has_any_day_of(Model::M209, sheet, &DAYS)
 }
 
-/// Whether one of the days `numbers` is of the model.
+/// Whether at least one of the days `numbers` is of the model.
 fn has_any_day_of(model: Model, sheet: &Sheet, numbers: &[u8]) -> bool
     ensures { result ≡ list_any (has_day_of model sheet.now) numbers.now }
 {
@@ -116,7 +116,7 @@ fn draw_day_cells<W: Sink>(sink: &mut W, entry: &RotorEntry)
     draw(sink, entry.reflector.text().as_str());
 }
 
-/// Writes the wheels, the rings, the cables, the ground and the groups.
+/// Writes the wheels, the rings, the cables, the ground setting and the groups.
 fn draw_key_cells<W: Sink>(sink: &mut W, entry: &RotorEntry)
     ensures { Draws W.taken W.has_failed sink.old sink.new (key_cells (rotor_values entry.now)) }
 {
@@ -133,7 +133,7 @@ fn draw_key_cells<W: Sink>(sink: &mut W, entry: &RotorEntry)
     draw_words::<Whole, W, [Letter; 3]>(sink, entry.groups.as_slice());
 }
 
-/// Writes the rings of the wheels, by their numbers or by their letters.
+/// Writes the rings of the wheels, as numbers or as letters.
 fn draw_rings<W: Sink>(sink: &mut W, are_numbers: bool, wheels: &[SheetWheel])
     ensures { Draws W.taken W.has_failed sink.old sink.new
         (words_text (ring_text are_numbers) wheels.now) }
@@ -178,7 +178,7 @@ fn draw_pins<W: Sink>(sink: &mut W, pins: &PinSet)
     draw_wheel(sink, &ring6().letters(), &pins.w6);
 }
 
-/// Writes the cell of the wheel with these letters and pins.
+/// Writes the cell of a pin wheel that has these letters and pins.
 fn draw_wheel<W: Sink>(sink: &mut W, letters: &[Letter], pins: &[bool])
     ensures { Draws W.taken W.has_failed sink.old sink.new (effective_cell letters.now pins.now) }
 {

@@ -9,19 +9,19 @@ use arrayvec::ArrayVec;
 use kd_sheet::Sheet;
 use kd_tables::Model;
 
-/// The days of a month.
+/// The days of a month, in rising order.
 pub static DAYS: [u8; 31] = [
     1, 2, 3, 4, 5, 6, 7, 8, 9, 10, 11, 12, 13, 14, 15, 16, 17, 18, 19, 20, 21, 22, 23, 24, 25, 26,
     27, 28, 29, 30, 31,
 ];
 
-/// The days of a month, the last day first.
+/// The days of a month, in falling order.
 pub static LAST_DAY_FIRST: [u8; 31] = [
     31, 30, 29, 28, 27, 26, 25, 24, 23, 22, 21, 20, 19, 18, 17, 16, 15, 14, 13, 12, 11, 10, 9, 8,
     7, 6, 5, 4, 3, 2, 1,
 ];
 
-/// The days that the sheet has for the model, the last day first.
+/// The sheet's days of the model, in falling order.
 pub(crate) fn days_of(model: Model, sheet: &Sheet) -> ArrayVec<u8, 31>
     ensures { result.items ≡ days_of model sheet.now }
 {
@@ -30,7 +30,7 @@ pub(crate) fn days_of(model: Model, sheet: &Sheet) -> ArrayVec<u8, 31>
     days
 }
 
-/// Adds those of `numbers` that are days of the sheet for the model.
+/// Adds those days of `numbers` that the sheet has for the model.
 fn add_days(days: &mut ArrayVec<u8, 31>, model: Model, sheet: &Sheet, numbers: &[u8])
     requires { array_vec_len days.old + length numbers.now ≤ 31 }
     ensures { days.new.items ≡ days.old.items ++ filter (has_day_of model sheet.now) numbers.now }
@@ -52,7 +52,7 @@ fn add_if(days: &mut ArrayVec<u8, 31>, number: u8, is_wanted: bool)
     }
 }
 
-/// Whether the sheet has day `number`, and the day is of this model.
+/// Whether the sheet has day `number`, and this day is of the model.
 #[tactic(auto, unfolding(crate::specs::Days::has_day_of))]
 pub(crate) fn has_day_of(model: Model, sheet: &Sheet, number: u8) -> bool
     ensures { result ≡ has_day_of model sheet.now number }
@@ -63,7 +63,7 @@ pub(crate) fn has_day_of(model: Model, sheet: &Sheet, number: u8) -> bool
     }
 }
 
-/// The first of the days of which `last` is the last, and `earlier` are the others, the last of them first.
+/// The first of some days: `last` is the last of them, and `earlier` has the others in falling order.
 pub(crate) fn first_of(last: u8, earlier: &[u8]) -> u8
     ensures { result ≡ first_of last earlier.now }
 {
@@ -73,7 +73,7 @@ pub(crate) fn first_of(last: u8, earlier: &[u8]) -> u8
     }
 }
 
-/// Whether the sheet has one of the days `numbers`.
+/// Whether the sheet has at least one of the days `numbers`.
 pub(crate) fn has_any_day(sheet: &Sheet, numbers: &[u8]) -> bool
     ensures { result ≡ list_any (λ number. is_some (day_of sheet.now number)) numbers.now }
 {

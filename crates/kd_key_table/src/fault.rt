@@ -1,4 +1,4 @@
-//! `TableFault`: why there is no key table.
+//! `TableFault`: why a key sheet isn't written as tables.
 use kd_sheet::SheetFault;
 use kd_tables::Device;
 

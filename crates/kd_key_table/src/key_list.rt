@@ -1,4 +1,4 @@
-//! The key list of a Converter's day: the bars' lugs, the effective pins, and the 26-letter check.
+//! The key list of a Converter's day: the lugs of the bars, the effective pins, and the 26-letter check.
 ghost use Rattle.std.specs.Prelude.{◌≡◌, ◌≤◌, ◌+◌, ◌++◌, flat_map, length, slice_get, option_copied, Some};
 ghost use Rattle.std.specs.List.{enumerate_from};
 ghost use Rattle.kd_pins.specs.PinWheel.{is_effective};
@@ -21,7 +21,7 @@ use kd_sheet::Sheet;
 use kd_state::{Entry, PinEntry, SheetDay, own_engine};
 use kd_tables::{Letter, Model, Reading, Sink, ring1, ring2, ring3, ring4, ring5, ring6};
 
-/// Writes the key lists of those of the days `numbers` that are a Converter's.
+/// Writes the key lists of those days of `numbers` that are a Converter's.
 pub(crate) fn draw_key_lists<W: Sink>(
     sink: &mut W,
     language: Language,
@@ -57,7 +57,7 @@ fn draw_list_of<W: Sink>(sink: &mut W, language: Language, day: &SheetDay)
     }
 }
 
-/// Writes the key list of the day with these values and this check.
+/// Writes the key list of the day `entry`, with the check `check`.
 fn draw_list<W: Sink>(sink: &mut W, language: Language, entry: &PinEntry, check: &[Letter; 26])
     requires { check.now ≡ check_of (pin_values entry.now) }
     ensures { Draws W.taken W.has_failed sink.old sink.new (key_list language (pin_values entry.now)) }
@@ -74,7 +74,7 @@ fn draw_list<W: Sink>(sink: &mut W, language: Language, entry: &PinEntry, check:
     draw(sink, KEY_LIST_END);
 }
 
-/// Writes the lines of bars, of which the first has `place` bars before it.
+/// Writes the lines of the bars with the readings `rows`. `place` bars stand before them.
 fn draw_lines<W: Sink>(sink: &mut W, language: Language, pins: &PinSet, place: u8, rows: &[Reading])
     requires { place + length rows.now ≤ 27 }
     ensures { Draws W.taken W.has_failed sink.old sink.new
@@ -88,7 +88,7 @@ fn draw_lines<W: Sink>(sink: &mut W, language: Language, pins: &PinSet, place: u
     }
 }
 
-/// Writes the number of bar `bar`, and its lugs.
+/// Writes the number of bar `bar`, in two digits, and the wheels at its two lugs.
 fn draw_bar<W: Sink>(sink: &mut W, language: Language, bar: u8, row: Reading)
     ensures { Draws W.taken W.has_failed sink.old sink.new (bar_head bar row) }
 {
@@ -105,7 +105,7 @@ fn draw_bar<W: Sink>(sink: &mut W, language: Language, bar: u8, row: Reading)
     );
 }
 
-/// Writes the pins at `place` of the six wheels.
+/// Writes the cells of the pins at place `place` of all six wheels.
 fn draw_pins<W: Sink>(sink: &mut W, language: Language, pins: &PinSet, place: u8)
     ensures { Draws W.taken W.has_failed sink.old sink.new (pin_cells pins.now place) }
 {
@@ -117,7 +117,7 @@ fn draw_pins<W: Sink>(sink: &mut W, language: Language, pins: &PinSet, place: u8
     draw_pin(sink, language, &ring6().letters(), &pins.w6, place);
 }
 
-/// Writes the pin at `place` of the wheel with these letters and pins.
+/// Writes the cell of the pin at place `place` of a wheel with these letters and pins.
 fn draw_pin<W: Sink>(sink: &mut W, language: Language, letters: &[Letter], pins: &[bool], place: u8)
     ensures { Draws W.taken W.has_failed sink.old sink.new
         (pin_shown (slice_get letters.now place) (is_effective pins.now place)) }
@@ -146,7 +146,7 @@ fn draw_letter_cell<W: Sink>(sink: &mut W, language: Language, letter: Letter, e
     }
 }
 
-/// The 26-letter check of the day with these values: 26 times A enciphered, with A on each wheel.
+/// The 26-letter check: the cipher of 26 times A, with the day's pins and lugs, and A on each wheel.
 fn check_of(day: &SheetDay, entry: &PinEntry) -> [Letter; 26]
     requires { day.now ≡ Pin (pin_values entry.now) }
     ensures { result ≡ check_of (pin_values entry.now) }

@@ -5,9 +5,10 @@ ghost use Rattle.kd_key_table.specs.Plain.{TemplatesTakeTheirValues, WordsArePla
 ghost use Rattle.kd_key_table.specs.ReadAgain.{TablesAreReadBack};
 ghost use Rattle.kd_key_table.specs.declared.days.TheConstants.{DAYS, LAST_DAY_FIRST};
 
-/// What a table takes from a sheet has no markup.
+/// Nothing that a table takes from a sheet has markup.
 ///
-/// The law `kd_pictures::laws::values_are_plain` says so of the values of templates, and this law of words of letters.
+/// This law says so of words, which consist of letters; `kd_pictures::laws::values_are_plain` says so of the values of
+/// templates.
 #[tactic(auto, using(crate::proofs::PlainWords::words_are_plain))]
 pub fn words_are_plain()
     ensures { WordsArePlain }
@@ -20,15 +21,15 @@ pub fn templates_take_their_values()
 
 /// A month has the days 1 to 31.
 ///
-/// A page's month table lists them from the last day on; CSV tables and the Converter's key lists, from the first.
+/// The month tables on a page list them in falling order; CSV tables and key lists, in rising order.
 pub fn days_are_a_months()
     ensures days { DAYS ≡ range_with_len 1 31 }
     ensures last_first { LAST_DAY_FIRST ≡ reverse (range_with_len 1 31) }
 {}
 
-/// The table for a spreadsheet of a sheet is read as exactly the days of the sheet.
+/// The CSV table of a sheet is read back as exactly the sheet's days.
 ///
-/// A row is read as no other day, and a table without days isn't read.
+/// The table of a sheet without days is refused.
 #[tactic(auto, using(crate::proofs::ReadAgain::tables_are_read_back))]
 pub fn tables_are_read_back()
     ensures { TablesAreReadBack }

@@ -1,4 +1,4 @@
-//! Key sheets as printed tables: a table for each rotor model, and a key list for each day of a Converter.
+//! Key sheets as printed tables: a table for each rotor machine's model, and a key list for each day of a Converter.
 #![tactic(auto)]
 
 mod csv_table;

@@ -1,4 +1,4 @@
-//! The table of a rotor model: a row for each day, the last day on top.
+//! The table of a rotor machine's model: a row for each day, the last day on top.
 ghost use Rattle.std.specs.Prelude.{◌≡◌, flat_map, option_copied, Some};
 ghost use Rattle.kd_pictures.specs.Drawing.{Draws};
 ghost use Rattle.kd_sheet.specs.Sheet.{day_of};
@@ -18,7 +18,7 @@ use kd_sheet::Sheet;
 use kd_state::{Entry, RotorEntry, SheetDay, SheetWheel};
 use kd_tables::{Letter, Model, Sink};
 
-/// Writes the table of the days that the sheet has for `model`; nothing if it has none.
+/// Writes the table of the sheet's days of `model`; nothing if there are none.
 #[tactic(auto, unfolding(crate::specs::MonthTable::month_table))]
 pub(crate) fn draw_month<W: Sink>(sink: &mut W, language: Language, model: Model, sheet: &Sheet)
     ensures { Draws W.taken W.has_failed sink.old sink.new (month_table language model sheet.now) }
@@ -27,7 +27,7 @@ pub(crate) fn draw_month<W: Sink>(sink: &mut W, language: Language, model: Model
     draw_days(sink, language, model, sheet, days.as_slice());
 }
 
-/// Writes the table of the days `days`, of which the first is the last of the month.
+/// Writes the table of the days `days`, which are in falling order.
 fn draw_days<W: Sink>(sink: &mut W, language: Language, model: Model, sheet: &Sheet, days: &[u8])
     ensures { Draws W.taken W.has_failed sink.old sink.new
         (table_of_days language model sheet.now days.now) }
@@ -39,7 +39,7 @@ fn draw_days<W: Sink>(sink: &mut W, language: Language, model: Model, sheet: &Sh
     }
 }
 
-/// Writes the table of the day `last`, and of the days `earlier`.
+/// Writes the table of the day `last` and of the days `earlier`, which are in falling order.
 fn draw_table<W: Sink>(
     sink: &mut W,
     language: Language,
@@ -83,7 +83,7 @@ fn draw_month_head<W: Sink>(
     );
 }
 
-/// Writes the day, or the first day and the last.
+/// Writes the words for the days of a table: one day, or the first day and the last.
 fn draw_span<W: Sink>(sink: &mut W, language: Language, last: u8, earlier: &[u8])
     ensures { Draws W.taken W.has_failed sink.old sink.new (span_text language last earlier.now) }
 {
@@ -148,7 +148,7 @@ fn draw_setting_cells<W: Sink>(sink: &mut W, language: Language, entry: &RotorEn
     draw_rings(sink, language, has_numbered_rings(entry.model), wheels);
 }
 
-/// Writes the cables, the ground and the groups.
+/// Writes the cables, the ground setting and the groups.
 fn draw_word_cells<W: Sink>(sink: &mut W, entry: &RotorEntry)
     ensures { Draws W.taken W.has_failed sink.old sink.new (word_cells (rotor_values entry.now)) }
 {
@@ -170,7 +170,7 @@ fn draw_wheels<W: Sink>(sink: &mut W, language: Language, wheels: &[SheetWheel])
     }
 }
 
-/// Whether the model's sheets have a number for a ring, not a letter.
+/// Whether the model's key sheets give rings as numbers, not as letters.
 pub(crate) fn has_numbered_rings(model: Model) -> bool
     ensures { result ≡ has_numbered_rings model }
 {

@@ -1,4 +1,4 @@
-//! The file of a sheet's tables.
+//! The file with a sheet's tables.
 ghost use Rattle.std.specs.Prelude.{◌≡◌, ◌||◌, ◌++◌, is_err};
 ghost use Rattle.kd_tables.specs.Writing.{Writes};
 ghost use Rattle.kd_pictures.specs.Drawing.{Draws};
@@ -16,16 +16,16 @@ use kd_pictures::{Language, draw, draw_in};
 use kd_sheet::Sheet;
 use kd_tables::{Device, Model, Sink};
 
-/// The form of a file with a sheet's tables.
+/// The form of the file with a sheet's tables.
 #[derive(Clone, Copy, Debug, PartialEq, Eq)]
 pub enum TableForm {
     /// An HTML page to print.
     Page,
-    /// A table for a spreadsheet, in the form CSV.
+    /// A CSV table for a spreadsheet.
     Csv,
 }
 
-/// Does what `run_table` does, for a sheet that is already read. Allocates nothing.
+/// Writes the tables of a sheet that is already read, as `run_table` does. Allocates no memory.
 pub fn write_tables<W: Sink>(
     sink: &mut W,
     language: Language,
@@ -63,7 +63,7 @@ fn draw_page<W: Sink>(sink: &mut W, language: Language, sheet: &Sheet)
     draw(sink, FOOT);
 }
 
-/// Writes that the sheet has no days, if it has none.
+/// Writes that the sheet has no days, if it hasn't any.
 fn draw_no_days<W: Sink>(sink: &mut W, language: Language, sheet: &Sheet)
     ensures { Draws W.taken W.has_failed sink.old sink.new (no_days language (has_days sheet.now)) }
 {
@@ -74,7 +74,7 @@ fn draw_no_days<W: Sink>(sink: &mut W, language: Language, sheet: &Sheet)
     }
 }
 
-/// Writes a table for each rotor model that has days, and a key list for each day of a Converter.
+/// Writes a table for each rotor machine's model that has days, and a key list for each day of a Converter.
 fn draw_tables<W: Sink>(sink: &mut W, language: Language, sheet: &Sheet)
     ensures { Draws W.taken W.has_failed sink.old sink.new (tables_of language sheet.now) }
 {

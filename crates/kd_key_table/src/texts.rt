@@ -1,5 +1,5 @@
-//! The fixed texts of a key table, those with words in English and in German. In a template, each sign `~` stands for a
-//! value.
+//! The fixed texts of a key table; those with words are in English and in German. In a template, each sign `~` stands
+//! for a value.
 
 use kd_pictures::texts::Text;
 
@@ -9,13 +9,13 @@ pub const TITLE: Text = ("Key table", "Schlüsseltafel");
 /// The end of the style sheet, and the beginning of the body, which is wider than a page's.
 pub const WIDE_BODY: &str = "</style>\n<body>\n<main class=wide>\n";
 
-/// What stands in place of the tables of a sheet without days.
+/// The sentence for a sheet without days.
 pub const NO_DAYS: Text = (
     "<p>The sheet has no days.</p>\n",
     "<p>Die Schlüsseltafel hat keine Tage.</p>\n",
 );
 
-/// The head of a month's table: the model; its day, or its first day and its last.
+/// The head of a month's table. The value is the model. Then the words for one day, or for the first day and the last.
 pub const MONTH: Text = (
     "<article class=sheet>\n<header>\n<h1>~: key table <small>",
     "<article class=sheet>\n<header>\n<h1>~: Schlüsseltafel <small>",
@@ -31,7 +31,8 @@ pub const COLUMNS: Text = (
     "</small></h1>\n<p class=fields><span>Schlüsselkreis</span><span>Monat</span><span>Prüfnummer</span></p>\n</header>\n<p class=note>Nach Gebrauch den untersten Tag abschneiden. A\u{a0}01, B\u{a0}02, C\u{a0}03, D\u{a0}04, E\u{a0}05, F\u{a0}06, G\u{a0}07, H\u{a0}08, I\u{a0}09, J\u{a0}10, K\u{a0}11, L\u{a0}12, M\u{a0}13, N\u{a0}14, O\u{a0}15, P\u{a0}16, Q\u{a0}17, R\u{a0}18, S\u{a0}19, T\u{a0}20, U\u{a0}21, V\u{a0}22, W\u{a0}23, X\u{a0}24, Y\u{a0}25, Z\u{a0}26.</p>\n<table class=month>\n<colgroup><colgroup><colgroup span=~><colgroup span=~><colgroup><colgroup><colgroup>\n<thead>\n<tr><th scope=col>Tag<th scope=col>Umkehrwalze<th scope=col colspan=~>Walzenlage<th scope=col colspan=~>Ringstellung<th scope=col>Steckerverbindungen<th scope=col>Grundstellung<th scope=col>Kenngruppen\n<tbody>\n",
 );
 
-/// The row of a day: its number and its reflector, a wheel, a ring, and the cells of cables, ground and groups.
+/// The row of a day: its number and its reflector; a wheel; a ring; and the start of a cell for cables, ground setting
+/// or groups.
 pub const ROW: &str = "<tr><th scope=row>~<td>~";
 
 pub const WHEEL: &str = "<td>~";
@@ -44,13 +45,14 @@ pub const ROW_END: &str = "\n";
 
 pub const MONTH_END: &str = "</table>\n</article>\n";
 
-/// What stands in a cell for no cables, or no groups.
+/// The sign for no cables, or for no groups.
 pub const NOTHING: &str = "-";
 
-/// What stands between two words of a cell.
+/// The separator of two words in a cell.
 pub const SPACE: &str = " ";
 
-/// The head of a Converter's key list: the model and the day, before the letters of the list. Then the columns.
+/// The head of a Converter's key list, up to the letters of the list. The values are the model and the day. Then the
+/// columns.
 pub const KEY_LIST: Text = (
     "<article class=list>\n<header>\n<h1>~, day ~: key list ",
     "<article class=list>\n<header>\n<h1>~, Tag ~: Schlüsselliste ",
@@ -61,19 +63,19 @@ pub const KEY_LIST_COLUMNS: Text = (
     "</h1>\n<p class=fields><span>Schlüsselkreis</span><span>Datum</span><span>Prüfnummer</span></p>\n</header>\n<table class=keylist>\n<thead>\n<tr><th scope=col rowspan=2>Stange<th scope=col rowspan=2>Reiter<th scope=colgroup colspan=6>Wirksame Stifte von Rad\n<tr><th scope=col>1<th scope=col>2<th scope=col>3<th scope=col>4<th scope=col>5<th scope=col>6\n<tbody>\n",
 );
 
-/// The row of a bar: its number, with two digits, and its lugs.
+/// The row of a bar: its number, in two digits, and the wheels at its two lugs.
 pub const BAR_BELOW_TEN: &str = "<tr><th scope=row>0~<td>~-~";
 
 pub const BAR: &str = "<tr><th scope=row>~<td>~-~";
 
-/// The cell of a pin: an effective pin with its letter, a pin that isn't effective, and a place beyond the last pin.
+/// The cell of a pin: effective, with its letter; not effective; or none, as the wheel has fewer pins.
 pub const EFFECTIVE: &str = "<td>~";
 
 pub const INEFFECTIVE: &str = "<td>-";
 
 pub const NO_PIN: &str = "<td>";
 
-/// The head of the check. After the check, what it is, and the letters of the day.
+/// The words before the 26-letter check; then the words after it, up to the letters of the day.
 pub const CHECK: Text = (
     "</table>\n<h2>26-letter check</h2>\n<pre><b>",
     "</table>\n<h2>26-Buchstaben-Probe</h2>\n<pre><b>",
@@ -86,17 +88,17 @@ pub const CHECK_END: Text = (
 
 pub const KEY_LIST_END: &str = ".</p>\n</article>\n";
 
-/// The names of the columns of a spreadsheet's table, and of the columns for key lists.
+/// The names of the columns of a CSV table; then those of the columns for key lists.
 pub const COLUMN_NAMES: &str = "day,model,reflector,wheels,rings,plugs,window,groups";
 
 pub const LIST_COLUMN_NAMES: &str = ",list,pins 1,pins 2,pins 3,pins 4,pins 5,pins 6,bars";
 
-/// What ends a cell of a spreadsheet's table; and the cells of key lists in the row of a rotor machine's day.
+/// The end of a cell in a CSV table; then the empty cells for a key list in the row of a rotor machine's day.
 pub const COMMA: &str = ",";
 
 pub const NO_LIST: &str = ",,,,,,,,";
 
-/// The cells of a Converter's day between its number and its window: the model, and empty cells. After the window: no
+/// The cells of a Converter's day before its window letters: the model, and empty cells. Then the empty cell for
 /// groups.
 pub const PIN_MODEL: &str = ",M-209,,,,,";
 

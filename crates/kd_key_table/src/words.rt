@@ -1,4 +1,4 @@
-//! The words of a cell: letters, cables, groups, wheels and rings, with a space between each two.
+//! The words in a cell, with spaces between them: letters, cables, groups, wheels and rings.
 ghost use Rattle.std.specs.Prelude.{ℕ, List, flat_map, true, false};
 ghost use Rattle.kd_pictures.specs.Drawing.{Draws};
 ghost use Rattle.kd_key_table.specs.Words.{ring_text, spaced, words_text};
@@ -9,7 +9,7 @@ use kd_pictures::template::{draw_letter, draw_letters, draw_ordinal};
 use kd_state::SheetWheel;
 use kd_tables::{Letter, Reading, Sink};
 
-/// What stands in a cell as one word. `Kind` says what of the value is written.
+/// A value of which a word stands in a cell. `Kind` says which of its words.
 pub(crate) trait CellWord<Kind> {
     /// The word.
     ghost text: { Self → List ℕ };
@@ -18,19 +18,19 @@ pub(crate) trait CellWord<Kind> {
         ensures { Draws W.taken W.has_failed sink.old sink.new (text self.now) };
 }
 
-/// All of a value.
+/// The whole value.
 pub(crate) struct Whole;
 
-/// The letter in a wheel's window.
+/// The letter of a wheel in the ground setting.
 pub(crate) struct Ground;
 
-/// A wheel's name.
+/// The name of a wheel.
 pub(crate) struct Name;
 
-/// A wheel's ring, by its letter.
+/// The ring of a wheel, as a letter.
 pub(crate) struct RingLetter;
 
-/// A wheel's ring, by its number.
+/// The ring of a wheel, as a number.
 pub(crate) struct RingNumber;
 
 impl CellWord<Whole> for Letter {
@@ -43,7 +43,7 @@ impl CellWord<Whole> for Letter {
     }
 }
 
-/// A cable, by the letters of its two plugs.
+/// A cable, as the letters of its two plugs.
 impl CellWord<Whole> for (Letter, Letter) {
     ghost use Rattle.kd_key_table.specs.Words.{pair_text};
 
@@ -111,7 +111,7 @@ impl CellWord<RingNumber> for SheetWheel {
     }
 }
 
-/// Writes words, or a hyphen if there are none.
+/// Writes words with spaces between them; a hyphen if there are none.
 pub(crate) fn draw_words<Kind, W: Sink, T: CellWord<Kind>>(sink: &mut W, words: &[T])
     ensures { Draws W.taken W.has_failed sink.old sink.new (words_text T.text words.now) }
 {
@@ -123,7 +123,7 @@ pub(crate) fn draw_words<Kind, W: Sink, T: CellWord<Kind>>(sink: &mut W, words: 
     }
 }
 
-/// Writes words, with a space before each.
+/// Writes words, each after a space.
 fn draw_spaced<Kind, W: Sink, T: CellWord<Kind>>(sink: &mut W, words: &[T])
     ensures { Draws W.taken W.has_failed sink.old sink.new (flat_map (spaced T.text) words.now) }
 {

@@ -43,7 +43,7 @@ IsLostInBoth (one ∷ start) (other ∷ end) = ((one ≡ None) × (other ≡ Non
 IsLostInBoth [] end = ⊥
 IsLostInBoth (one ∷ start) [] = ⊥
 
--- `test` is the result of comparing `start` and `end`, the received copies of the list letters, with the day's, `due`.
+-- `test` is the result of comparing `start` and `end`, the received copies of the list letters, with `due`, the day's.
 -- It is `Wrong` if a received letter differs; otherwise `NotTested` if a letter is lost in both copies.
 pub data IsListTest (due : List ℕ) (start end : List (Option ℕ)) (test : GroupTest) : Type 0 where
   ListWrong : ¬ (Completes start due × Completes end due) → test ≡ tests.Wrong → IsListTest due start end test

@@ -103,8 +103,8 @@ may_repeat one other =
 
 -- ---- The parts of a form.
 
--- Whether two headings can be of one message: they give the same number of parts, and different numbers to their parts.
--- If `agree`, the parts may be the same, with one number.
+-- Whether two headings can be of one message: they give the same number of parts; and they have different part numbers
+-- or, with `agree`, may be of the same part.
 abbrev pub numbers_agree : PartNumbers → PartNumbers → Bool → Bool
 numbers_agree one other agree =
     one.parts == other.parts && (not (one.part == other.part) || agree)

@@ -65,7 +65,7 @@ better part None = Some part
 better part (Some later) =
     if is_worse part later then Some later else Some part
 
--- the part that is shown under this number: the one whose text tells most, or the first of several
+-- the part that is shown under this number: the one whose text tells most; of several, the first
 abbrev pub shown_under : List DamagedPart → ℕ → Option DamagedPart
 shown_under [] number = None
 shown_under (part ∷ parts) number =

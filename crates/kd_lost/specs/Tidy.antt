@@ -1,7 +1,7 @@
--- A form without noise, which copying a form or typing around it leaves there, and no operator sent. A byte order mark
--- is dropped, and so are the lines before the first heading, unless one of them may have been a heading: it begins like
--- `PART`, or has a slash. In a heading, blanks around its words are dropped, and all but one between two words. Bodies
--- may have any spaces and line ends.
+-- A form without noise, that is, without bytes that no operator sent, left by copying the form or typing around it. A
+-- byte order mark is dropped, and so are the lines before the first heading, unless one of them may have been a
+-- heading: it begins like `PART`, or has a slash. In a heading, blanks around its words are dropped, and all but one
+-- between two words. Bodies may have any spaces and line ends.
 -- Test: tests/cases/curator-messages.toml
 use Rattle.std.specs.Prelude.{ℕ, ◌==◌, ◌&&◌, ◌||◌, Bool, true, if◌then◌else◌, List, [], ◌∷◌, ◌++◌, take, drop}
 use Rattle.std.specs.Prelude.{Option, None, Some, unwrap_or}

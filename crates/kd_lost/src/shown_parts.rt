@@ -59,7 +59,7 @@ pub fn times_of(parts: &[DamagedPart], number: u16) -> usize
         .count()
 }
 
-/// The part that is shown under this number: the one whose text tells most, or the first of several.
+/// The part that is shown under this number: the one whose text tells most; of several, the first.
 pub fn shown_under(parts: &[DamagedPart], number: u16) -> Option<&DamagedPart>
     ensures { MatchOption result
         (shown_under parts.now number ≡ None)

@@ -1,4 +1,4 @@
-//! Forms without noise, which copying a form or typing around it leaves there, and no operator sent.
+//! Forms without noise, that is, without bytes that no operator sent, left by copying a form or typing around it.
 ghost use Rattle.std.specs.Prelude.{◌≡◌, ◌++◌, None, Some, MatchOption, MatchResult};
 ghost use Rattle.kd_lost.specs.DamagedPart.{first_line};
 ghost use Rattle.kd_lost.specs.Tidy.{as_space, ends_word, from_line_end, is_gap, later_heading, respaced};

@@ -44,9 +44,9 @@ letter_of (signs.Letter letter) = Some letter
 abbrev pub pressed_of : List Cell → List Cell
 pressed_of cells = filter (λ cell. cell.is_pressed) cells
 
--- The rows of a part that is read can be worked, whatever keys are pressed for the lost letters. From the windows that
--- the sheet shows, the machine turns the pressed keys `keys` into the letters below the line: `?` at each lost letter,
--- and nothing for a space.
+-- The rows of a part that is read can be deciphered, whatever keys are pressed for the lost letters. From the windows
+-- that the sheet shows, the machine turns the pressed keys `keys` into the letters below the line: `?` at each lost
+-- letter, and nothing for a space.
 abbrev pub RowsAreDeciphered : Type 0
 RowsAreDeciphered =
     (s : Day) (part : List ℕ) (shown : DamagedText) (keys : List ℕ) → IsDamagedTextAnswer s part (Ok shown)
@@ -85,9 +85,8 @@ HasLettersOf text other =
     (place letter : ℕ) → slice_get other.letters.items place ≡ Some (Some letter)
     → slice_get text.letters.items place ≡ Some (Some letter)
 
--- For each part with a text, even if only by count, the page shows a text under the part's number. This is a text of a
--- part with this number. It has each letter of the first part's text, and no more lost letters. `alone` are the parts,
--- each read by itself.
+-- For each part with a text, even if only by count, the page shows a text of a part with the same number. The shown
+-- text has each letter of the part's own text, and no more lost letters. `alone` are the parts, each read by itself.
 abbrev pub NothingReadIsHidden : Type 0
 NothingReadIsHidden =
     (l : Language) (s : Day) (form : List ℕ) (parts : List DamagedPart) (read : AreFormParts s form parts)
@@ -118,8 +117,8 @@ WholeMessagesHaveOneTotal =
     → Contains parts one → Contains parts other → one.numbers ≡ Some numbers → other.numbers ≡ Some others
     → numbers.parts ≡ others.parts
 
--- In a whole message, each part with the number of the first one has equally many letters, and the same, except for
--- lost ones.
+-- In a whole message, a part with the number of the first one has equally many letters, and the same ones, except where
+-- one is lost.
 abbrev pub RepetitionsHaveTheLetters : Type 0
 RepetitionsHaveTheLetters =
     (one other : DamagedPart) (others : List DamagedPart) (numbers again : PartNumbers) (shown later : DamagedText)

@@ -53,12 +53,12 @@ abbrev pub listed_text : Language → PartName → Option DamagedText → List �
 listed_text l name (Some shown) = listed_sheet l name.sheet name.part name.parts
 listed_text l name None = listed_unread l name
 
--- the sheet on which this text is worked
+-- the sheet for a part with this text
 abbrev pub sheet_of_text : Language → Day → PartName → DamagedText → List ℕ
 sheet_of_text l s name shown =
     part_sheet l (sheet_to_receive (day_model s)) s name (warnings_of shown) (received_work s shown)
 
--- the sheet on which a part with this text is worked; none if there is no text, not even by count
+-- the sheet for a part with this text; none if there is no text, not even by count
 abbrev pub worked_text : Language → Day → PartName → Option DamagedText → List ℕ
 worked_text l s name (Some shown) = sheet_of_text l s name shown
 worked_text l s name None = []

@@ -67,7 +67,7 @@ sheet_to_send model = if is_converter model then PinSend else RotorSend
 abbrev pub no_warnings : Warnings
 no_warnings = record { letters_lost = false; copies_lost = false; wrong_day = false; not_tested = false }
 
--- the sheet on which a part to send is worked
+-- the sheet for a part to send
 abbrev pub send_sheet : Language → Day → PartName → Work → List ℕ
 send_sheet l s name work = part_sheet l (sheet_to_send (day_model s)) s name no_warnings work
 

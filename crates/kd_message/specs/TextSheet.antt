@@ -125,7 +125,7 @@ abbrev pub has_lost : List (Option ℕ) → Bool
 has_lost [] = false
 has_lost (letter ∷ letters) = is_none letter || has_lost letters
 
--- the number of groups at the front of the list, up to the first without a lost letter
+-- how many groups at the front of the list have lost letters
 abbrev pub run_length : List (List (Option ℕ)) → ℕ
 run_length [] = 0
 run_length (group ∷ groups) = if has_lost group then run_length groups + 1 else 0
@@ -173,7 +173,7 @@ is_wrong_day tests.Right = false
 is_wrong_day tests.Wrong = true
 is_wrong_day tests.NotTested = false
 
--- whether lost letters hide if the part is of the day: a letter of the group, or a list letter in both copies
+-- whether the day isn't tested, since a letter of the group is lost, or a list letter in both copies
 abbrev pub is_not_tested : GroupTest → Bool
 is_not_tested tests.Right = false
 is_not_tested tests.Wrong = false

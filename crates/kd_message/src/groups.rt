@@ -49,7 +49,7 @@ pub(crate) fn draw_lost_groups<W: Sink>(
     }
 }
 
-/// The number of groups at the front of `letters`, up to the first without a lost letter.
+/// How many groups at the front of `letters` have lost letters.
 fn run_length(letters: &[Option<Letter>]) -> usize
     ensures groups { result ≡ run_length (pieces 5 letters.now) }
     ensures few { result ≤ length letters.now }

@@ -100,7 +100,7 @@ fn page_fault(fault: DamagedFormFault) -> ReceivePageFault
 pub(crate) enum Section {
     /// The list of the sheets.
     Listed,
-    /// The sheets on which the parts are worked.
+    /// The sheets of the parts that are read.
     Worked,
     /// The texts of the parts.
     Texts,
@@ -451,7 +451,7 @@ fn draw_listed_unread<W: Sink>(sink: &mut W, language: Language, name: PartName)
     );
 }
 
-/// Writes the sheet on which a part is worked, if it is read.
+/// Writes the sheet for a part, if it is read.
 fn draw_worked<W: Sink>(
     sink: &mut W,
     language: Language,
@@ -469,7 +469,7 @@ fn draw_worked<W: Sink>(
     }
 }
 
-/// Writes the sheet on which a text is worked.
+/// Writes the sheet for a part with this text.
 fn draw_sheet_of_text<W: Sink>(
     sink: &mut W,
     language: Language,

@@ -190,7 +190,7 @@ pub(crate) fn draw_listed_part<W: Sink>(
     );
 }
 
-/// Writes the sheets on which the parts from number `part` on are worked.
+/// Writes the sheets for the parts from number `part` on.
 fn draw_part_sheets<W: Sink>(
     sink: &mut W,
     language: Language,

@@ -268,7 +268,7 @@ pub(crate) fn is_wrong_day(group: GroupTest) -> bool
     }
 }
 
-/// Whether lost letters hide if the part is of the day: a letter of the group, or a list letter in both copies.
+/// Whether the day isn't tested, since a letter of the group is lost, or a list letter in both copies.
 fn is_not_tested(group: GroupTest) -> bool
     ensures { result ≡ is_not_tested group }
 {

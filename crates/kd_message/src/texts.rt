@@ -73,8 +73,8 @@ pub const LIST_END_WITH_TEXT: Text = (
     "<li><a href=\"#text\">Klartext</a>\n</ul>\n</nav>\n",
 );
 
-/// The head of the sheet with the text, and of each part on it. The values are the model and the day, for a part after
-/// its number and the number of parts.
+/// The head of the sheet with the text, and of each part on it. The values are the model and the day; a part's number
+/// and the number of parts come first.
 pub const TEXT_SHEET: Text = (
     "<article id=text class=form>\n<header>\n<h1>~, day ~: text</h1>\n<p class=fields><span>From</span><span>Time</span><span>Read by</span></p>\n</header>\n",
     "<article id=text class=form>\n<header>\n<h1>~, Tag ~: Klartext</h1>\n<p class=fields><span>Von</span><span>Uhrzeit</span><span>Entschlüsselt durch</span></p>\n</header>\n",
@@ -226,8 +226,8 @@ pub const COUNT_CAME: Text = (", but ", ", eingegangen: ");
 
 pub const COUNT_END: Text = (" came.", ".");
 
-/// A part that is read by count: the words before what is wrong with its count. A damaged count: the words before and
-/// after the number of letters that came.
+/// A part that is read by count: the words before what is wrong with its count. Then the words for a damaged count,
+/// before and after the number of letters that came.
 pub const BY_COUNT: Text = (
     "<p class=reason><b>Read by the letters that came.</b> ",
     "<p class=reason><b>Gelesen nach den eingegangenen Buchstaben.</b> ",

@@ -1,4 +1,4 @@
--- The cells of a row: a letter's sign above the line, and its sign below the line.
+-- The cells of a row, one for each letter: the sign above the line to write on, and the sign below it.
 use Rattle.std.specs.Prelude.{decimal, ℕ, ◌+◌, ◌==◌, true, false, is_some, if◌then◌else◌, List, [], ◌∷◌, Option, None, Some}
 use Rattle.kd_tables.specs.Rings.{place_on, ring_of}
 use Rattle.kd_pictures.specs.Template.{letter_text}
@@ -16,17 +16,17 @@ sign_text signs.Nothing = no_letter
 sign_text signs.Lost = lost_letter
 sign_text (signs.Letter letter) = letter_text letter
 
--- a letter that is copied to the line: nothing is pressed for it
+-- the cell of a letter that is copied to the line, without a key press
 abbrev pub copied : ℕ → Cell
 copied letter =
     record { above = signs.Nothing; below = signs.Letter letter; is_pressed = false; mark = marks.NoMark }
 
--- a letter that is pressed, and the lamp that has to light up for it
+-- the cell of a letter that is pressed, with the letter of the lamp that has to light up for it
 abbrev pub pressed : ℕ → ℕ → Cell
 pressed key lamp =
     record { above = signs.Letter key; below = signs.Letter lamp; is_pressed = true; mark = marks.NoMark }
 
--- letters that are pressed, and their lamps
+-- the cells of letters that are pressed, with the letters of their lamps
 abbrev pub pressed_cells : List ℕ → List ℕ → List Cell
 pressed_cells (key ∷ keys) (lamp ∷ lamps) = pressed key lamp ∷ pressed_cells keys lamps
 pressed_cells [] lamps = []
@@ -38,17 +38,17 @@ abbrev pub sign_of : Option ℕ → Sign
 sign_of None = signs.Lost
 sign_of (Some letter) = signs.Letter letter
 
--- a letter that came with the form, and isn't pressed
+-- the cell of a letter that came with the form, and isn't pressed
 abbrev pub skipped : Option ℕ → Cell
 skipped letter = record { above = sign_of letter; below = signs.Nothing; is_pressed = false; mark = marks.NoMark }
 
--- the sign of a letter of the text: nothing for a space, for which `for_space` was sent
+-- the sign of a letter of the text; nothing for the letter `for_space`, which was sent for a space
 abbrev pub text_sign : Option ℕ → Option ℕ → Sign
 text_sign for_space None = signs.Lost
 text_sign None (Some letter) = signs.Letter letter
 text_sign (Some space) (Some letter) = if letter == space then signs.Nothing else signs.Letter letter
 
--- letters that came with the form and are pressed, and the letters of the text
+-- the cells of letters that came with the form and are pressed, with the letters of the text below them
 abbrev pub received_cells : Option ℕ → List (Option ℕ) → List (Option ℕ) → List Cell
 received_cells for_space (key ∷ keys) (letter ∷ text) =
     record { above = sign_of key; below = text_sign for_space letter; is_pressed = true; mark = marks.NoMark }
@@ -58,20 +58,22 @@ received_cells for_space (key ∷ keys) [] = []
 
 -- ---- The internal key of a Converter: wheels 1 to 6 each take the next letter that they have.
 
--- what the wheels do with a letter if the wheels up to wheel `taken` have taken letters
+-- the mark of a printed letter: the next wheel after wheel `taken` takes the letter if it has it; otherwise the letter
+-- is struck out. After wheel 6, no letter is needed.
 abbrev pub mark_of : ℕ → ℕ → Mark
 mark_of taken letter =
     if taken == 6 then marks.NotNeeded
     else if is_some (place_on (ring_of (taken + 1)) letter) then marks.Taken (taken + 1) else marks.StruckOut
 
--- how many wheels have taken letters after a letter with this mark
+-- the last wheel that has taken a letter, after a letter with this mark; `taken` is the last one before it
 abbrev pub taken_after : ℕ → Mark → ℕ
 taken_after taken marks.NoMark = taken
 taken_after taken marks.NotNeeded = taken
 taken_after taken marks.StruckOut = taken
 taken_after taken (marks.Taken wheel) = wheel
 
--- the chosen letter for each of the letters that are printed for it, with what the wheels do with the printed letter
+-- the cells with which the internal key is found: the chosen letter above, a letter printed for it below, and the mark
+-- of the printed letter. `taken` is the last wheel that has taken a letter.
 abbrev pub choice_cells : ℕ → ℕ → List ℕ → List Cell
 choice_cells taken chosen [] = []
 choice_cells taken chosen (letter ∷ printed) =
@@ -84,7 +86,7 @@ mark_text marks.NotNeeded = no_letter
 mark_text marks.StruckOut = struck_out
 mark_text (marks.Taken wheel) = decimal wheel
 
--- what a line has for a cell
+-- the sign or the mark that a line of a group has for a cell
 abbrev pub place_text : Line → Cell → List ℕ
 place_text lines.Above cell = sign_text cell.above
 place_text lines.Below cell = sign_text cell.below

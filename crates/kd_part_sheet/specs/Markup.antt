@@ -1,4 +1,4 @@
--- The signs and the markup of which the cells of a part's sheet are made, said here byte by byte.
+-- The signs and the markup in the cells of a part's sheet, given here byte by byte.
 -- Source: HTML, html.spec.whatwg.org; Unicode, unicode.org.
 -- Test: tests/cases/curator-messages.toml
 use Rattle.std.specs.Prelude.{codes, ℕ, List, [], ◌∷◌, ◌++◌}
@@ -7,7 +7,7 @@ use Rattle.std.specs.Prelude.{codes, ℕ, List, [], ◌∷◌, ◌++◌}
 abbrev pub wide_space : List ℕ
 wide_space = 194 ∷ 160 ∷ []
 
--- what stands where there is no letter, for a letter that is lost, and under a letter that is struck out
+-- the sign for no letter, for a lost letter, and for the mark of a letter that is struck out
 abbrev pub no_letter : List ℕ
 no_letter = wide_space
 
@@ -17,7 +17,7 @@ lost_letter = codes "?"
 abbrev pub struck_out : List ℕ
 struck_out = codes "-"
 
--- what stands between letters, between numbers, and between values
+-- the separators of letters, of numbers, and of values
 abbrev pub space : List ℕ
 space = codes " "
 
@@ -27,7 +27,7 @@ two_spaces = wide_space ++ wide_space
 abbrev pub comma : List ℕ
 comma = codes ", "
 
--- a group: its start, and the end of what is above its line; small letters; marks; its end
+-- the markup of a group: its start, and the end of the signs above the line; small letters; marks; its end
 abbrev pub group_start : List ℕ
 group_start = codes "<span><b>"
 

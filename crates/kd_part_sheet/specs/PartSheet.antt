@@ -1,4 +1,4 @@
--- The sheet on which a part is worked.
+-- The sheet for one part of a message, by which an operator enciphers or deciphers it.
 use Rattle.std.specs.Prelude.{decimal, ℕ, Bool, if◌then◌else◌, List, [], ◌∷◌, ◌++◌, length, map, take, drop}
 use Rattle.kd_tables.specs.declared.model.Model.{Model}
 use Rattle.kd_tables.specs.declared.model.Model.TheVariants.{EnigmaI, M3, M4, M209}
@@ -21,11 +21,11 @@ use Rattle.kd_part_sheet.specs.Sheet.{sheet_text}
 use Rattle.kd_part_sheet.specs.Windows.{windows_text}
 use Rattle.kd_part_sheet.specs.Words.{cables_text, rings_after, wheels_after}
 
--- a text that is there only sometimes
+-- the text if `is_there`; otherwise nothing
 abbrev pub text_if : Bool → List ℕ → List ℕ
 text_if is_there text = if is_there then text else []
 
--- what the heads of a part's steps repeat
+-- the values that the head of each step repeats: the model, the day, the part, and the number of parts
 abbrev pub name_values : PartName → List (List ℕ)
 name_values name = model_name name.model ∷ decimal name.day ∷ decimal name.part ∷ decimal name.parts ∷ []
 
@@ -33,37 +33,37 @@ name_values name = model_name name.model ∷ decimal name.day ∷ decimal name.p
 abbrev pub head_text : Language → Sheet → PartName → List ℕ
 head_text l sheet name = filled (sheet_text l sheet texts.HEAD) (decimal name.sheet ∷ name_values name)
 
--- reflector, wheels, rings and cables of the day
+-- the key of a rotor machine's day: reflector, wheels, rings and cables
 unfoldable pub rotor_key_text : Language → RotorDay → List ℕ
 rotor_key_text l s =
     filled (text_in l texts.REFLECTOR) (reflector_text s.reflector ∷ []) ++ wheels_after [] s.wheels
     ++ text_in l texts.RINGS ++ rings_after [] s.wheels ++ text_in l texts.CABLES ++ cables_text l s.pairs ++ KEY_END.now
 
--- the key of the day that the machine has to be on
+-- the key of the day, on which the machine has to be
 abbrev pub day_key_text : Language → Day → List ℕ
 day_key_text l (Rotor s) = rotor_key_text l s
 day_key_text l (Pin s) = filled (text_in l texts.LIST) (map letter_text s.list)
 
--- the step in which nothing was pressed yet
+-- the progress at the start of a step, before the first row
 abbrev pub beginning : Progress
 beginning = record { letters = 0; presses = 0 }
 
--- the step of the key
+-- the first step, in which the message key or the internal key is found
 unfoldable pub key_step : Language → Sheet → Day → PartName → Work → List ℕ
 key_step l sheet s name work =
     filled (sheet_text l sheet texts.KEY_STEP) (name_values name)
     ++ windows_text l (is_converter name.model) work.ground ++ sheet_text l sheet texts.KEY_WORDS
     ++ rows_after s work.ground beginning (pieces 50 work.key) ++ sheet_text l sheet texts.KEY_STEP_END
 
--- the head of the step of the text, with the number of letters
+-- the head of the second step, with the number of the body's letters
 abbrev pub text_head : Language → Sheet → PartName → ℕ → List ℕ
 text_head l sheet name letters = filled (sheet_text l sheet texts.TEXT_STEP) (decimal letters ∷ name_values name)
 
--- how many letters of a body are on the first sheet of paper
+-- how many letters of a body fit on the first sheet of paper
 abbrev pub first_sheet : Model → ℕ
 first_sheet model = if is_converter model then 200 else 250
 
--- the letters on a second sheet of paper, if letters are left
+-- the rows of the remaining letters, on a second sheet of paper; nothing if there are none
 abbrev pub next_sheet : Language → Sheet → Day → PartName → List ℕ → Progress → List Cell → List ℕ
 next_sheet l sheet s name start progress [] = []
 next_sheet l sheet s name start progress (cell ∷ cells) =
@@ -83,13 +83,13 @@ warnings_text l sheet warnings =
     ++ text_if warnings.wrong_day (sheet_text l sheet texts.WRONG_DAY)
     ++ text_if warnings.not_tested (sheet_text l sheet texts.NOT_TESTED)
 
--- the step of the text
+-- the second step, in which the text is enciphered or deciphered
 unfoldable pub text_step : Language → Sheet → Day → PartName → Warnings → Work → List ℕ
 text_step l sheet s name warnings work =
     text_head l sheet name (length work.body) ++ windows_text l (is_converter name.model) work.start
     ++ warnings_text l sheet warnings ++ text_rows l sheet s name work.start work.body
 
--- how spaces and signs are meant on a sheet
+-- the note on which letters stand for spaces and punctuation
 abbrev pub note : Language → Sheet → Model → List ℕ
 note l sheet EnigmaI = sheet_text l sheet texts.NOTE
 note l sheet M3 = sheet_text l sheet texts.NOTE

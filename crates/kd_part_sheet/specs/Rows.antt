@@ -1,4 +1,5 @@
--- The rows of a step: ten groups of five letters a row; at a row's end the letters so far, and after presses the windows.
+-- The rows of a step: ten groups of five letters; then the number of letters so far and, if the row has pressed
+-- letters, the windows after them.
 use Rattle.std.specs.Prelude.{decimal, ℕ, ◌+◌, ◌==◌, Bool, true, false, not, if◌then◌else◌}
 use Rattle.std.specs.Prelude.{List, [], ◌∷◌, ◌++◌, flat_map, length}
 use Rattle.std.specs.Int.{div_ceil}
@@ -33,18 +34,18 @@ is_nothing signs.Nothing = true
 is_nothing signs.Lost = false
 is_nothing (signs.Letter letter) = false
 
--- whether the group came with the form and isn't pressed: all of it is pressed, or nothing
+-- whether the group came with the form and isn't pressed; either all letters of a group are pressed, or none
 abbrev pub is_skipped : List Cell → Bool
 is_skipped [] = false
 is_skipped (cell ∷ cells) = if cell.is_pressed then false else not (is_nothing cell.above)
 
--- what stands above the line, small if it isn't pressed
+-- the signs above the line, in small print if they aren't to be pressed
 abbrev pub above_text : Bool → List Cell → List ℕ
 above_text is_small cells =
     if is_small then small ++ flat_map (place_text lines.Above) cells ++ small_end
     else flat_map (place_text lines.Above) cells
 
--- whether a sign stands below the line
+-- whether the group has a sign below the line
 abbrev pub has_below : List Cell → Bool
 has_below [] = false
 has_below (cell ∷ cells) = if is_nothing cell.below then has_below cells else true
@@ -55,16 +56,16 @@ is_mark marks.NotNeeded = true
 is_mark marks.StruckOut = true
 is_mark (marks.Taken wheel) = true
 
--- whether the group has marks: all of its cells have marks, or none
+-- whether the group has marks; either all of its cells have one, or none
 abbrev pub has_marks : List Cell → Bool
 has_marks [] = false
 has_marks (cell ∷ cells) = is_mark cell.mark
 
--- a line of a group between `before` and `after`, if the group has it
+-- a line of a group between `before` and `after`; nothing if the group doesn't have the line
 abbrev pub line_if : Bool → List ℕ → List ℕ → Line → List Cell → List ℕ
 line_if is_there before after line cells = if is_there then before ++ flat_map (place_text line) cells ++ after else []
 
--- what stands above the line, what stands below it, and the marks
+-- a group: the signs above the line, the signs below it, and the marks
 unfoldable pub group_text : List Cell → List ℕ
 group_text cells =
     group_start ++ above_text (is_skipped cells) cells ++ above_end
@@ -77,30 +78,30 @@ group_text cells =
 abbrev pub pressed_count : List Cell → ℕ
 pressed_count cells = count_by (λ cell. cell.is_pressed) cells
 
--- how far a step has come after another row
+-- the progress of a step after one more row
 abbrev pub progress_after : Progress → List Cell → Progress
 progress_after progress row =
     record { letters = progress.letters + length row; presses = progress.presses + pressed_count row }
 
--- the letters that the machine shows, on a rotor machine with their numbers
+-- the letters that the machine shows; on a rotor machine also their numbers
 abbrev pub shown_after : Bool → List ℕ → List ℕ
 shown_after is_converter letters =
     if is_converter then letter_words false markup.ROW_LETTERS.now space letters
     else letter_words false markup.ROW_LETTERS.now two_spaces letters
     ++ letter_words true markup.ROW_NUMBERS.now space letters
 
--- the windows after this many letters were pressed, unless the row has no letter that is pressed
+-- the windows after `presses` letters were pressed; nothing if no letter of the row is pressed
 abbrev pub windows_after : Day → List ℕ → ℕ → Bool → List ℕ
 windows_after s start presses is_idle =
     if is_idle then [] else shown_after (is_converter (day_model s)) (letters_after s start presses)
 
--- a row's groups, and at its end a box, the letters so far, and the windows after its last letter
+-- a row: its groups, a checkbox, the number of letters so far, and the windows after the row
 unfoldable pub row_text : Day → List ℕ → Progress → List Cell → List ℕ
 row_text s start progress row =
     markup.ROW.now ++ flat_map group_text (pieces 5 row) ++ filled markup.ROW_BOX.now (decimal progress.letters ∷ [])
     ++ windows_after s start progress.presses (pressed_count row == 0) ++ markup.ROW_END.now
 
--- the rows after rows with this progress; at the step's start, the machine shows the letters `start`
+-- the rows that follow rows with this progress. At the start of the step, the machine shows `start`.
 abbrev pub rows_after : Day → List ℕ → Progress → List (List Cell) → List ℕ
 rows_after s start progress [] = []
 rows_after s start progress (row ∷ rows) =

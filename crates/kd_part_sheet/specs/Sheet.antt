@@ -1,15 +1,15 @@
--- The texts of a part's sheet: a text is there for each sheet, in both languages.
+-- The texts of a part's sheet: each has a version for each of the four sheets, in both languages.
 use Rattle.std.specs.Prelude.{ℕ, List}
 use Rattle.kd_pictures.specs.declared.language.Language.{Language}
 use Rattle.kd_pictures.specs.Language.{text_in}
 use Rattle.kd_part_sheet.specs.declared.sheet.Sheet.{Sheet}
 use Rattle.kd_part_sheet.specs.declared.sheet.Sheet.TheVariants.{PinReceive, PinSend, RotorReceive, RotorSend}
 
--- a text in English and in German, as in the file `texts.rt`
+-- a text in English and in German, as in the source file `texts.rt`
 abbrev pub Text : Type 0
 Text = record { now : List ℕ } × record { now : List ℕ }
 
--- a text for each sheet, likewise: sent on a rotor machine, and on a Converter; received on them
+-- the versions of a text: for a sent part on a rotor machine and on a Converter; for a received part on both
 abbrev pub SheetText : Type 0
 SheetText = (Text × Text) × (Text × Text)
 
@@ -19,7 +19,7 @@ for_sheet PinSend one two three four = two
 for_sheet RotorReceive one two three four = three
 for_sheet PinReceive one two three four = four
 
--- the text on a sheet, in a language
+-- the version of a text for this sheet, in language `l`
 abbrev pub sheet_text : Language → Sheet → SheetText → List ℕ
 sheet_text l sheet text =
     for_sheet sheet (text_in l text.0.0) (text_in l text.0.1) (text_in l text.1.0) (text_in l text.1.1)

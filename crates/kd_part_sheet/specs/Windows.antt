@@ -1,4 +1,4 @@
--- The picture of the windows, or of a Converter's wheels, that the hand sets.
+-- The picture of the windows, or of a Converter's wheels, that the operator has to set.
 use Rattle.std.specs.Prelude.{decimal, ℕ, ◌+◌, ◌-◌, ◌*◌, Bool, if◌then◌else◌, List, [], ◌∷◌, ◌++◌}
 use Rattle.kd_pictures.specs.declared.language.Language.{Language}
 use Rattle.kd_pictures.specs.Language.{text_in}
@@ -7,19 +7,19 @@ use Rattle.kd_part_sheet.specs.declared.markup.TheConstants as markup
 use Rattle.kd_part_sheet.specs.declared.texts.TheConstants as texts
 use Rattle.kd_part_sheet.specs.Markup.{comma}
 
--- a window in words
+-- the words for a window: its number and its letter; on a rotor machine also the letter's number
 abbrev pub window_words : Bool → ℕ → ℕ → List ℕ
 window_words is_converter number letter =
     if is_converter then filled markup.WHEEL_WORDS.now (decimal number ∷ letter_text letter ∷ [])
     else filled markup.WINDOW_WORDS.now (decimal number ∷ letter_text letter ∷ ordinal_text letter ∷ [])
 
--- windows in words, from this number on, the first after `first`
+-- the words for windows from number `number` on, with `first` before the first and commas before the others
 abbrev pub words_after : Bool → List ℕ → ℕ → List ℕ → List ℕ
 words_after is_converter first number [] = []
 words_after is_converter first number (letter ∷ letters) =
     first ++ window_words is_converter number letter ++ words_after is_converter comma (number + 1) letters
 
--- a window, with its number and its letter; on a rotor machine also the letter's number
+-- a window in the picture: its number and its letter; on a rotor machine also the letter's number
 abbrev pub window_item : Language → Bool → ℕ → ℕ → List ℕ
 window_item l is_converter number letter =
     if is_converter then filled markup.WHEEL.now (
@@ -30,7 +30,7 @@ window_item l is_converter number letter =
     ∷ decimal (2 + 96 * (number - 1) + 20) ∷ letter_text letter
     ∷ decimal (2 + 96 * (number - 1) + 62) ∷ ordinal_text letter ∷ [])
 
--- the windows from this number on
+-- the windows in the picture from number `number` on
 abbrev pub window_items : Language → Bool → ℕ → List ℕ → List ℕ
 window_items l is_converter number [] = []
 window_items l is_converter number (letter ∷ letters) =
@@ -40,7 +40,7 @@ window_items l is_converter number (letter ∷ letters) =
 abbrev pub windows_title : Language → Bool → List ℕ
 windows_title l is_converter = if is_converter then text_in l texts.WHEELS else text_in l texts.WINDOWS
 
--- the picture
+-- the picture, with its title
 unfoldable pub windows_text : Language → Bool → List ℕ → List ℕ
 windows_text l is_converter letters =
     windows_title l is_converter ++ words_after is_converter [] 1 letters

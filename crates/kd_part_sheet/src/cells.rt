@@ -1,4 +1,4 @@
-//! The cells of a row: what stands above the line of a letter, and below it.
+//! The cells of a row, one for each letter: the sign above the line to write on, and the sign below it.
 ghost use Rattle.std.specs.Prelude.{◌≡◌, ◌+◌, ◌≤◌, ◌++◌, length, map};
 ghost use Rattle.kd_pictures.specs.Drawing.{Draws};
 ghost use Rattle.kd_part_sheet.specs.Cells.{choice_cells, copied, mark_of, mark_text, place_text, pressed_cells};
@@ -11,7 +11,7 @@ use kd_pictures::draw;
 use kd_pictures::template::draw_letter;
 use kd_tables::{Letter, Sink, place_on_wheel};
 
-/// What stands in a place for a letter.
+/// What stands above or below the line for a letter.
 #[derive(Clone, Copy)]
 pub enum Sign {
     Nothing,
@@ -19,24 +19,24 @@ pub enum Sign {
     Letter(Letter),
 }
 
-/// A letter of a row.
+/// The cell of a letter in a row.
 #[derive(Clone, Copy)]
 pub struct Cell {
-    /// What stands above the line.
+    /// The sign above the line.
     pub above: Sign,
-    /// What stands below the line.
+    /// The sign below the line.
     pub below: Sign,
     /// Whether the letter is pressed.
     pub is_pressed: bool,
     pub mark: Mark,
 }
 
-/// What a Converter's wheels do with a letter that was printed for the internal key.
+/// What a Converter's wheels do with a letter that is printed to find the internal key.
 #[derive(Clone, Copy)]
 pub enum Mark {
-    /// The row has no marks.
+    /// No mark: the cell isn't for the internal key.
     NoMark,
-    /// The internal key is already complete.
+    /// No wheel needs the letter: the internal key is already complete.
     NotNeeded,
     StruckOut,
     /// This wheel takes the letter.
@@ -55,7 +55,7 @@ impl Default for Cell {
     }
 }
 
-/// Appends letters that are copied: nothing is pressed for them.
+/// Appends the cells of letters that are copied, without a key press.
 pub(crate) fn push_copied<const N: usize>(cells: &mut ArrayVec<Cell, N>, letters: &[Letter])
     requires { length cells.old.items + length letters.now ≤ N }
     ensures { cells.new.items ≡ cells.old.items ++ map copied letters.now }
@@ -70,7 +70,7 @@ pub(crate) fn push_copied<const N: usize>(cells: &mut ArrayVec<Cell, N>, letters
     }
 }
 
-/// Appends letters that are pressed, with the lamps that light up for them.
+/// Appends the cells of letters that are pressed, with the letters of their lamps.
 pub fn push_pressed<const N: usize>(
     cells: &mut ArrayVec<Cell, N>,
     keys: &[Letter],
@@ -92,7 +92,7 @@ pub fn push_pressed<const N: usize>(
     }
 }
 
-/// Appends letters that came with the form, and aren't pressed.
+/// Appends the cells of letters that came with the form, and aren't pressed.
 pub fn push_skipped<const N: usize>(cells: &mut ArrayVec<Cell, N>, letters: &[Option<Letter>])
     requires { length cells.old.items + length letters.now ≤ N }
     ensures { cells.new.items ≡ cells.old.items ++ map skipped letters.now }
@@ -117,8 +117,8 @@ fn sign_of(letter: Option<Letter>) -> Sign
     }
 }
 
-/// Appends letters that came with the form and are pressed, with the letters of the text, of which `for_space` is a
-/// space.
+/// Appends the cells of letters that came with the form and are pressed, with the letters of the text below them. The
+/// letter `for_space` is shown as a space.
 pub fn push_received<const N: usize>(
     cells: &mut ArrayVec<Cell, N>,
     for_space: &Option<Letter>,
@@ -142,7 +142,7 @@ pub fn push_received<const N: usize>(
     }
 }
 
-/// The sign of a letter of the text: nothing for a space.
+/// The sign of a letter of the text; nothing for the letter `for_space`, which was sent for a space.
 fn text_sign(for_space: &Option<Letter>, letter: Option<Letter>) -> Sign
     ensures { result ≡ text_sign for_space.now letter }
 {
@@ -152,9 +152,10 @@ fn text_sign(for_space: &Option<Letter>, letter: Option<Letter>) -> Sign
     }
 }
 
-/// Appends `chosen` for each of the letters that the machine prints for it, and which wheel takes the printed letter.
+/// Appends the cells with which the internal key is found: `chosen` above, each letter printed for it below, and the
+/// mark of the printed letter.
 ///
-/// The wheels up to wheel `taken` have taken letters.
+/// `taken` is the last wheel that has taken a letter.
 pub fn push_choice<const N: usize>(
     cells: &mut ArrayVec<Cell, N>,
     taken: u8,
@@ -177,7 +178,8 @@ pub fn push_choice<const N: usize>(
     }
 }
 
-/// What the wheels do with a letter if the wheels up to wheel `taken` have taken letters.
+/// The mark of a printed letter: the next wheel after wheel `taken` takes the letter if it has it; otherwise the letter
+/// is struck out. After wheel 6, no letter is needed.
 fn mark_of(taken: u8, letter: Letter) -> Mark
     requires { taken ≤ 6 }
     ensures { result ≡ mark_of taken letter }
@@ -191,7 +193,7 @@ fn mark_of(taken: u8, letter: Letter) -> Mark
     }
 }
 
-/// How many wheels have taken letters after a letter with this mark.
+/// The last wheel that has taken a letter, after a letter with this mark; `taken` is the last one before it.
 fn taken_after(taken: u8, mark: Mark) -> u8
     ensures { result ≡ taken_after taken mark }
 {
@@ -201,7 +203,7 @@ fn taken_after(taken: u8, mark: Mark) -> u8
     }
 }
 
-/// A line of a group: above the line to write on, below it, and the marks under them.
+/// A line of a group: the signs above the line to write on, the signs below it, or the marks under them.
 #[derive(Clone, Copy)]
 pub(crate) enum Line {
     Above,
@@ -209,7 +211,7 @@ pub(crate) enum Line {
     Marks,
 }
 
-/// Writes what a line has for a cell.
+/// Writes the sign or the mark that a line of a group has for a cell.
 pub(crate) fn draw_place<W: Sink>(sink: &mut W, line: Line, cell: &Cell)
     ensures { Draws W.taken W.has_failed sink.old sink.new (place_text line cell.now) }
 {
@@ -231,7 +233,7 @@ fn draw_sign<W: Sink>(sink: &mut W, sign: Sign)
     }
 }
 
-/// Writes what the wheels do with a letter.
+/// Writes the mark of a letter.
 fn draw_mark<W: Sink>(sink: &mut W, mark: Mark)
     ensures { Draws W.taken W.has_failed sink.old sink.new (mark_text mark) }
 {

@@ -2,7 +2,7 @@
 ghost use Rattle.std.specs.Prelude.{◌≡◌, ◌+◌, ◌≤◌, ◌∷◌, length};
 ghost use Rattle.kd_part_sheet.specs.Rows.{pieces};
 
-/// Splits `items` after the first `size` items, or after the last item if there are fewer.
+/// Splits `items` after the first `size` items, or at the end if there are fewer.
 #[tactic(auto, using(crate::proofs::Pieces::first_pieces))]
 pub fn first_piece<T>(items: &[T], size: usize) -> (&[T], &[T])
     requires size { 1 ≤ size }

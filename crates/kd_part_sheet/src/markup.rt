@@ -1,57 +1,59 @@
-//! The texts that are the same in each language: the marks of rows, and what stands between values.
+//! The texts that are the same in both languages: markup, marks, and separators.
 
-/// A place without a letter; letters stand exactly above each other.
+/// The sign for no letter: as wide as a letter, so that letters stand exactly below each other.
 pub const NO_LETTER: &str = "\u{a0}";
 
-/// A lost letter.
+/// The sign for a lost letter.
 pub const LOST_LETTER: &str = "?";
 
-/// A row: its groups; its box, with the number of letters so far; its end.
+/// The markup of a row: the start of its groups; its checkbox, with the number of letters so far; its end.
 pub const ROW: &str = "<div class=row><div class=groups>";
 
 pub const ROW_BOX: &str = "</div>\n<label><input type=checkbox><b>~</b>";
 
 pub const ROW_END: &str = "</label></div>\n";
 
-/// The windows after a row: their letters, and their numbers.
+/// The windows after a row: what stands before their letters, and before their numbers.
 pub const ROW_LETTERS: &str = "<br>";
 
 pub const ROW_NUMBERS: &str = "<br>";
 
-/// A group: what is above the line, and what is below it.
+/// The markup of a group: its start, the end of the signs above the line, and its end.
 pub const GROUP: &str = "<span><b>";
 
 pub const ABOVE_END: &str = "</b>";
 
 pub const GROUP_END: &str = "</span>";
 
-/// Small letters.
+/// The markup of small print: its start and its end.
 pub const SMALL: &str = "<small>";
 
 pub const SMALL_END: &str = "</small>";
 
-/// What a wheel of the Converter does with a letter: it takes the letter, or the letter is struck out.
+/// The marks for a Converter's internal key: the start of a group's marks, their end, and the mark of a letter that is
+/// struck out.
 pub const MARKS: &str = "<i>";
 
 pub const MARKS_END: &str = "</i>";
 
 pub const STRUCK_OUT: &str = "-";
 
-/// A window, in the title of the picture of the windows: the slot, the letter, and its number. A wheel of the Converter.
+/// A window in the title of the picture: the slot, the letter, and its number. On a Converter: the wheel, and the
+/// letter.
 pub const WINDOW_WORDS: &str = "~: ~ ~";
 
 pub const WHEEL_WORDS: &str = "~: ~";
 
-/// A wheel of the Converter in the picture of its wheels, with its number.
+/// A Converter's wheel in the picture, with its number and its letter.
 pub const WHEEL: &str =
     "<text x=\"~\" y=\"16\" font-size=\"18\">~</text>\n<rect class=\"set\" x=\"~\" y=\"24\" width=\"40\" height=\"40\"/>\n<text class=\"bold\" x=\"~\" y=\"53\" font-size=\"26\">~</text>\n";
 
-/// The end of the title, and of the picture.
+/// The end of the picture's title, and of the picture.
 pub const WINDOWS_TITLE_END: &str = ".</title>\n";
 
 pub const WINDOWS_END: &str = "</svg>\n</figure>\n";
 
-/// What stands between values.
+/// The separators of values, letters and numbers.
 pub const COMMA: &str = ", ";
 
 pub const SPACE: &str = " ";
@@ -60,10 +62,10 @@ pub const WIDE_SPACE: &str = "\u{a0}";
 
 pub const TWO_SPACES: &str = "\u{a0}\u{a0}";
 
-/// A ring: its letter, and its number.
+/// A ring: its letter, and the letter's number.
 pub const RING: &str = "~\u{a0}~";
 
-/// The end of the key of the day that a rotor machine has to be on.
+/// The end of the sentence with a rotor machine's key of the day.
 pub const KEY_END: &str = "</b>.";
 
 /// The end of a section, and of a part's sheet.

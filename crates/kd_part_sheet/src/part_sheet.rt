@@ -1,4 +1,4 @@
-//! The sheet on which a part is worked.
+//! The sheet for one part of a message, by which an operator enciphers or deciphers it.
 ghost use Rattle.std.specs.Prelude.{◌≡◌, ◌+◌, ◌≤◌, length};
 ghost use Rattle.kd_state.specs.EngineKey.{IsWindow};
 ghost use Rattle.kd_state.specs.OwnKeys.{sheet_key};
@@ -27,14 +27,15 @@ use kd_pictures::{Language, draw, draw_in};
 use kd_state::{Entry, RotorEntry, SheetDay};
 use kd_tables::{Letter, Model, Sink};
 
-/// What the heads of a part's steps repeat, since sheets of paper come apart.
+/// The values that the head of each step repeats, since sheets of paper come apart.
 #[derive(Clone, Copy)]
 pub struct PartName {
     /// The machine's model.
     pub model: Model,
     /// The day's number.
     pub day: u8,
-    /// The sheet's number: links lead to it. It is the part's number, unless parts with one number have sheets of their own.
+    /// The number of the part's sheet, to which links lead. It is the part's number, unless each part has its own sheet
+    /// though their numbers are equal.
     pub sheet: u8,
     /// The part's number, counted from 1.
     pub part: u8,
@@ -81,14 +82,14 @@ pub fn draw_if<W: Sink>(sink: &mut W, is_there: bool, text: &str)
     }
 }
 
-/// What a received part warns of.
+/// The warnings of a received part.
 #[derive(Clone, Copy)]
 pub struct Warnings {
     /// A letter of the body is lost.
     pub letters_lost: bool,
     /// A letter of one of the two copies of the indicators is lost.
     pub copies_lost: bool,
-    /// The group, or the list letters, aren't the day's.
+    /// The group or the list letters aren't the day's.
     pub wrong_day: bool,
     /// A letter of the group, or a list letter in both copies, is lost.
     pub not_tested: bool,
@@ -121,7 +122,7 @@ fn draw_head<W: Sink>(sink: &mut W, language: Language, sheet: Sheet, name: Part
     );
 }
 
-/// Writes the key of the day that the machine has to be on.
+/// Writes the key of the day, on which the machine has to be.
 fn draw_day_key<W: Sink>(sink: &mut W, language: Language, entry: &Entry)
     ensures { Draws W.taken W.has_failed sink.old sink.new
         (day_key_text language (values_of entry.now)) }
@@ -140,7 +141,7 @@ fn draw_day_key<W: Sink>(sink: &mut W, language: Language, entry: &Entry)
     }
 }
 
-/// Writes reflector, wheels, rings and cables of the day.
+/// Writes the key of a rotor machine's day: reflector, wheels, rings and cables.
 fn draw_rotor_key<W: Sink>(sink: &mut W, language: Language, entry: &RotorEntry)
     ensures { Draws W.taken W.has_failed sink.old sink.new
         (rotor_key_text language (rotor_values entry.now)) }
@@ -160,7 +161,7 @@ fn draw_rotor_key<W: Sink>(sink: &mut W, language: Language, entry: &RotorEntry)
     draw(sink, KEY_END);
 }
 
-/// Writes the step of the key.
+/// Writes the first step, in which the message key or the internal key is found.
 fn draw_key_step<W: Sink>(
     sink: &mut W,
     language: Language,
@@ -181,13 +182,13 @@ fn draw_key_step<W: Sink>(
     draw(sink, sheet.text(language, KEY_STEP_END));
 }
 
-/// A step in which nothing was pressed yet.
+/// The progress at the start of a step, before the first row.
 const BEGINNING: Progress = Progress {
     letters: 0,
     presses: 0,
 };
 
-/// Fills the model, the day, the part and the number of parts into a template.
+/// Fills a template with the model, the day, the part and the number of parts.
 fn fill_name<W: Sink>(sink: &mut W, language: Language, template: &str, name: PartName)
     ensures { Draws W.taken W.has_failed sink.old sink.new
         (filled template.now (name_values name)) }
@@ -205,7 +206,7 @@ fn fill_name<W: Sink>(sink: &mut W, language: Language, template: &str, name: Pa
     );
 }
 
-/// Writes the step of the text.
+/// Writes the second step, in which the text is enciphered or deciphered.
 fn draw_text_step<W: Sink>(
     sink: &mut W,
     language: Language,
@@ -252,7 +253,7 @@ fn draw_text_head<W: Sink>(
     );
 }
 
-/// Writes the rows of the text. The rows that don't fit the first sheet of paper are on a second one.
+/// Writes the rows of the text. Rows that don't fit on the first sheet of paper go onto a second one.
 fn draw_text_rows<W: Sink>(
     sink: &mut W,
     language: Language,
@@ -281,14 +282,14 @@ fn draw_text_rows<W: Sink>(
     );
 }
 
-/// How many letters of a body are on the first sheet of paper.
+/// How many letters of a body fit on the first sheet of paper.
 fn first_sheet(model: Model) -> usize
     ensures { result ≡ first_sheet model }
 {
     if is_converter(model) { 200 } else { 250 }
 }
 
-/// Writes the second sheet of paper, if letters are left.
+/// Writes the rows of the remaining letters onto a second sheet of paper, if there are any.
 fn draw_next_sheet<W: Sink>(
     sink: &mut W,
     language: Language,
@@ -313,7 +314,7 @@ fn draw_next_sheet<W: Sink>(
     }
 }
 
-/// How spaces and signs are meant on a sheet with these texts.
+/// The note on which letters stand for spaces and punctuation.
 pub fn note(language: Language, sheet: Sheet, model: Model) -> &'static str
     ensures { result.now ≡ note language sheet model }
 {

@@ -17,12 +17,12 @@ use kd_state::SheetDay;
 use kd_tables::Letter;
 use std::marker::Model;
 
-/// What the sheet of a part shows.
+/// The windows to set, and the letters to press and to find, on the sheet of a part.
 #[derive(Drop)]
 pub struct PartWork {
-    /// The windows before the letters for the key are pressed: the ground setting, or the external letters.
+    /// The windows before the letters `key` are pressed: the ground setting, or the external letters.
     pub ground: ArrayVec<Letter, 6>,
-    /// The letters that are pressed for the key.
+    /// The letters that are pressed to find the message key or the internal key.
     pub key: ArrayVec<Cell, 12>,
     /// The windows before the text: the message key, or the internal key.
     pub start: ArrayVec<Letter, 6>,
@@ -43,7 +43,7 @@ impl Model for PartWork {
     } };
 }
 
-/// What is pressed and found when `text` is enciphered with `keys`.
+/// The letters that are pressed and found when `text` is enciphered with `keys`.
 pub fn work_of(day: &SheetDay, part: u8, keys: &Keys, text: &[Letter]) -> PartWork
     requires keys { AreKeys day.now keys.now }
     requires suits { IsKeysAnswer day.now part keys.now (Ok tt) }
@@ -57,7 +57,7 @@ pub fn work_of(day: &SheetDay, part: u8, keys: &Keys, text: &[Letter]) -> PartWo
     }
 }
 
-/// What is pressed and found on a rotor machine.
+/// The letters that are pressed and found on a rotor machine.
 fn rotor_work(day: &SheetDay, keys: &RotorKeys, text: &[Letter]) -> PartWork
     requires keys { AreKeys day.now (Keys.Rotor keys.now) }
     requires few { length text.now ≤ 245 }
@@ -82,7 +82,7 @@ fn rotor_work(day: &SheetDay, keys: &RotorKeys, text: &[Letter]) -> PartWork
     }
 }
 
-/// What is enciphered and printed on a Converter.
+/// The letters that are enciphered and printed on a Converter.
 fn pin_work(day: &SheetDay, keys: &PinKeys, text: &[Letter]) -> PartWork
     requires keys { AreKeys day.now (Keys.Pin keys.now) }
     requires window { IsWindow (sheet_key day.now) keys.now.external }
@@ -97,7 +97,7 @@ fn pin_work(day: &SheetDay, keys: &PinKeys, text: &[Letter]) -> PartWork
     pin_work_from(day, keys, internal.as_slice(), text)
 }
 
-/// What is enciphered and printed on a Converter with the internal key `internal`.
+/// The letters that are enciphered and printed on a Converter with the internal key `internal`.
 fn pin_work_from(day: &SheetDay, keys: &PinKeys, internal: &[Letter], text: &[Letter]) -> PartWork
     requires keys { AreKeys day.now (Keys.Pin keys.now) }
     requires window { IsWindow (sheet_key day.now) keys.now.external }
@@ -125,7 +125,7 @@ fn pin_work_from(day: &SheetDay, keys: &PinKeys, internal: &[Letter], text: &[Le
     }
 }
 
-/// The letters as a list of their own.
+/// Copies the letters into a vector.
 pub fn letters_of(letters: &[Letter]) -> ArrayVec<Letter, 6>
     requires { length letters.now ≤ 6 }
     ensures { result.items ≡ letters.now }

@@ -1,4 +1,5 @@
-//! The rows of a step: ten groups of five letters a row; at a row's end the letters so far, and after presses the windows.
+//! The rows of a step: ten groups of five letters; then the number of letters so far and, if the row has pressed
+//! letters, the windows after them.
 ghost use Rattle.std.specs.Prelude.{◌≡◌, ◌+◌, ◌≤◌, ◌∷◌, flat_map, length};
 ghost use Rattle.kd_state.specs.EngineKey.{IsWindow};
 ghost use Rattle.kd_state.specs.OwnKeys.{sheet_key};
@@ -21,14 +22,14 @@ use kd_pictures::{Language, draw};
 use kd_state::SheetDay;
 use kd_tables::{Letter, Sink};
 
-/// How far a step has come: the letters in the rows so far, and how many of them were pressed.
+/// The progress of a step: how many letters its rows so far have, and how many of them were pressed.
 #[derive(Clone, Copy)]
 pub(crate) struct Progress {
     pub(crate) letters: usize,
     pub(crate) presses: usize,
 }
 
-/// Writes the rows of `cells`, after rows with this progress. At the step's start, the machine shows `start`.
+/// Writes `cells` in rows that follow rows with this progress. At the start of the step, the machine shows `start`.
 pub(crate) fn draw_rows<W: Sink>(
     sink: &mut W,
     language: Language,
@@ -51,7 +52,7 @@ pub(crate) fn draw_rows<W: Sink>(
     }
 }
 
-/// The progress after another row.
+/// The progress of a step after one more row.
 pub(crate) fn progress_after(progress: Progress, row: &[Cell]) -> Progress
     requires presses { progress.presses ≤ progress.letters }
     requires few { progress.letters + length row.now ≤ 520 }
@@ -72,7 +73,7 @@ fn pressed_count(row: &[Cell]) -> usize
     row.iter().filter(|cell| cell.is_pressed).count()
 }
 
-/// Writes a row, after which the step has this progress.
+/// Writes a row. `progress` includes this row.
 fn draw_row<W: Sink>(
     sink: &mut W,
     language: Language,
@@ -99,7 +100,7 @@ fn draw_row<W: Sink>(
     draw(sink, ROW_END);
 }
 
-/// Writes the windows after `presses` letters, unless the row has no letter that is pressed.
+/// Writes the windows after `presses` letters were pressed; nothing if no letter of the row is pressed.
 fn draw_windows_after<W: Sink>(
     sink: &mut W,
     day: &SheetDay,
@@ -120,7 +121,7 @@ fn draw_windows_after<W: Sink>(
     }
 }
 
-/// Writes the letters that the machine shows, on a rotor machine with their numbers.
+/// Writes the letters that the machine shows; on a rotor machine also their numbers.
 fn draw_shown_after<W: Sink>(sink: &mut W, is_converter: bool, letters: &[Letter])
     ensures { Draws W.taken W.has_failed sink.old sink.new (shown_after is_converter letters.now) }
 {
@@ -144,7 +145,7 @@ fn draw_groups<W: Sink>(sink: &mut W, cells: &[Cell])
     }
 }
 
-/// Writes a group: what stands above the line, what stands below it, and the marks.
+/// Writes a group: the signs above the line, the signs below it, and the marks.
 fn draw_group<W: Sink>(sink: &mut W, group: &[Cell])
     ensures { Draws W.taken W.has_failed sink.old sink.new (group_text group.now) }
 {
@@ -156,7 +157,8 @@ fn draw_group<W: Sink>(sink: &mut W, group: &[Cell])
     draw(sink, GROUP_END);
 }
 
-/// Whether the group came with the form and isn't pressed: its first letter isn't.
+/// Whether the group came with the form and isn't pressed. Its first letter tells, as all letters of a group are alike
+/// in this.
 fn is_skipped(group: &[Cell]) -> bool
     ensures { result ≡ is_skipped group.now }
 {
@@ -166,7 +168,7 @@ fn is_skipped(group: &[Cell]) -> bool
     }
 }
 
-/// Writes what stands above the line, small if it isn't pressed.
+/// Writes the signs above the line, in small print if they aren't to be pressed.
 fn draw_above<W: Sink>(sink: &mut W, is_small: bool, group: &[Cell])
     ensures { Draws W.taken W.has_failed sink.old sink.new (above_text is_small group.now) }
 {
@@ -179,7 +181,7 @@ fn draw_above<W: Sink>(sink: &mut W, is_small: bool, group: &[Cell])
     }
 }
 
-/// Whether a sign stands below the line.
+/// Whether the group has a sign below the line.
 fn has_below(group: &[Cell]) -> bool
     ensures { result ≡ has_below group.now }
 {
@@ -189,7 +191,7 @@ fn has_below(group: &[Cell]) -> bool
     }
 }
 
-/// Whether the group has marks: its first cell has one.
+/// Whether the group has marks. Its first cell tells, as all cells have marks, or none.
 fn has_marks(group: &[Cell]) -> bool
     ensures { result ≡ has_marks group.now }
 {
@@ -199,7 +201,7 @@ fn has_marks(group: &[Cell]) -> bool
     }
 }
 
-/// Writes a line of a group between `before` and `after`, if the group has it.
+/// Writes a line of a group between `before` and `after`; nothing if the group doesn't have the line.
 fn draw_line_if<W: Sink>(
     sink: &mut W,
     is_there: bool,

@@ -1,4 +1,4 @@
-//! Which sheet of a part a text is for.
+//! The four sheets of a part, and the texts for each.
 ghost use Rattle.std.specs.Prelude.{◌≡◌};
 ghost use Rattle.kd_pictures.specs.Language.{in_language};
 ghost use Rattle.kd_part_sheet.specs.Sheet.{for_sheet};
@@ -6,7 +6,7 @@ ghost use Rattle.kd_part_sheet.specs.Sheet.{for_sheet};
 use crate::texts::SheetText;
 use kd_pictures::Language;
 
-/// The sheet of a part that is sent or received, on a rotor machine or on a Converter.
+/// The sheet of a part: for sending or receiving it, on a rotor machine or on a Converter.
 #[derive(Clone, Copy)]
 pub enum Sheet {
     RotorSend,
@@ -16,7 +16,7 @@ pub enum Sheet {
 }
 
 impl Sheet {
-    /// The text on this sheet, in this language.
+    /// The version of `text` for this sheet, in `language`.
     pub fn text(self, language: Language, text: SheetText) -> &'static str
         ensures { result.now ≡ for_sheet self
             (in_language language text.entry.0.0.0.now text.entry.0.0.1.now)

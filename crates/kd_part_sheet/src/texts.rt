@@ -3,10 +3,11 @@
 use crate::markup::SECTION_END;
 use kd_pictures::texts::Text;
 
-/// A text of a part's sheet: if the part is sent, and if it is received; each on a rotor machine, and on a Converter.
+/// A text of a part's sheet in four versions: for a sent part on a rotor machine and on a Converter; for a received
+/// part on both.
 pub type SheetText = ((Text, Text), (Text, Text));
 
-/// The head: the part, the model, the day, the part, and the number of parts.
+/// The head of the sheet. The values are the sheet's number, the model, the day, the part, and the number of parts.
 pub const HEAD: SheetText = ((SEND_HEAD, SEND_HEAD), (RECEIVE_HEAD, RECEIVE_HEAD));
 
 const SEND_HEAD: Text = (
@@ -19,7 +20,7 @@ const RECEIVE_HEAD: Text = (
     "<article id=part-~>\n<header>\n<h1>~, Tag ~: Entschlüsseln <small>Teil ~ von ~</small></h1>\n<p class=fields><span>Maschine</span><span>Datum</span><span>Ausgeführt von</span></p>\n",
 );
 
-/// What the marks of a row mean.
+/// The explanation of a row's signs.
 pub const LEGEND: SheetText = (
     (
         (
@@ -43,7 +44,8 @@ pub const LEGEND: SheetText = (
     ),
 );
 
-/// The step of the key, up to the picture of the windows: the model, the day, the part, and the number of parts.
+/// The first step, in which the key is found, up to the picture of the windows. The values are the model, the day, the
+/// part, and the number of parts.
 pub const KEY_STEP: SheetText = (
     (
         (
@@ -67,7 +69,7 @@ pub const KEY_STEP: SheetText = (
     ),
 );
 
-/// What to press for the key.
+/// What to press to find the key.
 pub const KEY_WORDS: SheetText = (
     (
         (
@@ -90,7 +92,7 @@ const CHOICE_WORDS: Text = (
     "<label><input type=checkbox> den gewählten Buchstaben zwölfmal verschlüsseln</label>\n",
 );
 
-/// The end of the step of the key.
+/// The end of the first step.
 pub const KEY_STEP_END: SheetText = ((ROTOR_KEY_END, PIN_KEY_END), (ROTOR_KEY_END, PIN_KEY_END));
 
 const ROTOR_KEY_END: Text = (SECTION_END, SECTION_END);
@@ -100,7 +102,8 @@ const PIN_KEY_END: Text = (
     "<p>Von links: Jedes Rad nimmt den nächsten Buchstaben, der auf ihm steht. Mit - Bezeichnete streichen.</p>\n</section>\n",
 );
 
-/// The step of the text: the number of letters, the model, the day, the part, and the number of parts.
+/// The second step, for the text. The values are the number of letters, the model, the day, the part, and the number of
+/// parts.
 pub const TEXT_STEP: SheetText = (
     (
         (
@@ -124,7 +127,7 @@ pub const TEXT_STEP: SheetText = (
     ),
 );
 
-/// The step of the text on a second sheet: the model, the day, the part, and the number of parts.
+/// The second step on a second sheet of paper. The values are the model, the day, the part, and the number of parts.
 pub const NEXT_STEP: SheetText = (
     (
         (
@@ -164,7 +167,7 @@ const PIN_LOST_LETTER: Text = (
     "<br>? ist ein verlorener Buchstabe: dafür einen beliebigen eingeben und ? schreiben.",
 );
 
-/// Two warnings: the form may be of another day; letters by which the day is known are lost.
+/// Two warnings: that the form is of another day or network; and that this can't be tested, as letters are lost.
 pub const WRONG_DAY: SheetText = (
     (ROTOR_WRONG_DAY, PIN_WRONG_DAY),
     (ROTOR_WRONG_DAY, PIN_WRONG_DAY),
@@ -195,7 +198,7 @@ const PIN_NOT_TESTED: Text = (
     "<p>Der Tag ist nicht geprüft: Ein Listenbuchstabe fehlt beide Male.</p>\n",
 );
 
-/// How spaces and signs of a text are meant; but on the M4, `NAVAL_NOTE`.
+/// The note on which letters stand for spaces and punctuation, except on the M4, which has `NAVAL_NOTE`.
 pub const NOTE: SheetText = ((ENIGMA_NOTE, SENT_NOTE), (ENIGMA_NOTE, RECEIVED_NOTE));
 
 const ENIGMA_NOTE: Text = (
@@ -218,13 +221,14 @@ pub const NAVAL_NOTE: Text = (
     "<p class=note>Zwischenräume werden nicht gesendet. X steht oft für einen Punkt, Y für ein Komma. Die letzte Gruppe kann kürzer sein.</p>\n",
 );
 
-/// A warning: one copy of a Converter's indicators has letters that the other one lost.
+/// The warning that a copy of a Converter's indicators has letters that the other one lost.
 pub const COPIES_LOST: Text = (
     "<p>The first and the last indicators complete each other.</p>\n",
     "<p>Die ersten und die letzten Kennbuchstaben ergänzen einander.</p>\n",
 );
 
-/// The key of the day that a rotor machine has to be on: the reflector; then wheels, rings and cables.
+/// The key of the day, on which a rotor machine has to be: its reflector; then the words before the wheels, rings and
+/// cables.
 pub const REFLECTOR: Text = (
     "<p>The machine has to be on the key of the day. Reflector: <b>~</b>. Wheels: <b>",
     "<p>Die Maschine muss auf dem Tagesschlüssel stehen. Umkehrwalze: <b>~</b>. Walzenlage: <b>",
@@ -236,13 +240,13 @@ pub const CABLES: Text = ("</b>. Cables: <b>", "</b>. Steckerverbindungen: <b>")
 
 pub const NO_CABLES: Text = ("none", "keine");
 
-/// The key of the day that a Converter has to be on: the two letters of the key list.
+/// The key of the day, on which a Converter has to be: the two letters of the key list.
 pub const LIST: Text = (
     "<p>Pins and lugs have to be the day’s. List: <b>~~</b>.",
     "<p>Stifte und Reiter müssen auf dem Tagesschlüssel stehen. Liste: <b>~~</b>.",
 );
 
-/// The picture of the windows of a rotor machine: its title, and a window with its slot.
+/// The picture of a rotor machine's windows: the beginning of its title, and a window with its slot.
 pub const WINDOWS: Text = (
     "<figure class=shown><svg role=\"img\" viewBox=\"0 0 600 66\"><title>Windows to set, from the left: ",
     "<figure class=shown><svg role=\"img\" viewBox=\"0 0 600 66\"><title>Fenster, von links einzustellen: ",
@@ -253,7 +257,7 @@ pub const WINDOW: Text = (
     "<text class=\"label\" x=\"~\" y=\"16\" font-size=\"18\">Platz ~</text>\n<rect class=\"set\" x=\"~\" y=\"24\" width=\"40\" height=\"40\"/>\n<text class=\"bold\" x=\"~\" y=\"53\" font-size=\"26\">~</text>\n<text class=\"bold\" x=\"~\" y=\"51\" font-size=\"20\">~</text>\n",
 );
 
-/// The title of the picture of a Converter's wheels.
+/// The beginning of the title of the picture of a Converter's wheels.
 pub const WHEELS: Text = (
     "<figure class=shown><svg role=\"img\" viewBox=\"0 0 600 66\"><title>Wheels to set, from the left: ",
     "<figure class=shown><svg role=\"img\" viewBox=\"0 0 600 66\"><title>Räder, von links einzustellen: ",

@@ -1,4 +1,4 @@
-//! The picture of the windows, or of a Converter's wheels, that the hand sets.
+//! The picture of the windows, or of a Converter's wheels, that the operator has to set.
 ghost use Rattle.std.specs.Prelude.{◌≡◌, ◌+◌, ◌≤◌, length};
 ghost use Rattle.kd_pictures.specs.Drawing.{Draws};
 ghost use Rattle.kd_part_sheet.specs.Windows.{window_item, window_items, window_words, windows_text, windows_title, words_after};
@@ -9,7 +9,7 @@ use kd_pictures::template::{Value, fill, fill_in};
 use kd_pictures::{Language, draw};
 use kd_tables::{Letter, Sink};
 
-/// Writes the picture of windows, or of a Converter's wheels, that show `letters`.
+/// Writes the picture of windows, or of a Converter's wheels, with the letters `letters`.
 pub(crate) fn draw_windows<W: Sink>(
     sink: &mut W,
     language: Language,
@@ -38,7 +38,7 @@ fn windows_title(language: Language, is_converter: bool) -> &'static str
     }
 }
 
-/// Writes windows in words, from number `number` on, the first after `first`.
+/// Writes the words for windows from number `number` on, with `first` before the first and commas before the others.
 fn draw_all_words<W: Sink>(
     sink: &mut W,
     language: Language,
@@ -86,7 +86,7 @@ fn draw_words<W: Sink>(
     }
 }
 
-/// Writes the windows from number `number` on.
+/// Writes the windows of the picture from number `number` on.
 fn draw_items<W: Sink>(
     sink: &mut W,
     language: Language,

@@ -1,4 +1,4 @@
-//! Lists of letters, wheels and cables, with something between each two.
+//! Lists of letters, wheels and cables, with separators.
 ghost use Rattle.std.specs.Prelude.{◌++◌};
 ghost use Rattle.kd_pictures.specs.Drawing.{Draws};
 ghost use Rattle.kd_part_sheet.specs.Words.{cables_text, letter_words, pairs_after, rings_after, shown_text, wheels_after};
@@ -10,7 +10,7 @@ use kd_pictures::{Language, draw, draw_in};
 use kd_state::SheetWheel;
 use kd_tables::{Letter, Sink};
 
-/// Writes letters, or their numbers: `first` before the first of them, and `separator` before each other.
+/// Writes letters, or their numbers, with `first` before the first and `separator` before the others.
 pub(crate) fn draw_shown<W: Sink>(
     sink: &mut W,
     are_numbers: bool,
@@ -38,7 +38,7 @@ fn draw_one<W: Sink>(sink: &mut W, is_number: bool, letter: Letter)
     }
 }
 
-/// Writes the names of wheels, the first after `first`.
+/// Writes the names of wheels, with `first` before the first and spaces before the others.
 pub(crate) fn draw_wheels<W: Sink>(sink: &mut W, first: &str, wheels: &[SheetWheel])
     ensures { Draws W.taken W.has_failed sink.old sink.new (wheels_after first.now wheels.now) }
 {
@@ -49,7 +49,7 @@ pub(crate) fn draw_wheels<W: Sink>(sink: &mut W, first: &str, wheels: &[SheetWhe
     }
 }
 
-/// Writes the rings of wheels, the first after `first`.
+/// Writes the letters and numbers of rings, with `first` before the first and commas before the others.
 pub(crate) fn draw_rings<W: Sink>(
     sink: &mut W,
     language: Language,
@@ -70,7 +70,7 @@ pub(crate) fn draw_rings<W: Sink>(
     }
 }
 
-/// Writes cables, or that there are none.
+/// Writes the day's cables; if there are none, the word for none.
 pub(crate) fn draw_cables<W: Sink>(sink: &mut W, language: Language, pairs: &[(Letter, Letter)])
     ensures { Draws W.taken W.has_failed sink.old sink.new (cables_text language pairs.now) }
 {
@@ -81,7 +81,7 @@ pub(crate) fn draw_cables<W: Sink>(sink: &mut W, language: Language, pairs: &[(L
     }
 }
 
-/// Writes pairs of letters, the first after `first`.
+/// Writes pairs of letters, with `first` before the first and spaces before the others.
 fn draw_pairs<W: Sink>(sink: &mut W, first: &str, pairs: &[(Letter, Letter)])
     ensures { Draws W.taken W.has_failed sink.old sink.new (pairs_after first.now pairs.now) }
 {

@@ -1,4 +1,5 @@
--- The item of a list of which the words for a refused value speak: the first that the desk's reader refuses.
+-- The number of the list item that a slip's words are about: the first item that the desk's reader refuses. A slip says
+-- why a value is refused.
 -- Test: tests/cases/curator-look.toml
 use Rattle.std.specs.Prelude.{◌≡◌, ℕ, ◌==◌, not, Bool, true, List, length, find, Option, Some, None, is_some}
 use Rattle.std.specs.Prelude.{if◌then◌else◌}
@@ -17,36 +18,36 @@ use Rattle.kd_sheet.specs.declared.key.Key.TheVariants as keys
 use Rattle.kd_slips.specs.declared.slip.Slip.{Slip}
 use Rattle.kd_slips.specs.declared.slip.Slip.TheVariants as slips
 
--- The slip has this fault, and its words speak of this item; or memory ran out.
+-- The slip has this fault, and its words are about this item; or the slip is that memory ran out.
 abbrev pub HasFault : SheetFault → Option ℕ → Slip → Type 0
 HasFault fault item (slips.Fault found told words) = (found ≡ fault) × (told ≡ item)
 HasFault fault item slips.NoMemory = Unit {0}
 
--- The words of the slip speak of this item; or memory ran out.
+-- The slip's words are about this item; or the slip is that memory ran out.
 abbrev pub IsOfItem : Option ℕ → Slip → Type 0
 IsOfItem item (slips.Fault found told words) = told ≡ item
 IsOfItem item slips.NoMemory = Unit {0}
 
--- the number of a row in a fault, if it has one
+-- the row number in a fault, if the fault has one
 abbrev pub row_in : SheetFault → Option ℕ
 row_in (BadRow number) = Some number
 row_in fault = None
 
--- The words of the slip speak of the item whose number is in the slip's fault; or memory ran out.
+-- The slip's words are about the item whose number is in the slip's fault; or the slip is that memory ran out.
 abbrev pub IsOfItsRow : Slip → Type 0
 IsOfItsRow (slips.Fault found told words) = told ≡ row_in found
 IsOfItsRow slips.NoMemory = Unit {0}
 
--- the fault at a key whose value has another type, or isn't there
+-- the fault at `key` if its value is of the wrong type, or missing
 abbrev pub type_fault : Key → Option Data → SheetFault
 type_fault key value = if is_some value then BadValue key else Missing key
 
--- the number of the first of the items that isn't read; `reads` says of a number and its item whether the item is read
+-- the number of the first item that isn't read; `reads` says whether the item with a number is read
 abbrev pub first_refused : (ℕ → Data → Bool) → List Data → Option ℕ
 first_refused reads items =
     find (λ number. not (option_map_or (reads number) (numbered_item items number) true)) (range_with_len 1 (length items))
 
--- whether the desk reads the item as the pins of this wheel
+-- whether the desk can read the item as the pins of this wheel
 unfoldable pub reads_pins : ℕ → Data → Bool
 reads_pins wheel item = is_some (from_text (pins_of_text (ring_of wheel)) item)
 

@@ -57,7 +57,7 @@ fn check_new(alloc: Global, items: &[Value], place: usize, text: &str) -> Result
     Ok(())
 }
 
-/// Refuses the items of a list of cables: each has `count` letters, or at most two if `count` is `None`.
+/// Checks the items of a list of cables: each must have `count` letters, or at most two if `count` is `None`.
 fn check_cables(
     alloc: Global,
     key: Key,
@@ -74,7 +74,7 @@ fn check_cables(
     Ok(())
 }
 
-/// Refuses a cable's text, unless it has `count` capital letters, or at most two if `count` is `None`.
+/// Checks the text of a cable: it must have `count` capital letters, or at most two if `count` is `None`.
 fn check_ends(
     alloc: Global,
     text: &str,
@@ -101,7 +101,7 @@ fn check_ends(
     )
 }
 
-/// Refuses the cables of a machine file, at the key `cables`.
+/// Checks the cables of a machine file, at the key `cables`.
 pub fn check_machine_cables(alloc: Global, table: &Table) -> Result<(), Slip> {
     match find_at(table, Key::Cables) {
         Some(value) => check_cables(
@@ -114,7 +114,7 @@ pub fn check_machine_cables(alloc: Global, table: &Table) -> Result<(), Slip> {
     }
 }
 
-/// Refuses the pairs of a day, at the key `plugs`.
+/// Checks the pairs of a day, at the key `plugs`.
 pub fn check_pairs(alloc: Global, table: &Table) -> Result<(), Slip> {
     check_cables(
         alloc,
@@ -124,7 +124,7 @@ pub fn check_pairs(alloc: Global, table: &Table) -> Result<(), Slip> {
     )
 }
 
-/// Refuses the groups of a day, at the key `groups`.
+/// Checks the groups of a day, at the key `groups`.
 pub fn check_groups(alloc: Global, table: &Table) -> Result<(), Slip> {
     let Some(value) = find_at(table, Key::Groups) else {
         return Ok(());

@@ -21,7 +21,7 @@ pub fn in_capitals(alloc: Global, text: &str) -> Result<String, AllocError> {
     Ok(capitals)
 }
 
-/// Refuses a text with a byte that is no capital letter.
+/// Checks that each byte of `text` is a capital letter.
 pub fn check_capitals(alloc: Global, text: &str, fault: SheetFault) -> Result<(), Slip>
     ensures { IfErr result (HasFault fault None) }
 {
@@ -50,7 +50,7 @@ pub fn check_capitals(alloc: Global, text: &str, fault: SheetFault) -> Result<()
     )
 }
 
-/// Refuses the text at `key`, unless it has exactly `count` capital letters; `of` says for what they are.
+/// Checks that the text at `key` has exactly `count` capital letters. `of` names what they stand for.
 pub fn check_letters(
     alloc: Global,
     table: &Table,
@@ -62,7 +62,7 @@ pub fn check_letters(
     check_text(alloc, text, SheetFault::BadValue(key), count, of)
 }
 
-/// Refuses `text`, unless it has exactly `count` capital letters; `of` says for what they are.
+/// Checks that `text` has exactly `count` capital letters. `of` names what they stand for.
 pub fn check_text(
     alloc: Global,
     text: &str,
@@ -101,7 +101,7 @@ pub fn wheel_letters(alloc: Global, wheel: u8) -> Result<String, AllocError> {
     Ok(letters)
 }
 
-/// Refuses a letter that isn't on pin wheel `wheel`.
+/// Checks that `letter` is on pin wheel `wheel`.
 pub fn check_on_wheel(
     alloc: Global,
     wheel: u8,
@@ -124,7 +124,7 @@ pub fn check_on_wheel(
     )
 }
 
-/// Refuses the text at `key`, unless it has a letter for each pin wheel, and the letter is on its wheel.
+/// Checks that the text at `key` has a letter for each pin wheel, and that each is on its wheel.
 pub fn check_shown(alloc: Global, table: &Table, key: Key) -> Result<(), Slip> {
     let text = text_at(alloc, table, key)?;
     let fault = SheetFault::BadValue(key);

@@ -12,7 +12,7 @@ use kd_tables::{Model, Reflector, Wheel, allowed, in_box};
 use std::alloc::{AllocError, Global};
 use toml::{Table, Value};
 
-/// The model's name, with its article.
+/// The model's name, with an article before it.
 pub fn model_name(model: Model) -> &'static str {
     match model {
         Model::EnigmaI => "an Enigma I",
@@ -51,7 +51,7 @@ fn reflector_words(model: Model) -> &'static str {
     }
 }
 
-/// Refuses `name`, which is `right` but for capital and small letters.
+/// Refuses `name`, which differs from `right` only in capital and small letters.
 fn refuse_case<T>(alloc: Global, fault: SheetFault, name: &str, right: &str) -> Result<T, Slip>
     ensures refused { IsErr result }
     ensures slip { IfErr result (HasFault fault None) }
@@ -62,7 +62,7 @@ fn refuse_case<T>(alloc: Global, fault: SheetFault, name: &str, right: &str) -> 
     )
 }
 
-/// The model with this name, if capital and small letters don't count.
+/// The model with this name, whether in capital or small letters.
 fn near_model(name: &str) -> Option<Model> {
     for model in [Model::EnigmaI, Model::M3, Model::M4, Model::M209] {
         if model.text().as_str().eq_ignore_ascii_case(name) {
@@ -72,7 +72,7 @@ fn near_model(name: &str) -> Option<Model> {
     None
 }
 
-/// The model's reflector with this name, if capital and small letters don't count.
+/// The model's reflector with this name, whether in capital or small letters.
 fn near_reflector(model: Model, name: &str) -> Option<Reflector> {
     for reflector in model.reflectors() {
         if reflector.text().as_str().eq_ignore_ascii_case(name) {
@@ -82,7 +82,7 @@ fn near_reflector(model: Model, name: &str) -> Option<Reflector> {
     None
 }
 
-/// The wheel with this name, if capital and small letters don't count.
+/// The wheel with this name, whether in capital or small letters.
 fn near_wheel(name: &str) -> Option<Wheel> {
     for wheel in Model::M4.wheels() {
         if wheel.text().as_str().eq_ignore_ascii_case(name) {
@@ -92,7 +92,7 @@ fn near_wheel(name: &str) -> Option<Wheel> {
     None
 }
 
-/// Refuses a text that names no model.
+/// Refuses a name that no model has.
 fn unknown_model(alloc: Global, name: &str) -> Result<Model, Slip>
     ensures refused { IsErr result }
     ensures slip { IfErr result (HasFault UnknownModel None) }
@@ -128,7 +128,7 @@ fn has_reflector(model: Model, name: &str) -> bool {
     }
 }
 
-/// Refuses the text at the key `reflector`, unless it names one of the model's reflectors.
+/// Checks that the text at the key `reflector` names one of the model's reflectors.
 pub fn check_reflector(alloc: Global, table: &Table, model: Model) -> Result<(), Slip> {
     let name = text_at(alloc, table, Key::Reflector)?;
     if has_reflector(model, name) {
@@ -150,7 +150,7 @@ pub fn check_reflector(alloc: Global, table: &Table, model: Model) -> Result<(),
     )
 }
 
-/// Refuses a text that names no wheel.
+/// Refuses a name that no wheel has.
 fn unknown_wheel(alloc: Global, name: &str, key: Key, model: Model) -> Result<Wheel, Slip>
     ensures refused { IsErr result }
     ensures slip { IfErr result (HasFault (BadValue key) None) }
@@ -171,7 +171,7 @@ fn unknown_wheel(alloc: Global, name: &str, key: Key, model: Model) -> Result<Wh
     )
 }
 
-/// Refuses a wheel that the model doesn't allow in slot `slot`.
+/// Checks that the model allows this wheel in slot `slot`.
 fn check_allowed(alloc: Global, model: Model, slot: u8, wheel: Wheel) -> Result<(), Slip>
     ensures { IfErr result (HasFault WheelNotAllowed None) }
 {
@@ -201,7 +201,7 @@ fn check_allowed(alloc: Global, model: Model, slot: u8, wheel: Wheel) -> Result<
     )
 }
 
-/// Refuses the wheel named `name` in slot `slot`, if an earlier slot has it, too.
+/// Checks that no slot before `slot` has the wheel named `name`, too.
 fn check_first(alloc: Global, items: &[Value], slot: u8, name: &str) -> Result<(), Slip>
     ensures { IfErr result (HasFault WheelTwice None) }
 {
@@ -220,7 +220,7 @@ fn check_first(alloc: Global, items: &[Value], slot: u8, name: &str) -> Result<(
     Ok(())
 }
 
-/// Refuses what the list `items` at `key` says of slot `slot`, where the item `name` stands.
+/// Checks the item `name` for slot `slot` in the list `items` at `key`.
 fn check_wheel(
     alloc: Global,
     items: &[Value],
@@ -240,7 +240,7 @@ fn check_wheel(
     check_first(alloc, items, slot, name)
 }
 
-/// Refuses the list at `key`, unless it has a wheel for each slot of the model.
+/// Checks that the list at `key` has a valid wheel for each slot of the model.
 pub fn check_wheels(alloc: Global, table: &Table, key: Key, model: Model) -> Result<(), Slip> {
     let items = items_at(alloc, table, key)?;
     check_count(alloc, key, items.len(), usize::from(model.slots()), "slots")?;

@@ -20,7 +20,7 @@ pub fn number_at(alloc: Global, table: &Table, key: Key, last: u8) -> Result<u8,
     )
 }
 
-/// The whole number from 1 to `last` that `value` is, or a slip.
+/// `value` as a whole number from 1 to `last`, or a slip.
 pub fn number_of(alloc: Global, value: &Value, fault: SheetFault, last: u8) -> Result<u8, Slip>
     ensures value { IfOk result (λ number. number_up_to last (view value.now) ≡ Some number) }
     ensures refused { OnErr result (number_up_to last (view value.now) ≡ None) }
@@ -51,7 +51,7 @@ pub fn number_of(alloc: Global, value: &Value, fault: SheetFault, last: u8) -> R
     }
 }
 
-/// Refuses the value at `key`, unless it is a whole number from 1 to `last`.
+/// Checks that the value at `key` is a whole number from 1 to `last`.
 pub fn check_number(alloc: Global, table: &Table, key: Key, last: u8) -> Result<(), Slip> {
     number_at(alloc, table, key, last)?;
     Ok(())

@@ -1,4 +1,4 @@
-//! Refuses pins, bars and rows that a Converter M-209 can't have.
+//! Refuses pins, bars and rows that aren't those of a Converter M-209.
 ghost use Rattle.std.specs.Prelude.{◌≡◌, ◌≤◌, ℕ, length, map, Err, IfErr, IsErr, IsOk, None, OnOk, Some};
 ghost use Rattle.toml.specs.View.{table_view, view};
 ghost use Rattle.kd_slips.specs.Items.{HasFault, IsOfItem, IsOfItsRow, first_refused, reads_pins, refused_pins};
@@ -18,7 +18,8 @@ use toml::{Table, Value};
 /// The number of bars of the drum.
 const BARS: usize = 27;
 
-/// Gives a slip the number of its item; without a slip, the desk's reader has refused the item for another reason.
+/// Adds the item's number to the slip in `checked`. If there is no slip, makes one with general words, as the desk
+/// refuses the item anyway.
 fn at_item(alloc: Global, checked: Result<(), Slip>, item: usize) -> Result<(), Slip>
     ensures refused { IsErr result }
     ensures slip { IfErr result (IsOfItem (Some item)) }
@@ -34,7 +35,7 @@ fn at_item(alloc: Global, checked: Result<(), Slip>, item: usize) -> Result<(), 
     }
 }
 
-/// Refuses the pins of pin wheel `wheel` that `text` names, unless each letter is on the wheel, and none comes twice.
+/// Checks that the pins in `text` are on pin wheel `wheel`, each at most once.
 fn check_wheel_pins(alloc: Global, wheel: u8, text: &str) -> Result<(), Slip>
     ensures { IfErr result (HasFault (BadValue keys.Pins) None) }
 {
@@ -59,7 +60,7 @@ fn check_wheel_pins(alloc: Global, wheel: u8, text: &str) -> Result<(), Slip>
     Ok(())
 }
 
-/// Whether the desk reads `item` as the pins of pin wheel `wheel`.
+/// Whether the desk can read `item` as the pins of pin wheel `wheel`.
 #[tactic(auto, unfolding(crate::specs::Items::reads_pins))]
 fn reads_pins(wheel: u8, item: &Value) -> bool
     requires first { 1 ≤ wheel }
@@ -80,14 +81,14 @@ fn reads_pins(wheel: u8, item: &Value) -> bool
     }
 }
 
-/// Why the desk refuses `item` as the pins of pin wheel `wheel`.
+/// Explains why the desk can't read `item` as the pins of pin wheel `wheel`.
 fn refuse_pins(alloc: Global, wheel: u8, item: &Value) -> Result<(), Slip> {
     let number = usize::from(wheel);
     let text = item_text(alloc, item, number, SheetFault::BadValue(Key::Pins))?;
     check_wheel_pins(alloc, wheel, text)
 }
 
-/// Refuses the first of the items that the desk doesn't read as the pins of its wheel.
+/// Refuses the first item that the desk can't read as the pins of its wheel.
 fn check_pin_items(alloc: Global, items: &[Value]) -> Result<(), Slip>
     requires { length items.now ≤ 6 }
     ensures read { OnOk result (first_refused reads_pins (map view items.now) ≡ None) }
@@ -102,7 +103,7 @@ fn check_pin_items(alloc: Global, items: &[Value]) -> Result<(), Slip>
     Ok(())
 }
 
-/// Refuses the pins at the key `pins`. The words speak of the first wheel whose pins the desk refuses.
+/// Checks the pins at the key `pins`. The words are about the first wheel whose pins the desk refuses.
 #[tactic(auto, unfolding(crate::specs::Items::refused_pins))]
 pub fn check_pins(alloc: Global, table: &Table) -> Result<(), Slip>
     ensures read { OnOk result (refused_pins (table_view table.now) ≡ None) }
@@ -119,7 +120,7 @@ fn numbered_item(table: &Table, key: Key, number: u8) -> Option<&Value> {
     items.as_slice().get(usize::from(number).checked_sub(1)?)
 }
 
-/// Refuses item `number` of the list at `key`. The words `advice` go on after the item, if it is a text.
+/// Refuses item `number` of the list at `key`. If the item is a text, the words are the text, then `advice`.
 fn refuse_row(alloc: Global, table: &Table, key: Key, number: u8, advice: &str) -> Result<(), Slip>
     ensures refused { IsErr result }
     ensures slip { IfErr result (HasFault (BadRow number) (Some number)) }
@@ -138,7 +139,7 @@ fn refuse_row(alloc: Global, table: &Table, key: Key, number: u8, advice: &str) 
     )
 }
 
-/// Refuses the value at `key`, which is no list of an item for each bar.
+/// Refuses the value at `key`, which isn't a list with an item for each bar.
 fn refuse_list(alloc: Global, table: &Table, key: Key) -> Result<(), Slip>
     ensures refused { IsErr result }
     ensures slip { IfErr result IsOfItsRow }
@@ -151,7 +152,7 @@ fn refuse_list(alloc: Global, table: &Table, key: Key) -> Result<(), Slip>
     )
 }
 
-/// Refuses the standings at the key `bars`. The words speak of the bar that the desk's reader refuses.
+/// Checks the standings at the key `bars`. The words are about the first bar that the desk refuses.
 pub fn check_bars(alloc: Global, table: &Table) -> Result<(), Slip>
     ensures read { OnOk result (IsOk (bars_in (table_view table.now))) }
     ensures row { (number : ℕ) → bars_in (table_view table.now) ≡ Err (BadRow number)
@@ -171,7 +172,7 @@ pub fn check_bars(alloc: Global, table: &Table) -> Result<(), Slip>
     }
 }
 
-/// Refuses the rows at the key `rows`. The words speak of the row that the desk's reader refuses.
+/// Checks the rows at the key `rows`. The words are about the first row that the desk refuses.
 pub fn check_rows(alloc: Global, table: &Table) -> Result<(), Slip>
     ensures read { OnOk result (IsOk (rows_in (table_view table.now))) }
     ensures row { (number : ℕ) → rows_in (table_view table.now) ≡ Err (BadRow number)

@@ -9,7 +9,7 @@ use kd_tables::Model;
 use std::alloc::Global;
 use toml::{Table, Value};
 
-/// Refuses the rings of a day: a text of letters, or a list of numbers, one for each slot of the model.
+/// Checks the rings of a day: a text of letters, or a list of numbers, one for each slot of the model.
 pub fn check_rings(alloc: Global, table: &Table, model: Model) -> Result<(), Slip> {
     let value = value_at(alloc, table, Key::Rings)?;
     let slots = usize::from(model.slots());
@@ -33,7 +33,7 @@ pub fn check_rings(alloc: Global, table: &Table, model: Model) -> Result<(), Sli
     }
 }
 
-/// Refuses a list of ring numbers, unless it has a number from 1 to 26 for each of `slots` slots.
+/// Checks that a list of ring numbers has a number from 1 to 26 for each of `slots` slots.
 fn check_ring_numbers(alloc: Global, items: &[Value], slots: usize) -> Result<(), Slip> {
     check_count(alloc, Key::Rings, items.len(), slots, "slots")?;
     for item in items {

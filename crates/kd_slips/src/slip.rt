@@ -1,15 +1,15 @@
-//! `Slip`: why a value of a file is refused, in words.
+//! `Slip`: the reason why a value of a file is refused, in words.
 ghost use Rattle.std.specs.Prelude.{IfErr, IsErr, None, Some};
 ghost use Rattle.kd_slips.specs.Items.{HasFault};
 
 use kd_sheet::SheetFault;
 use std::alloc::AllocError;
 
-/// Why a value is refused.
+/// The reason why a value is refused.
 #[derive(Drop)]
 pub enum Slip {
-    /// The value has this fault: the fault as the desk names it, the number of the item that has it, if it needs to be
-    /// told, and words for it.
+    /// The desk's name of the fault; the number of the list item with this fault, if the words are about an item; and
+    /// words for the fault.
     Fault(SheetFault, Option<usize>, String),
     /// Memory ran out.
     NoMemory,
@@ -26,7 +26,7 @@ impl From<AllocError> for Slip {
     }
 }
 
-/// Refuses a value with `fault`, in these words.
+/// Refuses a value: makes a slip with this fault and these words.
 pub fn refuse<T>(fault: SheetFault, words: Result<String, AllocError>) -> Result<T, Slip>
     ensures refused { IsErr result }
     ensures slip { IfErr result (HasFault fault None) }
@@ -34,7 +34,7 @@ pub fn refuse<T>(fault: SheetFault, words: Result<String, AllocError>) -> Result
     Err(Slip::Fault(fault, None, words?))
 }
 
-/// Refuses item `item` of a value with `fault`, in these words. Items are counted from 1.
+/// Refuses item `item` of a list: makes a slip with this fault and these words. Items are counted from 1.
 pub fn refuse_item<T>(
     fault: SheetFault,
     item: usize,

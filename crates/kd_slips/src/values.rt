@@ -18,7 +18,7 @@ use kd_sheet::{Key, SheetFault};
 use std::alloc::{AllocError, Global};
 use toml::{Table, Value};
 
-/// The longest text that is repeated in a line.
+/// The longest text that is shown in a line, in bytes.
 const SHOWN: usize = 40;
 
 /// The value at `key`, or a slip if there is none.
@@ -37,7 +37,7 @@ pub fn value_at(alloc: Global, table: &Table, key: Key) -> Result<&Value, Slip>
     }
 }
 
-/// What kind of value `value` is.
+/// The type of `value`, in words.
 pub fn kind_of(value: &Value) -> &'static str {
     match value {
         Value::String(_) => "a text",
@@ -96,7 +96,7 @@ pub fn item_text(
     }
 }
 
-/// The items of `value`, which stands at `key`, or a slip.
+/// The items of `value`, which stands at `key`, or a slip if it isn't a list.
 #[tactic(auto, using(kd_sheet::proofs::ReadBack::Described::KeyValues::Steps::items_found))]
 pub fn items_of(alloc: Global, value: &Value, key: Key) -> Result<&[Value], Slip>
     ensures found { IfOk result (λ items. as_items (view value.now) ≡ Some (map view items.now)) }
@@ -127,7 +127,7 @@ pub fn items_at(alloc: Global, table: &Table, key: Key) -> Result<&[Value], Slip
     items_of(alloc, value_at(alloc, table, key)?, key)
 }
 
-/// How many items stand in a list, in words.
+/// The number of items in a list, in words.
 fn items_words(alloc: Global, len: usize) -> Result<String, AllocError> {
     match len {
         0 => String::from_str(alloc, "none stands"),
@@ -136,7 +136,7 @@ fn items_words(alloc: Global, len: usize) -> Result<String, AllocError> {
     }
 }
 
-/// Refuses a list of `len` items, unless there are exactly `count`; `of` says of what.
+/// Checks that a list of `len` items has exactly `count`. `of` names what they are.
 pub fn check_count(alloc: Global, key: Key, len: usize, count: usize, of: &str) -> Result<(), Slip>
     ensures same { OnOk result (len ≡ count) }
     ensures other { OnErr result (len ≢ count) }
@@ -154,7 +154,7 @@ pub fn check_count(alloc: Global, key: Key, len: usize, count: usize, of: &str) 
     )
 }
 
-/// Refuses a list of more than `most` items; `of` says of what.
+/// Checks that a list of `len` items has at most `most`. `of` names what they are.
 pub fn check_at_most(alloc: Global, key: Key, len: usize, most: usize, of: &str) -> Result<(), Slip>
     ensures few { OnOk result (len ≤ most) }
     ensures many { OnErr result (most < len) }
@@ -172,21 +172,21 @@ pub fn check_at_most(alloc: Global, key: Key, len: usize, most: usize, of: &str)
     )
 }
 
-/// Whether `byte` can be printed.
+/// Whether `byte` can be printed: it isn't a control character.
 fn is_printed(byte: u8) -> bool
     ensures { result ≡ is_printed byte }
 {
     32 <= byte && byte != 127
 }
 
-/// Whether all of `bytes` can be printed.
+/// Whether each byte of `bytes` can be printed.
 fn are_printed(bytes: &[u8]) -> bool
     ensures { result ≡ list_all is_printed bytes.now }
 {
     bytes.iter().all(|byte| is_printed(*byte))
 }
 
-/// Whether `text` is short, and has only characters that can be printed.
+/// Whether `text` has at most 40 bytes, none of which is a control character.
 #[tactic(auto, unfolding(crate::specs::Shown::can_be_shown))]
 fn can_be_shown(text: &str) -> bool
     ensures { result ≡ can_be_shown text.now }
@@ -194,7 +194,7 @@ fn can_be_shown(text: &str) -> bool
     text.len() <= SHOWN && are_printed(text.as_bytes())
 }
 
-/// `text` in backticks; of a long text, or one with control characters, only the length.
+/// `text` in backticks; but of a long text, or one with control characters, only its length in bytes.
 #[tactic(auto, using(std::proofs::Common::append_assoc), unfolding(crate::specs::Shown::shown_text))]
 pub fn shown(alloc: Global, text: &str) -> Result<String, AllocError>
     ensures { IfOk result (λ words. string_bytes words ≡ shown_text text.now) }

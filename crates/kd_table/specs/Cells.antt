@@ -1,4 +1,4 @@
--- The cells of a row, one by one: in which column each stands, and whether its value can be read.
+-- The cells of a table's row, one for each value of a day: the column of each, and whether its text can be read.
 -- Test: tests/cases/curator-sheet.toml
 use Rattle.std.specs.Prelude.{ℕ, nat_le, ◌&&◌, ◌||◌, not, Bool, true, false, List, [], ◌∷◌, is_some, slice_index_or, Option, Some, None, if◌then◌else◌}
 use Rattle.std.specs.List.{list_all}
@@ -17,7 +17,7 @@ use Rattle.kd_table.specs.declared.cell.Cell.TheVariants as cells
 use Rattle.kd_table.specs.declared.columns.Columns.{Columns}
 use Rattle.kd_table.specs.Options.{OptionTexts}
 
--- the column in which a cell stands
+-- the column of a cell; `None` if the table has no such column
 abbrev pub column_of : Columns → Cell → Option ℕ
 column_of columns cells.Day = columns.day
 column_of columns cells.Model = columns.model
@@ -36,24 +36,24 @@ column_of columns cells.Pins5 = slice_index_or columns.pins 4 None
 column_of columns cells.Pins6 = slice_index_or columns.pins 5 None
 column_of columns cells.Bars = columns.bars
 
--- the option that stands for a cell without anything; an empty text if there is none
+-- the option that replaces a blank cell; empty if there is none
 abbrev pub option_of : OptionTexts → Cell → List ℕ
 option_of options cells.Model = options.model
 option_of options cells.Reflector = options.reflector
 option_of options cells.Window = options.window
 option_of options cell = []
 
--- what a cell has, or what stands for it
+-- the text of a cell in a row or, if the cell is blank, its option
 abbrev pub text_of : OptionTexts → Columns → List (List ℕ) → Cell → List ℕ
 text_of options columns row cell = cell_or (option_of options cell) (column_of columns cell) row
 
--- whether the table has the cell's column, or an option stands for it
+-- whether the table has the cell's column, or an option replaces it
 abbrev pub has_text : OptionTexts → Columns → Cell → Bool
 has_text options columns cell = is_some (column_of columns cell) || not (is_blank (option_of options cell))
 
 -- ---- Which cells a row has.
 
--- the cells of a day of `model`, but for the day's number and the model
+-- the cells for a day of `model`, except day and model
 abbrev pub cells_of : Model → List Cell
 cells_of M209 =
     cells.List ∷ cells.Window ∷ cells.Pins1 ∷ cells.Pins2 ∷ cells.Pins3 ∷ cells.Pins4 ∷ cells.Pins5 ∷ cells.Pins6
@@ -61,20 +61,20 @@ cells_of M209 =
 cells_of model =
     cells.Reflector ∷ cells.Wheels ∷ cells.Rings ∷ cells.Window ∷ cells.Plugs ∷ cells.Groups ∷ []
 
--- the model of a row, if its name can be read
+-- the model of a row; `None` if its name can't be read
 abbrev pub row_model : OptionTexts → Columns → List (List ℕ) → Option Model
 row_model options columns row = model_named (text_of options columns row cells.Model)
 
--- all cells of a row whose model is `model`
+-- all cells of a row of this model; only day and model if it isn't known
 abbrev pub row_cells : Option Model → List Cell
 row_cells model = cells.Day ∷ cells.Model ∷ option_map_or cells_of model []
 
--- whether a table may lack the column: only the groups' column
+-- whether a table may lack the cell's column, which is so for groups only
 abbrev pub is_optional : Cell → Bool
 is_optional cells.Groups = true
 is_optional cell = false
 
--- whether the table has all columns that a row needs
+-- whether the table has all columns that the row's model needs
 abbrev pub has_columns : OptionTexts → Columns → List (List ℕ) → Bool
 has_columns options columns row =
     list_all (λ cell. is_optional cell || has_text options columns cell) (row_cells (row_model options columns row))
@@ -84,23 +84,23 @@ has_columns options columns row =
 abbrev pub is_day : ℕ → Bool
 is_day number = nat_le 1 number && nat_le number 31
 
--- the day of a row, if it can be read
+-- the day in the text of a cell; `None` if the text isn't a day
 abbrev pub day_in : List ℕ → Option ℕ
 day_in text = option_and_then (λ number. if is_day number then Some number else None) (number_in text)
 
 abbrev pub slots : Option Model → ℕ
 slots model = option_map_or slots_of model 0
 
--- whether the letters of the effective pins of wheel `wheel` can be read
+-- whether the text can be read as the effective pins of wheel `wheel`
 abbrev pub are_pins : ℕ → List ℕ → Bool
 are_pins wheel text = is_some (joined text >>= pins_of_text (ring_of wheel))
 
--- how many letters the windows of a machine show
+-- how many window letters a machine of this model has; 0 if the model isn't known
 abbrev pub windows : Option Model → ℕ
 windows (Some M209) = 6
 windows model = slots model
 
--- whether the text of a cell can be read, in a row of `model`
+-- whether the text of a cell can be read, in a row of this model
 abbrev pub is_read : Option Model → Cell → List ℕ → Bool
 is_read model cells.Day text = is_some (day_in text)
 is_read model cells.Model text = is_some (model_named text)
@@ -119,7 +119,7 @@ is_read model cells.Pins5 text = are_pins 5 text
 is_read model cells.Pins6 text = are_pins 6 text
 is_read model cells.Bars text = is_some (readings_in text >>= exactly 27)
 
--- whether the table has a cell's column, or an option stands for it, but the value can't be read
+-- whether the cell's text can't be read, though the table has its column, or an option replaces it
 abbrev pub is_faulty : OptionTexts → Columns → List (List ℕ) → Cell → Bool
 is_faulty options columns row cell =
     has_text options columns cell

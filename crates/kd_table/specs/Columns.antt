@@ -1,4 +1,4 @@
--- In which columns of a table its values stand, by the names in the table's first row.
+-- The columns of a table: which values they have, by their names in the table's first row.
 -- Test: tests/cases/curator-sheet.toml
 use Rattle.std.specs.Prelude.{codes, ℕ, ◌||◌, Bool, List, [], ◌∷◌, find, length, Option, Some, if◌then◌else◌}
 use Rattle.std.specs.List.{range_with_len}
@@ -10,17 +10,17 @@ use Rattle.kd_table.specs.declared.cell.Cell.{Cell}
 use Rattle.kd_table.specs.declared.cell.Cell.TheVariants as cells
 use Rattle.kd_table.specs.declared.columns.Columns.{Columns}
 
--- what a row has in a column; empty if the table lacks the column, or if the row is too short
+-- the text of a row in a column; empty if the table has no such column, or the row is too short
 abbrev pub cell_at : Option ℕ → List (List ℕ) → List ℕ
 cell_at column row = option_map_or (λ text. text) (option_and_then (field_at row) column) []
 
--- what a row has in a column, or `otherwise` if the row has nothing there
+-- the text of a row in a column or, if it is blank, `otherwise`
 abbrev pub cell_or : List ℕ → Option ℕ → List (List ℕ) → List ℕ
 cell_or otherwise column row = if is_blank (cell_at column row) then otherwise else cell_at column row
 
 -- ---- The names of columns.
 
--- a column's name in English
+-- the English name of a cell's column
 abbrev pub english_name : Cell → List ℕ
 english_name cells.Day = codes "day"
 english_name cells.Model = codes "model"
@@ -39,7 +39,7 @@ english_name cells.Pins5 = codes "pins 5"
 english_name cells.Pins6 = codes "pins 6"
 english_name cells.Bars = codes "bars"
 
--- a column's name in German
+-- the German name of a cell's column
 abbrev pub german_name : Cell → List ℕ
 german_name cells.Day = codes "Tag"
 german_name cells.Model = codes "Modell"
@@ -58,7 +58,7 @@ german_name cells.Pins5 = codes "Stifte 5"
 german_name cells.Pins6 = codes "Stifte 6"
 german_name cells.Bars = codes "Stangen"
 
--- a shorter German name of a column; the German name itself where there is none
+-- the short German name of a cell's column; its German name if there is no short one
 abbrev pub short_name : Cell → List ℕ
 short_name cells.Reflector = codes "UKW"
 short_name cells.Wheels = codes "Walzen"
@@ -66,18 +66,18 @@ short_name cells.Rings = codes "Ringe"
 short_name cells.Plugs = codes "Stecker"
 short_name cell = german_name cell
 
--- whether a text is a name of a column
+-- whether the text is one of the three names of a cell's column
 abbrev pub names_column : Cell → List ℕ → Bool
 names_column cell text =
     is_named (english_name cell) text || is_named (german_name cell) text || is_named (short_name cell) text
 
 -- ---- The columns of a table.
 
--- the first column, of the first 64, with the name of a cell's column
+-- the first of 64 columns that has a name of the cell's column
 abbrev pub column_named : Cell → List (List ℕ) → Option ℕ
 column_named cell head = find (λ place. names_column cell (cell_at (Some place) head)) (range_with_len 0 64)
 
--- the columns of a Converter's pins
+-- the columns of a Converter's pins, wheel by wheel
 abbrev pub pin_columns : List (List ℕ) → List (Option ℕ)
 pin_columns head =
     column_named cells.Pins1 head
@@ -87,7 +87,7 @@ pin_columns head =
     ∷ column_named cells.Pins5 head
     ∷ column_named cells.Pins6 head ∷ []
 
--- the columns of a table whose first row is `head`: how many there are, and in which one the values stand
+-- the columns of a table whose first row is `head`: how many there are, and the place of each, counted from 0
 unfoldable pub columns_of : List (List ℕ) → Columns
 columns_of head = record {
   count = length head;

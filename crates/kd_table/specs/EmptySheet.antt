@@ -1,5 +1,5 @@
--- The text of a month to fill in: a section for each day, with `?` in place of each letter and number that is missing. The
--- days are refused until they are filled in, so that no forgotten day can be taken for a key.
+-- A key sheet to fill in: a section for each day, with `?` for each missing letter and number. A day with `?` is
+-- refused, so that no forgotten day can be taken for a key.
 -- Test: tests/cases/curator-sheet.toml
 use Rattle.std.specs.Prelude.{codes, false, ℕ, List, [], ◌∷◌, ◌++◌, map, replicate}
 use Rattle.std.specs.List.{range_with_len}
@@ -11,15 +11,16 @@ use Rattle.kd_sheet.specs.SheetText.{day_head_lines, sections_text}
 use Rattle.kd_sheet.specs.declared.key.Key.{Key}
 use Rattle.kd_sheet.specs.declared.key.Key.TheVariants as keys
 
--- the line of a key whose text has `count` question marks, one for each letter to fill in
+-- the line of a key whose text has `count` letters to fill in
 unfoldable pub unknown_line : Key → ℕ → List ℕ
 unknown_line key count = key_line key (quoted_text (replicate count 63))
 
--- the line of an array of texts, each `item`
+-- the line of a key whose array has `count` items to fill in, each written `item`
 unfoldable pub unknown_items_line : Key → ℕ → List ℕ → List ℕ
 unknown_items_line key count item = key_line key (array_text (replicate count item))
 
--- the lines of a rotor machine's day after the first two: with ten pairs and four groups, as most sheets have them
+-- the lines of a rotor machine's day after its number and model, with ten pairs and four groups, as most sheets have
+-- them
 abbrev pub empty_rotor_lines : ℕ → List (List ℕ)
 empty_rotor_lines slots =
     unknown_line keys.Reflector 1
@@ -30,7 +31,7 @@ empty_rotor_lines slots =
     ∷ unknown_items_line keys.Groups 4 (codes "???")
     ∷ []
 
--- the lines of a Converter's day after the first two
+-- the lines of a Converter's day after its number and model
 abbrev pub empty_pin_lines : List (List ℕ)
 empty_pin_lines =
     unknown_line keys.List 2
@@ -39,11 +40,11 @@ empty_pin_lines =
     ∷ unknown_items_line keys.Rows 27 (codes "?-?")
     ∷ []
 
--- the lines of a day of `model`
+-- all lines of a day of this model
 abbrev pub empty_day_lines : Model → ℕ → List (List ℕ)
 empty_day_lines M209 number = day_head_lines number M209 ++ empty_pin_lines
 empty_day_lines model number = day_head_lines number model ++ empty_rotor_lines (slots_of model)
 
--- the text of a month with so many days
+-- the text of a sheet with the days 1 to `days`
 unfoldable pub empty_month_text : Model → ℕ → List ℕ
 empty_month_text model days = sections_text false (map (empty_day_lines model) (range_with_len 1 days))

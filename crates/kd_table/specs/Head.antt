@@ -1,4 +1,5 @@
--- What the notes on all rows of a table share, and a row with its place. No public contract cites these definitions.
+-- The values that the notes on all rows of a table share; and a row with its place. No public contract cites these
+-- definitions.
 use Rattle.std.specs.Prelude.{ℕ, List}
 use Rattle.kd_table.specs.declared.columns.Columns.{Columns}
 use Rattle.kd_table.specs.Options.{OptionTexts}
@@ -12,7 +13,7 @@ pub record Head : Type 0 where
 abbrev pub head_of : OptionTexts → Columns → List (List ℕ) → Head
 head_of options columns names = record { options = options; columns = columns; names = names }
 
--- A row's place, with which its lines begin, and its cells.
+-- A row: its place, with which the lines on it begin, and its cells.
 pub record PlacedRow : Type 0 where
   pub place : List ℕ
   pub cells : List (List ℕ)

@@ -1,5 +1,6 @@
--- Names in the cells of a table: of columns, models, wheels and reflectors. Gaps don't count, and capital and small letters
--- are alike: `Enigma I`, `ENIGMA I` and `enigma-i` name the same model. Any other sign counts, so `III?` names no wheel.
+-- Names of columns, models, wheels and reflectors in the cells of a table. Gaps don't count, nor does it matter whether
+-- letters are capital or small: `Enigma I`, `ENIGMA I` and `enigma-i` name one model. Any other sign counts, so `III?`
+-- isn't the name of a wheel.
 -- Test: tests/cases/curator-sheet.toml
 use Rattle.std.specs.Prelude.{ℕ, nat_eq, nat_le, ◌-◌, ◌==◌, ◌&&◌, ◌||◌, not, Bool, false, List, [], ◌∷◌, ◌++◌, codes, length, map, filter, find}
 use Rattle.std.specs.Prelude.{bytes_eq, drop, take, Option}
@@ -10,7 +11,7 @@ use Rattle.kd_tables.specs.declared.model.Model.TheVariants.{EnigmaI, M3, M4, M2
 use Rattle.kd_tables.specs.declared.reflector.Reflector.{Reflector}
 use Rattle.kd_tables.specs.declared.wheel.Wheel.{Wheel}
 
--- the capital letter for a small letter; any other byte as it is
+-- the capital letter for a small letter; any other byte itself
 abbrev pub capital : ℕ → ℕ
 capital byte = if nat_le 97 byte && nat_le byte 122 then byte - 32 else byte
 
@@ -20,17 +21,18 @@ is_digit byte = nat_le 48 byte && nat_le byte 57
 abbrev pub is_capital_letter : ℕ → Bool
 is_capital_letter byte = nat_le 65 byte && nat_le byte 90
 
--- a byte of a no-break space: 160 in Windows-1252, and 194 and 160 in UTF-8
+-- whether the byte belongs to a no-break space, which is 160 in Windows-1252, and 194 and 160 in UTF-8
 abbrev pub is_no_break : ℕ → Bool
 is_no_break byte = nat_eq byte 160 || nat_eq byte 194
 
--- what may stand between items: a blank, tab, line end, comma, hyphen, full stop, slash, semicolon or no-break space
+-- whether the byte is a gap between items: a blank, tab, line end, comma, hyphen, full stop, slash, semicolon, or part
+-- of a no-break space
 abbrev pub is_gap : ℕ → Bool
 is_gap byte =
     nat_eq byte 32 || nat_le 44 byte && nat_le byte 47 || nat_eq byte 59 || nat_le 9 byte && nat_le byte 13
     || is_no_break byte
 
--- a text without its gaps, and with capital letters for small letters
+-- the text in capital letters, without gaps
 abbrev pub plain : List ℕ → List ℕ
 plain text = filter (λ byte. not (is_gap byte)) (map capital text)
 
@@ -39,29 +41,29 @@ abbrev pub is_quote : List ℕ → Bool
 is_quote (first ∷ second ∷ third ∷ []) = first == 0xE2 && second == 0x80 && (nat_le 0x98 third && nat_le third 0x9F)
 is_quote _ = false
 
--- a cell without a pair of typographic quotes around it
+-- the cell, without its pair of typographic quotes, if it has one
 abbrev pub unquoted : List ℕ → List ℕ
 unquoted cell =
     if nat_le 6 (length cell) && is_quote (take 3 cell) && is_quote (drop (length cell - 3) cell)
     then take (length cell - 6) (drop 3 cell) else cell
 
--- whether a cell of at most 32 bytes has this name
+-- whether the cell, of at most 32 bytes, has the name `name`
 abbrev pub is_named : List ℕ → List ℕ → Bool
 is_named name cell = nat_le (length cell) 32 && bytes_eq (plain (unquoted cell)) (plain name)
 
--- the model that a cell names
+-- the model with the name in the cell
 abbrev pub model_named : List ℕ → Option Model
 model_named cell = find (λ model. is_named (model_text model) cell) (EnigmaI ∷ M3 ∷ M4 ∷ M209 ∷ [])
 
--- the wheel that a word names
+-- the wheel with the name `word`
 abbrev pub wheel_named : List ℕ → Option Wheel
 wheel_named word = find (λ wheel. is_named (wheel_text wheel) word) (box_of M4)
 
--- whether a cell has the name of a reflector, alone or behind `UKW`, for *Umkehrwalze*
+-- whether the cell has the name of a reflector, alone or after `UKW`, for *Umkehrwalze*
 abbrev pub names_reflector : Reflector → List ℕ → Bool
 names_reflector reflector cell =
     is_named (reflector_text reflector) cell || is_named (codes "UKW" ++ reflector_text reflector) cell
 
--- the reflector of `model` that a cell names: on an M4 the letter B means the thin reflector b
+-- the reflector of `model` with the name in the cell; on an M4, the letter B means the thin reflector b
 abbrev pub reflector_named : Model → List ℕ → Option Reflector
 reflector_named model cell = find (λ reflector. names_reflector reflector cell) (reflectors_of model)

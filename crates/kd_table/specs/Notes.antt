@@ -1,6 +1,6 @@
--- What is told of a table on standard error. The columns that aren't read are told exactly. Of a refused table, each row that
--- is no day has a line that begins with the row's place, and each cell that can't be read has one that begins with the
--- cell's place. What follows the place is in words that no definition gives.
+-- The notes on a table on standard error. Those on unread columns are defined to the byte. In the notes on a refused
+-- table, each row that isn't a day has a line that begins with its place, and so has each cell that can't be read. No
+-- definition gives the words after the place.
 -- Test: tests/cases/curator-sheet.toml
 use Rattle.std.specs.Prelude.{◌≡◌, ◌<◌, ◌+◌, ◌==◌, ◌&&◌, ◌||◌, codes, decimal, nat_lt, ℕ, Bool, true, false, List, [], ◌∷◌, ◌++◌, drop, flat_map, length, map, slice_get, take, Option, Some, None, IfSome, IsTrue, if◌then◌else◌}
 use Rattle.std.specs.Io.KnownBytes.{Appends}
@@ -21,20 +21,20 @@ use Rattle.kd_table.specs.declared.columns.Columns.{Columns}
 
 -- ---- The port of the notes.
 
--- Some text was written to the port of the notes, or none. A port that had failed has failed.
+-- Any text was written to the port of the notes. If the port had failed before, it has failed.
 pub record Tells (notes : Port) : Type 0 where
   pub text : List ℕ
   pub written : Appends notes.had notes.has text
   pub failed : IsTrue notes.had_failed → IsTrue notes.has_failed
 
--- The text was written to the port of the notes, or a prefix of it if the port has failed.
+-- `text` was written to the port of the notes, or a prefix of it if the port has failed.
 pub record TellsText (notes : Port) (text : List ℕ) : Type 0 where
   pub whole : notes.has_failed ≡ false → Appends notes.had notes.has text
   pub part : (count : ℕ) × Appends notes.had notes.has (take count text)
 
 -- ---- What is shown of a cell: of a cell with more than 60 bytes, only the start.
 
--- `?` for a byte that can't be shown
+-- the byte of a cell as it is shown: `?` if it can't be printed
 abbrev pub shown_byte : Bool → ℕ → ℕ
 shown_byte is_long byte = if nat_lt byte 32 || byte == 127 || is_long && nat_lt 127 byte then 63 else byte
 
@@ -43,7 +43,7 @@ shown cell =
     if nat_lt 60 (length cell) then map (shown_byte true) (take 60 cell) ++ codes "..."
     else map (shown_byte false) cell
 
--- a line: where something is, and what is said of it
+-- a line of notes: a place, then words on it
 abbrev pub line_at : List ℕ → List ℕ → List ℕ
 line_at place words = place ++ words ++ 10 ∷ []
 
@@ -59,52 +59,53 @@ is_column_read columns place = list_any (is_at place) (places_of columns) || lis
 abbrev pub unread_words : List ℕ
 unread_words = codes ": this column isn't read\n"
 
--- the line on the column at `place`, if it has a name, and isn't read
+-- the note on the column at `place`; nothing if the column has no name, or is read
 abbrev pub unread_line : List (List ℕ) → ℕ → List ℕ
 unread_line head place =
     if is_blank (cell_at (Some place) head) || is_column_read (columns_of head) place then []
     else codes "column " ++ shown (cell_at (Some place) head) ++ unread_words
 
--- the note on all columns that aren't read, of the first 64, in a table whose first row is `head`
+-- the notes on all unread columns, of the first 64, in a table whose first row is `head`
 unfoldable pub unread_note : List (List ℕ) → List ℕ
 unread_note head = flat_map (unread_line head) (range_with_len 0 64)
 
--- The table's first row is `head`.
+-- The table has the first row `head`.
 abbrev pub HasHead : List ℕ → List (List ℕ) → Type 0
 HasHead table head = (rows : List (List (List ℕ))) × AreRows table (head ∷ rows)
 
--- The note on the columns that aren't read was written.
+-- The notes on the unread columns of the table were written.
 abbrev pub TellsUnread : List ℕ → Port → Type 0
 TellsUnread table notes = (head : List (List ℕ)) × HasHead table head × TellsText notes (unread_note head)
 
 -- ---- Faults.
 
--- a row's number, and its day if the day can be read
+-- the words for a row's number, and for its day if that is known
 abbrev pub row_number : ℕ → Option ℕ → List ℕ
 row_number number None = decimal number ++ codes ", "
 row_number number (Some day) = (decimal number ++ codes " (day ") ++ (decimal day ++ codes "), ")
 
--- where a row is
+-- the words for a row's place
 abbrev pub row_place : ℕ → Option ℕ → List ℕ
 row_place number day = codes "row " ++ row_number number day
 
--- the option that stands for a cell
+-- the name of the option that replaces a cell; empty if there is none
 abbrev pub option_name : Cell → List ℕ
 option_name cells.Model = codes "--model"
 option_name cells.Reflector = codes "--reflector"
 option_name cells.Window = codes "--window"
 option_name cell = []
 
--- the name of a cell's column, or the option that stands for it
+-- the name of a cell's column as it stands in the table; if there is no such column, the name of its option
 abbrev pub cell_name : Columns → List (List ℕ) → Cell → List ℕ
 cell_name columns head cell =
     option_map_or (λ place. shown (cell_at (Some place) head)) (column_of columns cell) (option_name cell)
 
--- where a cell is: its row, and its column's name
+-- the words for a cell's place: its row, and its column's name
 abbrev pub cell_place : Columns → List (List ℕ) → List ℕ → Cell → List ℕ
 cell_place columns head row cell = row ++ cell_name columns head cell ++ codes ": "
 
--- The note on these cells of a row: lines that begin with their cell's place, at least one for a cell that can't be read.
+-- The notes on these cells of a row: lines that begin with the place of their cell. There is at least one for each cell
+-- that can't be read.
 pub data TellsCells (options : OptionTexts) (columns : Columns) (head : List (List ℕ)) (place : List ℕ)
     (row : List (List ℕ)) : List Cell → List ℕ → Type 0 where
   NoCells : TellsCells options columns head place row [] []
@@ -114,8 +115,8 @@ pub data TellsCells (options : OptionTexts) (columns : Columns) (head : List (Li
       → TellsCells options columns head place row (cell ∷ rest)
       (flat_map (line_at (cell_place columns head place cell)) words ++ note)
 
--- The note on a row: first on columns that the table lacks, then on the row's cells, then on the row as a whole. A row that
--- is no day has a line, unless the table lacks a column that the row needs.
+-- The notes on a row: first on columns that the table lacks, then on the row's cells, then on the row as a whole. There
+-- is at least one on the row or a cell if the row isn't a day, unless the table lacks a column that the row needs.
 pub record TellsRow (options : OptionTexts) (columns : Columns) (head : List (List ℕ)) (number : ℕ)
     (row : List (List ℕ)) (note : List ℕ) : Type 0 where
   pub missing : List (List ℕ)
@@ -129,7 +130,8 @@ pub record TellsRow (options : OptionTexts) (columns : Columns) (head : List (Li
   pub some : IsNoDay (row_values options columns row) → has_columns options columns row ≡ true
       → 0 < length of_cells + length words
 
--- The note on the rows under the first row `head`, in order, which have the numbers `numbers`. Blank rows are passed over.
+-- The notes on the rows under the first row `head`, in order. `numbers` are the rows' numbers. Blank rows are passed
+-- over.
 pub data TellsRows (options : OptionTexts) (columns : Columns) (head : List (List ℕ)) (numbers : List ℕ)
     : List (List (List ℕ)) → List ℕ → Type 0 where
   NoneTold : TellsRows options columns head numbers [] []
@@ -148,8 +150,8 @@ quotes_note = codes "a quote isn't closed, or something follows the closing quot
 abbrev pub nothing_note : List ℕ
 nothing_note = codes "the table has no row with a day\n"
 
--- The note on a refused table: one line on wrong quotes, or on a table without rows. Otherwise, it tells which columns aren't
--- read and which are missing, tells of each row, and says if no row has anything.
+-- The notes on a refused table: a single line if its quotes are wrong, or it has no rows. Otherwise: the notes on
+-- unread columns, on missing columns, and on each row; and a line if all rows are blank.
 pub data TellsTable (options : OptionTexts) (table : List ℕ) : List ℕ → Type 0 where
   OfQuotes : is_well_quoted table ≡ false → TellsTable options table quotes_note
   OfNothing : AreRows table [] → TellsTable options table nothing_note
@@ -160,14 +162,14 @@ pub data TellsTable (options : OptionTexts) (table : List ℕ) : List ℕ → Ty
       → TellsTable options table
       (unread_note head ++ (flat_map (line_at (codes "row 1: ")) missing ++ (note ++ flat_map (line_at []) words)))
 
--- The note on a refused table was written.
+-- The notes on a refused table were written.
 abbrev pub TellsRefused : OptionTexts → List ℕ → Port → Type 0
 TellsRefused options table notes = (text : List ℕ) × TellsTable options table text × TellsText notes text
 
 -- ---- Reading row by row. No public contract cites these definitions.
 
--- The lines on a row's cells, and on the row as a whole, were appended: at least one if the row is no day, unless the table
--- lacks a column that the row needs.
+-- The notes on a row's cells and on the row as a whole were appended. There is at least one if the row isn't a day,
+-- unless the table lacks a column that the row needs.
 pub record TellsPlacedRow (options : OptionTexts) (columns : Columns) (head : List (List ℕ)) (place : List ℕ)
     (row : List (List ℕ)) (old new : List ℕ) : Type 0 where
   pub of_cells : List ℕ
@@ -177,7 +179,7 @@ pub record TellsPlacedRow (options : OptionTexts) (columns : Columns) (head : Li
   pub some : IsNoDay (row_values options columns row) → has_columns options columns row ≡ true
       → 0 < length of_cells + length words
 
--- The note on the rows under the first row `head` was appended, and a line if no row has anything.
+-- The notes on the rows under the first row `head` were appended, and a line if all rows are blank.
 pub record HasRowsNote (options : OptionTexts) (columns : Columns) (head : List (List ℕ)) (table old new : List ℕ)
     : Type 0 where
   pub rows : List (List (List ℕ))

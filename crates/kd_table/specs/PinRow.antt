@@ -1,4 +1,4 @@
--- What a row of a table says of a Converter's day.
+-- The values of a Converter's day in a row of a table.
 -- Test: tests/cases/curator-sheet.toml
 use Rattle.std.specs.Prelude.{ℕ, Bool, List, slice_index_or, Option, Some, None}
 use Rattle.kd_tables.specs.Rings.{ring_of}
@@ -11,14 +11,15 @@ use Rattle.kd_table.specs.Steps.{◌>>=◌}
 use Rattle.kd_table.specs.declared.columns.Columns.{Columns}
 use Rattle.kd_table.specs.Options.{OptionTexts}
 
--- The pins of a wheel whose letters are `ring`, from the letters in a column, which must be there.
+-- The pins of a wheel with the letters `ring`, from the letters of its effective pins in a column. The table must have
+-- the column.
 abbrev pub pins_at : List ℕ → Option ℕ → List (List ℕ) → Option (List Bool)
 pins_at ring column row = do
   place ← column
   text ← joined (cell_at (Some place) row)
   pins_of_text ring text
 
--- the pins of the six wheels, of which those of the first three are known
+-- the pins of all six wheels; `one`, `two` and `three` are those of the first three
 abbrev pub pins_after : List (Option ℕ) → List (List ℕ) → List Bool → List Bool → List Bool → Option PinSet
 pins_after columns row one two three = do
   four ← pins_at (ring_of 4) (slice_index_or columns 3 None) row
@@ -26,7 +27,7 @@ pins_after columns row one two three = do
   six ← pins_at (ring_of 6) (slice_index_or columns 5 None) row
   Some (record { w1 = one; w2 = two; w3 = three; w4 = four; w5 = five; w6 = six })
 
--- the pins of the six wheels
+-- the pins of all six wheels
 unfoldable pub pins_in : List (Option ℕ) → List (List ℕ) → Option PinSet
 pins_in columns row = do
   one ← pins_at (ring_of 1) (slice_index_or columns 0 None) row
@@ -34,7 +35,7 @@ pins_in columns row = do
   three ← pins_at (ring_of 3) (slice_index_or columns 2 None) row
   pins_after columns row one two three
 
--- the values of a row's day; an option may stand for a window without anything
+-- the values of a Converter's day in a row. An option may replace blank window letters.
 unfoldable pub pin_values : OptionTexts → Columns → List (List ℕ) → Option PinDay
 pin_values options columns row = do
   number ← number_in (cell_at columns.day row)

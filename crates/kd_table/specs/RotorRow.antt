@@ -1,4 +1,4 @@
--- What a row of a table says of a rotor machine's day.
+-- The values of a rotor machine's day in a row of a table.
 -- Test: tests/cases/curator-sheet.toml
 use Rattle.std.specs.Prelude.{ℕ, List, [], ◌∷◌, Option, Some, None}
 use Rattle.std.specs.Option.{option_map}
@@ -13,14 +13,14 @@ use Rattle.kd_table.specs.Steps.{◌>>=◌}
 use Rattle.kd_table.specs.declared.columns.Columns.{Columns}
 use Rattle.kd_table.specs.Options.{OptionTexts}
 
--- each wheel with its ring and its window letter; there must be as many rings and letters as wheels
+-- each wheel with its ring and its window letter; `None` unless there are equally many of each
 abbrev pub wheels_with : List (Option Wheel) → List ℕ → List ℕ → Option (List SheetWheel)
 wheels_with [] [] [] = Some []
 wheels_with (Some wheel ∷ wheels) (ring ∷ rings) (letter ∷ letters) =
     option_map (λ rest. record { wheel = wheel; ring = ring; letter = letter } ∷ rest) (wheels_with wheels rings letters)
 wheels_with _ _ _ = None
 
--- the wheels of a row's day, with their rings and window letters; an option may stand for a window without anything
+-- the wheels of a row, with their rings and window letters. An option may replace blank window letters.
 abbrev pub seated_in : OptionTexts → Columns → List (List ℕ) → Option (List SheetWheel)
 seated_in options columns row = do
   wheels ← wheels_in (cell_at columns.wheels row)
@@ -28,14 +28,14 @@ seated_in options columns row = do
   window ← letters_in (cell_or options.window columns.window row)
   wheels_with wheels rings window
 
--- The plugged pairs of a row's day. Their column must be there, so that a slip in its name isn't taken for a day without
--- pairs.
+-- The plugged pairs of a row. The table must have their column, so that a mistyped column name isn't taken for days
+-- without pairs.
 abbrev pub plugs_in : Columns → List (List ℕ) → Option (List (ℕ × ℕ))
 plugs_in columns row = do
   place ← columns.plugs
   pairs_in (cell_at (Some place) row)
 
--- the values of a row's day; an option may stand for a reflector without anything
+-- the values of a rotor machine's day in a row. An option may replace a blank reflector.
 unfoldable pub rotor_values : OptionTexts → Columns → List (List ℕ) → Model → Option RotorDay
 rotor_values options columns row model = do
   number ← number_in (cell_at columns.day row)

@@ -1,4 +1,4 @@
--- What a row of a table says of a day.
+-- The day in a row of a table.
 -- Test: tests/cases/curator-sheet.toml
 use Rattle.std.specs.Prelude.{◌≡◌, ◌-◌, ◌&&◌, ℕ, nat_le, Bool, List, [], ◌∷◌, length, Option, Some, None, ⊤, if◌then◌else◌}
 use Rattle.std.specs.List.{list_all, range_with_len}
@@ -15,44 +15,44 @@ use Rattle.kd_table.specs.Steps.{◌>>=◌}
 use Rattle.kd_table.specs.declared.columns.Columns.{Columns}
 use Rattle.kd_table.specs.Options.{OptionTexts}
 
--- the columns whose values are read, but for the columns of pins
+-- the columns that are read, except those of pins
 abbrev pub places_of : Columns → List (Option ℕ)
 places_of c =
     c.day ∷ c.model ∷ c.reflector ∷ c.wheels ∷ c.rings ∷ c.plugs ∷ c.window ∷ c.groups ∷ c.list ∷ c.bars ∷ []
 
--- whether a row has nothing in the columns that are read
+-- whether a row is blank in all columns that are read
 abbrev pub is_blank_row : Columns → List (List ℕ) → Bool
 is_blank_row columns row =
     list_all (λ column. is_blank (cell_at column row)) (places_of columns)
     && list_all (λ column. is_blank (cell_at column row)) columns.pins
 
--- the values of a row's day of this model
+-- the values of a day of this model in a row
 abbrev pub values_of_model : OptionTexts → Columns → List (List ℕ) → Model → Option Day
 values_of_model options columns row M209 = option_map Pin (pin_values options columns row)
 values_of_model options columns row model = option_map Rotor (rotor_values options columns row model)
 
--- whether a row has a cell in each of the table's columns, and nothing beyond them
+-- whether a row has a cell in each column of the table, and nothing but blank cells beyond
 abbrev pub fits_columns : Columns → List (List ℕ) → Bool
 fits_columns columns row =
     nat_le columns.count (length row)
     && list_all (λ place. is_blank (cell_at (Some place) row)) (range_with_len columns.count (length row - columns.count))
 
--- the values that the cells of a row's day have
+-- the values of the day in a row's cells
 abbrev pub cell_values : OptionTexts → Columns → List (List ℕ) → Option Day
 cell_values options columns row = do
   model ← model_named (cell_or options.model columns.model row)
   values_of_model options columns row model
 
--- the values of a row's day; a row that ends early, or goes beyond the columns, has none
+-- the values of the day in a row; `None` if the row ends before the last column, or goes beyond it
 abbrev pub row_values : OptionTexts → Columns → List (List ℕ) → Option Day
 row_values options columns row = if fits_columns columns row then cell_values options columns row else None
 
--- The row describes this day, which is legal.
+-- The row has the values of this day, and the day is legal.
 pub record IsDayOfRow (options : OptionTexts) (columns : Columns) (row : List (List ℕ)) (day : Day) : Type 0 where
   pub values : row_values options columns row ≡ Some day
   pub legal : IsLegalDay day
 
--- There are no values, or they aren't those of a legal day.
+-- There are no values, or no legal day has them.
 abbrev pub IsNoDay : Option Day → Type 0
 IsNoDay None = ⊤
 IsNoDay (Some day) = ¬ IsLegalDay day

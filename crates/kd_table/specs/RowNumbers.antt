@@ -1,5 +1,5 @@
--- The numbers of a table's rows, as a spreadsheet counts them from 1: CR, LF or both end a row, but not in a quoted cell, and
--- empty rows count.
+-- The numbers of a table's rows, as a spreadsheet counts them from 1. A row ends with CR, LF or both, but not within a
+-- quoted cell. Empty rows count.
 -- Code: row by row; empty rows are skipped.
 -- Test: tests/cases/curator-sheet.toml
 use Rattle.std.specs.Prelude.{◌≡◌, ◌⊎◌, ◌≤◌, ℕ, ◌+◌, ◌-◌, ◌^◌, ◌==◌, ◌&&◌, ◌||◌, Bool, false, IsFalse, List, [], ◌∷◌, length}
@@ -14,12 +14,13 @@ use Rattle.kd_table.specs.declared.quotes.Quoting.TheVariants.{CellStart}
 abbrev pub ends_line : ℕ → Bool
 ends_line byte = byte == 13 || byte == 10
 
--- where a byte stands: at the start of a row, with a CR just before it or not; or in a row, as quotes go
+-- a place between two bytes of a table: at the start of a row, and whether right after a CR; or within a row, and
+-- whether in quotes
 pub data RowPlace : Type 0 where
   AtStart : Bool → RowPlace
   Within : Quoting → RowPlace
 
--- the numbers of the rows of these bytes that aren't empty. `number` is that of the row in which the bytes begin.
+-- the numbers of the rows in these bytes, without empty rows. The bytes begin in row `number`.
 abbrev pub numbers_from : ℕ → RowPlace → ℕ → List ℕ → List ℕ
 numbers_from separator place number [] = []
 numbers_from separator (AtStart after_return) number (byte ∷ bytes) =
@@ -30,21 +31,21 @@ numbers_from separator (Within quoting) number (byte ∷ bytes) =
     if ends_line byte && may_end quoting then numbers_from separator (AtStart (byte == 13)) (number + 1) bytes
     else numbers_from separator (Within (quoting_after_byte separator quoting byte)) number bytes
 
--- the numbers of a table's rows that aren't empty
+-- the numbers of a table's rows, without empty rows
 abbrev pub row_numbers : List ℕ → List ℕ
 row_numbers table = numbers_from (separator_of table) (AtStart false) 1 (strip_bom table)
 
 -- ---- Row by row. No public contract cites these definitions.
 
--- the numbers of the rows that are left
+-- the numbers of the remaining rows
 abbrev pub numbers_left : RowNumbers → List ℕ
 numbers_left rows = numbers_from rows.separator (AtStart false) rows.number rows.rest.now
 
--- Nothing is left, or the number is so small that each row that is left has one.
+-- No bytes remain, or the row number is so small that it can't overflow.
 abbrev pub IsCounted : RowNumbers → Type 0
 IsCounted rows = (rows.rest.now ≡ []) ⊎ (rows.number + length rows.rest.now ≤ 2 ^ 64 - 2)
 
--- `number` is the first of the numbers `before`, and `after` are the others; or there are none.
+-- `number` is the first of the numbers `before`, and `after` are the others; or both lists are empty.
 abbrev pub IsNext : List ℕ → ℕ → List ℕ → Type 0
 IsNext before number after = (before ≡ number ∷ after) ⊎ ((before ≡ []) × (after ≡ []))
 
@@ -53,13 +54,13 @@ abbrev pub StartsRow : List ℕ → Type 0
 StartsRow [] = Unit {0}
 StartsRow (byte ∷ bytes) = IsFalse (ends_line byte)
 
--- The bytes are `count` line ends, and `left`.
+-- The bytes are `count` line ends, then `left`.
 pub record AreLineEnds (bytes : List ℕ) (count : ℕ) (left : List ℕ) : Type 0 where
   pub same : (separator number : ℕ) → numbers_from separator (AtStart false) number bytes
       ≡ numbers_from separator (AtStart false) (number + count) left
   pub shorter : count + length left ≤ length bytes
 
--- The bytes are a row with its line end, and `left`; or there are none.
+-- The bytes are a row with its line end, then `left`; or both are empty.
 pub data IsRowBefore (separator : ℕ) (bytes left : List ℕ) : Type 0 where
   NoRow : bytes ≡ [] → left ≡ [] → IsRowBefore separator bytes left
   OneRow : ((number : ℕ) → numbers_from separator (AtStart false) number bytes

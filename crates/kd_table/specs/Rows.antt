@@ -1,4 +1,4 @@
--- How the bytes of a table are cut into rows and cells.
+-- How the bytes of a table are split into rows and cells.
 -- Test: tests/cases/curator-sheet.toml
 use Rattle.std.specs.Prelude.{ℕ, ◌==◌, ◌||◌, Bool, true, false, List, [], ◌∷◌, find, if◌then◌else◌}
 use Rattle.std.specs.Option.{option_map_or}
@@ -11,19 +11,20 @@ use Rattle.kd_table.specs.declared.quotes.Quoting.TheVariants.{CellStart, Unquot
 abbrev pub is_separator : ℕ → Bool
 is_separator byte = byte == 44 || byte == 59 || byte == 9
 
--- the first byte of a table that may separate cells, which separates all cells; a comma if there is none
+-- the separator of a table's cells: the first byte of the table that may be one; a comma if there is none
 abbrev pub separator_of : List ℕ → ℕ
 separator_of table = option_map_or (λ byte. byte) (find is_separator table) 44
 
--- quotes double inside quoted cells, a row ends at CR, LF or both, and `separator` stands between cells
+-- the settings of the reader: in a quoted cell, two quotes stand for one; a row ends with CR, LF or both; `separator`
+-- stands between cells
 abbrev pub separated : ℕ → Config
 separated separator = record default_config { delimiter = separator }
 
--- where a byte ends a cell: a separator, CR or LF
+-- whether the byte ends a cell: a separator, CR or LF
 abbrev pub ends_cell : ℕ → ℕ → Bool
 ends_cell separator byte = byte == separator || byte == 13 || byte == 10
 
--- where a text stands after one more byte
+-- the state of quotes in a table after one more byte
 abbrev pub quoting_after_byte : ℕ → Quoting → ℕ → Quoting
 quoting_after_byte separator CellStart byte =
     if byte == 34 then Quoted else if ends_cell separator byte then CellStart else Unquoted
@@ -44,6 +45,6 @@ may_end Quoted = false
 may_end Closed = true
 may_end Wrong = false
 
--- whether each quoted cell of a table is closed, and has nothing after the closing quote
+-- whether each quoted cell of a table is closed, and ends with its closing quote
 abbrev pub is_well_quoted : List ℕ → Bool
 is_well_quoted table = may_end (quoting_after (separator_of table) CellStart (strip_bom table))

@@ -1,4 +1,4 @@
-//! The cells of a row, one by one.
+//! The cells of a table's row, one for each value of a day.
 ghost use Rattle.std.specs.Prelude.{◌≡◌, ◌||◌, [], is_some, option_map};
 ghost use Rattle.std.specs.Option.{option_and_then, option_map_or};
 ghost use Rattle.std.specs.List.{list_all};
@@ -18,7 +18,7 @@ use csv::ByteRecord;
 use kd_sheet::pins_of_text;
 use kd_tables::{Letter, Model, Reading, Ring, Wheel, ring1, ring2, ring3, ring4, ring5, ring6};
 
-/// A cell of a row, by what it says of the day.
+/// A cell of a row, named after the value of the day that it has.
 #[derive(Clone, Copy)]
 pub enum Cell {
     Day,
@@ -39,7 +39,7 @@ pub enum Cell {
     Bars,
 }
 
-/// The cells of a rotor machine's day, but for the day's number and the model.
+/// The cells for a rotor machine's day, except day and model.
 static ROTOR_CELLS: [Cell; 6] = [
     Cell::Reflector,
     Cell::Wheels,
@@ -49,7 +49,7 @@ static ROTOR_CELLS: [Cell; 6] = [
     Cell::Groups,
 ];
 
-/// The cells of a Converter's day, but for the day's number and the model.
+/// The cells for a Converter's day, except day and model.
 static PIN_CELLS: [Cell; 9] = [
     Cell::List,
     Cell::Window,
@@ -62,7 +62,7 @@ static PIN_CELLS: [Cell; 9] = [
     Cell::Bars,
 ];
 
-/// The cells of a day of `model`, but for the day's number and the model.
+/// The cells for a day of `model`, except day and model.
 pub fn cells_of(model: Model) -> &'static [Cell]
     ensures { result.now ≡ cells_of model }
 {
@@ -72,7 +72,7 @@ pub fn cells_of(model: Model) -> &'static [Cell]
     }
 }
 
-/// The column in which `cell` stands.
+/// The column of `cell`; `None` if the table has no such column.
 pub fn column_of(columns: &Columns, cell: Cell) -> Option<usize>
     ensures { result ≡ column_of columns.now cell }
 {
@@ -96,7 +96,7 @@ pub fn column_of(columns: &Columns, cell: Cell) -> Option<usize>
     }
 }
 
-/// The option that stands for `cell` if it has nothing; an empty text if there is none.
+/// The option that replaces `cell` if it is blank; empty if there is none.
 pub fn option_of<'a>(options: &TableOptions<&'a [u8]>, cell: Cell) -> &'a [u8]
     ensures { result.now ≡ option_of (texts_of options.now) cell }
 {
@@ -108,7 +108,7 @@ pub fn option_of<'a>(options: &TableOptions<&'a [u8]>, cell: Cell) -> &'a [u8]
     }
 }
 
-/// What `cell` has, or what stands for it.
+/// The text of `cell` or, if it is blank, its option.
 pub fn text_of<'a>(
     options: &TableOptions<&'a [u8]>,
     columns: &Columns,
@@ -120,14 +120,14 @@ pub fn text_of<'a>(
     cell_or(option_of(options, cell), row, column_of(columns, cell))
 }
 
-/// Whether the table has the column of `cell`, or an option stands for it.
+/// Whether the table has the column of `cell`, or an option replaces it.
 pub fn has_text(options: &TableOptions<&[u8]>, columns: &Columns, cell: Cell) -> bool
     ensures { result ≡ has_text (texts_of options.now) columns.now cell }
 {
     column_of(columns, cell).is_some() || !is_blank(option_of(options, cell))
 }
 
-/// The model of `row`, if its name can be read.
+/// The model of `row`; `None` if its name can't be read.
 pub fn row_model(
     options: &TableOptions<&[u8]>,
     columns: &Columns,
@@ -138,7 +138,7 @@ pub fn row_model(
     model_named(text_of(options, columns, row, Cell::Model))
 }
 
-/// The cells of a row of which its model has to be known; none if the model's name can't be read.
+/// The cells of `row` that depend on its model; none if the model's name can't be read.
 pub fn known_cells(
     options: &TableOptions<&[u8]>,
     columns: &Columns,
@@ -153,21 +153,21 @@ pub fn known_cells(
     }
 }
 
-/// Whether a table may lack the column of `cell`.
+/// Whether a table may lack the column of `cell`, which is so for groups only.
 pub fn is_optional(cell: Cell) -> bool
     ensures { result ≡ is_optional cell }
 {
     matches!(cell, Cell::Groups)
 }
 
-/// Whether the table has the column of `cell`, if each row needs it.
+/// Whether the table has the column of `cell`, or doesn't need it.
 fn has_column(options: &TableOptions<&[u8]>, columns: &Columns, cell: Cell) -> bool
     ensures { result ≡ (is_optional cell || has_text (texts_of options.now) columns.now cell) }
 {
     is_optional(cell) || has_text(options, columns, cell)
 }
 
-/// Whether the table has the columns of `cells`, if each row needs them.
+/// Whether the table has each column of `cells` that it needs.
 fn has_each_column(options: &TableOptions<&[u8]>, columns: &Columns, cells: &[Cell]) -> bool
     ensures { result ≡ list_all
         (λ cell. is_optional cell || has_text (texts_of options.now) columns.now cell) cells.now }
@@ -180,7 +180,7 @@ fn has_each_column(options: &TableOptions<&[u8]>, columns: &Columns, cells: &[Ce
     }
 }
 
-/// Whether the table has all columns that `row` needs.
+/// Whether the table has all columns that the model of `row` needs.
 pub fn has_columns(options: &TableOptions<&[u8]>, columns: &Columns, row: &ByteRecord) -> bool
     ensures { result ≡ has_columns (texts_of options.now) columns.now (fields_of row.now) }
 {
@@ -194,7 +194,7 @@ pub fn has_columns(options: &TableOptions<&[u8]>, columns: &Columns, row: &ByteR
     has_each_column(options, columns, known)
 }
 
-/// The day in the cell `text`, if it can be read.
+/// The day in the cell `text`; `None` if the text isn't a day.
 pub fn day_in(text: &[u8]) -> Option<u8>
     ensures { result ≡ day_in text.now }
 {
@@ -206,7 +206,7 @@ pub fn day_in(text: &[u8]) -> Option<u8>
     }
 }
 
-/// How many slots for wheels a machine has.
+/// How many slots for wheels a machine of this model has; 0 if the model isn't known.
 pub fn slots(model: Option<Model>) -> usize
     ensures { result ≡ slots model }
 {
@@ -216,7 +216,7 @@ pub fn slots(model: Option<Model>) -> usize
     }
 }
 
-/// How many letters the windows of a machine show.
+/// How many window letters a machine of this model has; 0 if the model isn't known.
 pub fn windows(model: Option<Model>) -> usize
     ensures { result ≡ windows model }
 {
@@ -226,7 +226,7 @@ pub fn windows(model: Option<Model>) -> usize
     }
 }
 
-/// Whether `values` were read, and are `count`.
+/// Whether there are exactly `count` values.
 fn are_exactly<T>(values: &Option<Values<T>>, count: usize) -> bool
     ensures { result ≡ is_some (option_and_then (exactly count)
         (option_map (λ values. values.items) values.now)) }
@@ -237,7 +237,7 @@ fn are_exactly<T>(values: &Option<Values<T>>, count: usize) -> bool
     }
 }
 
-/// Whether the letters of the effective pins can be read, of a wheel whose letters are `ring`.
+/// Whether `text` can be read as the effective pins of the wheel `ring`.
 fn are_pins<const N: usize>(ring: &Ring<N>, text: &[u8]) -> bool
     ensures { result ≡ is_some (option_and_then (pins_of_text ring.now) (joined text.now)) }
 {
@@ -247,7 +247,7 @@ fn are_pins<const N: usize>(ring: &Ring<N>, text: &[u8]) -> bool
     }
 }
 
-/// Whether the text of `cell` can be read, in a row of `model`.
+/// Whether the text of `cell` can be read, in a row of this model.
 pub fn is_read(model: Option<Model>, cell: Cell, text: &[u8]) -> bool
     ensures { result ≡ is_read model cell text.now }
 {

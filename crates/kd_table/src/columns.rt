@@ -1,4 +1,4 @@
-//! The columns of a table, found by the names in the table's first row.
+//! The columns of a table, found by their names in the table's first row.
 ghost use Rattle.std.specs.Prelude.{◌≡◌, ◌≤◌, ◌+◌, Some, find, length};
 ghost use Rattle.std.specs.List.{range_with_len};
 ghost use Rattle.csv.specs.Records.{fields_of};
@@ -10,11 +10,11 @@ use crate::items::is_blank;
 use crate::names::is_named;
 use csv::ByteRecord;
 
-/// The most columns that are looked at.
+/// The most columns that are read.
 pub const COLUMNS: usize = 64;
 
-/// The number of a table's columns, and the columns in which values stand, counted from 0. `None` for columns that the table
-/// lacks.
+/// The number of a table's columns, and the places of those that are read, counted from 0. `None` for a column that the
+/// table doesn't have.
 #[derive(Clone, Copy)]
 pub struct Columns {
     pub count: usize,
@@ -31,7 +31,7 @@ pub struct Columns {
     pub bars: Option<usize>,
 }
 
-/// What `row` has in `column`. Empty if the table lacks the column, or if the row is too short.
+/// The text of `row` in `column`. Empty if the table has no such column, or the row is too short.
 pub fn cell_at(row: &ByteRecord, column: Option<usize>) -> &[u8]
     ensures { result.now ≡ cell_at column (fields_of row.now) }
 {
@@ -41,7 +41,7 @@ pub fn cell_at(row: &ByteRecord, column: Option<usize>) -> &[u8]
     }
 }
 
-/// What `row` has in `column`, or `otherwise` if the row has nothing there.
+/// The text of `row` in `column` or, if it is blank, `otherwise`.
 pub fn cell_or<'a>(otherwise: &'a [u8], row: &'a ByteRecord, column: Option<usize>) -> &'a [u8]
     ensures { result.now ≡ cell_or otherwise.now column (fields_of row.now) }
 {
@@ -49,7 +49,7 @@ pub fn cell_or<'a>(otherwise: &'a [u8], row: &'a ByteRecord, column: Option<usiz
     if is_blank(cell) { otherwise } else { cell }
 }
 
-/// The name of a column in English.
+/// The English name of the column of `cell`.
 pub fn english_name(cell: Cell) -> &'static str
     ensures name { result.now ≡ english_name cell }
     ensures short { length result.now ≤ 32 }
@@ -74,7 +74,7 @@ pub fn english_name(cell: Cell) -> &'static str
     }
 }
 
-/// The name of a column in German.
+/// The German name of the column of `cell`.
 pub fn german_name(cell: Cell) -> &'static str
     ensures name { result.now ≡ german_name cell }
     ensures short { length result.now ≤ 32 }
@@ -99,7 +99,7 @@ pub fn german_name(cell: Cell) -> &'static str
     }
 }
 
-/// A shorter German name of a column; the German name itself where there is none.
+/// The short German name of the column of `cell`; its German name if there is no short one.
 pub fn short_name(cell: Cell) -> &'static str
     ensures name { result.now ≡ short_name cell }
     ensures short { length result.now ≤ 32 }
@@ -113,7 +113,7 @@ pub fn short_name(cell: Cell) -> &'static str
     }
 }
 
-/// Whether `text` is a name of the column of `cell`: in English, in German, or the shorter German name.
+/// Whether `text` is one of the three names of the column of `cell`.
 fn names_column(cell: Cell, text: &[u8]) -> bool
     ensures { result ≡ names_column cell text.now }
 {
@@ -122,7 +122,7 @@ fn names_column(cell: Cell, text: &[u8]) -> bool
         || is_named(short_name(cell), text)
 }
 
-/// The first of `count` columns, from `place` on, with the name of the column of `cell`.
+/// The first of `count` columns, from place `place` on, that has a name of the column of `cell`.
 fn column_from(head: &ByteRecord, cell: Cell, place: usize, count: usize) -> Option<usize>
     requires { place + count ≤ 64 }
     ensures { result ≡ find (λ at. names_column cell (cell_at (Some at) (fields_of head.now)))
@@ -137,14 +137,14 @@ fn column_from(head: &ByteRecord, cell: Cell, place: usize, count: usize) -> Opt
     column_from(head, cell, place + 1, count - 1)
 }
 
-/// The first column with the name of the column of `cell`.
+/// The first column that has a name of the column of `cell`.
 fn column_named(head: &ByteRecord, cell: Cell) -> Option<usize>
     ensures { result ≡ column_named cell (fields_of head.now) }
 {
     column_from(head, cell, 0, COLUMNS)
 }
 
-/// The columns of a Converter's pins.
+/// The columns of a Converter's pins, wheel by wheel.
 fn pin_columns(head: &ByteRecord) -> [Option<usize>; 6]
     ensures { result ≡ pin_columns (fields_of head.now) }
 {

@@ -1,4 +1,4 @@
-//! Writes a month to fill in.
+//! Writes a key sheet to fill in.
 ghost use Rattle.std.specs.{Prelude.{codes, ◌≡◌, ◌+◌, ◌*◌, ◌<◌, ◌≤◌, ◌||◌, ◌++◌, map, length, is_err, replicate}, List.{concat, range_with_len}};
 ghost use Rattle.arrayvec.specs.ArrayString.{array_string_len};
 ghost use Rattle.kd_tables.specs.{Tables.{slots_of}, Writing.{Writes}};
@@ -12,7 +12,7 @@ use kd_sheet::writing::item_text::ItemString;
 use kd_sheet::writing::lines::{FileString, push_list_line, push_text_line};
 use kd_tables::{Device, Model, Sink, put_all};
 
-/// Appends the line of a text of `unknown`: a `?` for each letter.
+/// Appends the line of a key whose text has `count` letters to fill in.
 #[tactic(auto, unfolding(crate::specs::EmptySheet::unknown_line))]
 fn push_unknown(text: &mut FileString, key: Key, count: u8)
     requires room { array_string_len text.old + 24 ≤ 2048 }
@@ -32,7 +32,7 @@ fn push_unknown(text: &mut FileString, key: Key, count: u8)
     push_text_line(text, key, letters);
 }
 
-/// Appends the line of an array of `N` texts, each `item`.
+/// Appends the line of a key whose array has `N` items to fill in, each written `item`.
 #[tactic(auto, unfolding(crate::specs::EmptySheet::unknown_items_line))]
 fn push_unknown_items<const N: usize>(text: &mut FileString, key: Key, item: &str)
     requires room { array_string_len text.old + 36 * N + 15 ≤ 2048 }
@@ -44,7 +44,7 @@ fn push_unknown_items<const N: usize>(text: &mut FileString, key: Key, item: &st
     push_list_line(text, key, &[item; N]);
 }
 
-/// Appends the lines of a rotor machine's day after the first two.
+/// Appends the lines of a rotor machine's day after its number and model.
 fn push_empty_rotor(text: &mut FileString, model: Model)
     requires room { array_string_len text.old ≤ 64 }
     requires slots { 0 < slots_of model }
@@ -63,7 +63,7 @@ fn push_empty_rotor(text: &mut FileString, model: Model)
     push_unknown_items::<4>(text, Key::Groups, "???");
 }
 
-/// Appends the lines of a Converter's day after the first two.
+/// Appends the lines of a Converter's day after its number and model.
 fn push_empty_pin(text: &mut FileString)
     requires { array_string_len text.old ≤ 64 }
     ensures { text.new.bytes ≡ text.old.bytes ++ concat empty_pin_lines }
@@ -74,7 +74,7 @@ fn push_empty_pin(text: &mut FileString)
     push_unknown_items::<27>(text, Key::Rows, "?-?");
 }
 
-/// Appends the lines of a day.
+/// Appends all lines of a day of this model.
 fn push_empty_day(text: &mut FileString, model: Model, number: u8)
     requires { array_string_len text.old ≤ 16 }
     ensures { text.new.bytes ≡ text.old.bytes ++ concat (empty_day_lines model number) }
@@ -86,7 +86,7 @@ fn push_empty_day(text: &mut FileString, model: Model, number: u8)
     }
 }
 
-/// The section of a day. An empty line comes first if `started`.
+/// The section of a day; an empty line comes first if `started`.
 fn empty_section(started: bool, model: Model, number: u8) -> FileString
     ensures { result.bytes ≡ section_text started (empty_day_lines model number) }
 {
@@ -96,7 +96,7 @@ fn empty_section(started: bool, model: Model, number: u8) -> FileString
     text
 }
 
-/// Writes the sections of `count` days, of which the first has the number `number`.
+/// Writes the sections of `count` days from number `number` on.
 fn put_empty<W: Sink>(
     sink: &mut W,
     started: bool,
@@ -119,7 +119,7 @@ fn put_empty<W: Sink>(
     }
 }
 
-/// Writes a month of `days` days of `model` to fill in, with `?` wherever something is missing.
+/// Writes a key sheet to fill in, with `days` days of `model`, and `?` for each missing letter and number.
 ///
 /// A day that still has a `?` is refused. On the fault `Device`, the sink has taken a prefix of the text.
 #[tactic(auto, unfolding(crate::specs::EmptySheet::empty_month_text))]

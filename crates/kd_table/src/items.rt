@@ -17,10 +17,10 @@ use kd_tables::{Letter, Reading, Wheel};
 /// The most bytes, words and values that a cell may have.
 pub const CELL_LIMIT: usize = 192;
 
-/// The values in a cell.
+/// The values in a cell, at most 192.
 pub type Values<T> = ArrayVec<T, 192>;
 
-/// Whether `cell` has nothing but gaps.
+/// Whether `cell` has no bytes but gaps.
 pub fn is_blank(cell: &[u8]) -> bool
     ensures { result ≡ is_blank cell.now }
 {
@@ -32,22 +32,22 @@ pub fn is_blank(cell: &[u8]) -> bool
     true
 }
 
-/// A space for a gap, and a capital letter for a small letter.
+/// The byte in normal form: a space for a gap, a capital letter for a small one.
 pub fn normal(byte: u8) -> u8
     ensures { result ≡ normal byte }
 {
     if is_gap(byte) { 32 } else { capital(byte) }
 }
 
-/// A value that a word of a cell can mean.
+/// A value that a word in a cell can mean.
 pub trait FromWord {
-    /// Which gaps words keep, and which bytes are items by themselves.
+    /// Which bytes are kept though they are gaps, and which bytes are items by themselves.
     ghost bytes: { Bytes };
 
-    /// The item that a word spells, if any.
+    /// The value of a word; `None` if it has none.
     ghost parse: { List ℕ → Option Self };
 
-    /// Whether `byte` is kept as it is.
+    /// Whether `byte` is kept though it may be a gap.
     fn is_kept(byte: u8) -> bool
         ensures { result ≡ bytes.keeps byte };
 
@@ -76,7 +76,7 @@ pub fn push_item_text<T: FromWord>(text: &mut ArrayVec<u8, 384>, cell: &[u8])
     }
 }
 
-/// Appends the values of the words that aren't empty. `None` if a word has no value.
+/// Appends the values of all words that aren't empty. `None` if one of them has no value.
 fn push_values<T: FromWord + Copy + Default>(values: &mut Values<T>, words: &[&[u8]]) -> Option<()>
     requires { length values.old.items + length words.now ≤ 192 }
     ensures { option_map (λ _. values.new.items) result
@@ -94,7 +94,7 @@ fn push_values<T: FromWord + Copy + Default>(values: &mut Values<T>, words: &[&[
     }
 }
 
-/// Reads the words of a cell.
+/// The values of a cell's words; `None` if a word has no value, or the cell is too long.
 pub fn values_in<T: FromWord + Copy + Default>(cell: &[u8]) -> Option<Values<T>>
     ensures { option_map (λ values. values.items) result ≡ values_in T.bytes T.parse cell.now }
 {
@@ -109,7 +109,7 @@ pub fn values_in<T: FromWord + Copy + Default>(cell: &[u8]) -> Option<Values<T>>
     Some(values)
 }
 
-/// Reads a digit.
+/// The digit `byte`; `None` if it isn't a digit.
 fn digit_of(byte: u8) -> Option<u8>
     ensures { result ≡ digit_of byte }
 {
@@ -120,7 +120,7 @@ fn digit_of(byte: u8) -> Option<u8>
     }
 }
 
-/// Reads a number of one or two digits.
+/// The number that a word of one or two digits means.
 fn number_of(word: &[u8]) -> Option<u8>
     ensures { result ≡ number_of word.now }
 {
@@ -135,7 +135,7 @@ fn number_of(word: &[u8]) -> Option<u8>
     }
 }
 
-/// The letter with a number from 1 (A) to 26 (Z).
+/// The letter with this number, from 1 (A) to 26 (Z).
 fn numbered_letter(number: Option<u8>) -> Option<Letter>
     ensures { result ≡ numbered_letter number }
 {
@@ -183,7 +183,7 @@ impl FromWord for Option<Wheel> {
     }
 }
 
-/// A letter: itself, or by its number from 1 (A) to 26 (Z).
+/// A letter, given as itself, or as a number from 1 (A) to 26 (Z).
 impl FromWord for Letter {
     ghost bytes = { letters };
 
@@ -256,7 +256,7 @@ impl FromWord for [Letter; 3] {
     }
 }
 
-/// A bar's reading: the numbers of two wheels, with a hyphen between.
+/// A bar's reading: the numbers of two wheels, with a hyphen between them.
 impl FromWord for Reading {
     ghost bytes = { hyphened };
 
@@ -275,7 +275,7 @@ impl FromWord for Reading {
     }
 }
 
-/// Reads a cell that has one number and nothing else.
+/// The number in a cell; `None` if the cell has anything else.
 pub fn number_in(cell: &[u8]) -> Option<u8>
     ensures { result ≡ number_in cell.now }
 {
@@ -301,7 +301,7 @@ fn push_joined(text: &mut ArrayVec<u8, 192>, cell: &[u8])
     }
 }
 
-/// The letters of `cell`, without the gaps. `None` if the cell is too long.
+/// The bytes of `cell` in normal form, without gaps. `None` if the cell has more than 192 bytes.
 pub fn joined(cell: &[u8]) -> Option<ArrayVec<u8, 192>>
     ensures { option_map (λ text. text.items) result ≡ joined cell.now }
 {

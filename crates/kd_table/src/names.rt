@@ -7,7 +7,7 @@ ghost use Rattle.kd_table.specs.Names.{model_named, names_reflector, wheel_named
 use arrayvec::ArrayVec;
 use kd_tables::{Model, Reflector, Wheel};
 
-/// The capital letter for a small letter; any other byte as it is.
+/// The capital letter for a small letter; any other byte itself.
 pub fn capital(byte: u8) -> u8
     ensures { result ≡ capital byte }
 {
@@ -32,14 +32,15 @@ pub fn is_digit(byte: u8) -> bool
     48 <= byte && byte <= 57
 }
 
-/// Whether `byte` is one of a no-break space, in UTF-8 or Windows-1252.
+/// Whether `byte` belongs to a no-break space, in UTF-8 or Windows-1252.
 fn is_no_break(byte: u8) -> bool
     ensures { result ≡ is_no_break byte }
 {
     byte == 160 || byte == 194
 }
 
-/// Whether `byte` may stand between items.
+/// Whether `byte` is a gap between items: a blank, tab, line end, comma, hyphen, full stop, slash, semicolon, or part
+/// of a no-break space.
 pub fn is_gap(byte: u8) -> bool
     ensures { result ≡ is_gap byte }
 {
@@ -50,7 +51,7 @@ pub fn is_gap(byte: u8) -> bool
         || is_no_break(byte)
 }
 
-/// Appends the bytes of `text` without gaps, with capital letters for small letters.
+/// Appends `text` in capital letters, without gaps.
 fn push_plain(name: &mut ArrayVec<u8, 32>, text: &[u8])
     requires { length name.old.items + length text.now ≤ 32 }
     ensures { name.new.items ≡ name.old.items ++ plain text.now }
@@ -64,7 +65,7 @@ fn push_plain(name: &mut ArrayVec<u8, 32>, text: &[u8])
     }
 }
 
-/// The bytes of `text` without gaps, with capital letters for small letters.
+/// `text` in capital letters, without gaps.
 fn plain(text: &[u8]) -> ArrayVec<u8, 32>
     requires { length text.now ≤ 32 }
     ensures { result.items ≡ plain text.now }
@@ -86,7 +87,7 @@ fn is_quote(bytes: &[u8]) -> bool
     }
 }
 
-/// `cell` without a pair of typographic quotes around it.
+/// `cell` without its pair of typographic quotes, if it has one.
 fn unquoted(cell: &[u8]) -> &[u8]
     ensures value { result.now ≡ unquoted cell.now }
     ensures short { length result.now ≤ length cell.now }
@@ -110,7 +111,7 @@ pub fn is_named(name: &str, cell: &[u8]) -> bool
 /// All models.
 static MODELS: [Model; 4] = [Model::EnigmaI, Model::M3, Model::M4, Model::M209];
 
-/// The first of `models` that `cell` names.
+/// The first of `models` whose name is in `cell`.
 fn model_among(models: &[Model], cell: &[u8]) -> Option<Model>
     ensures { result ≡ find (λ model. is_named (model_text model) cell.now) models.now }
 {
@@ -122,14 +123,14 @@ fn model_among(models: &[Model], cell: &[u8]) -> Option<Model>
     None
 }
 
-/// The model that `cell` names.
+/// The model with the name in `cell`.
 pub fn model_named(cell: &[u8]) -> Option<Model>
     ensures { result ≡ model_named cell.now }
 {
     model_among(&MODELS, cell)
 }
 
-/// The first of `wheels` that `word` names.
+/// The first of `wheels` with the name `word`.
 fn wheel_among(wheels: &[Wheel], word: &[u8]) -> Option<Wheel>
     ensures { result ≡ find (λ wheel. is_named (wheel_text wheel) word.now) wheels.now }
 {
@@ -141,14 +142,14 @@ fn wheel_among(wheels: &[Wheel], word: &[u8]) -> Option<Wheel>
     None
 }
 
-/// The wheel that `word` names.
+/// The wheel with the name `word`.
 pub fn wheel_named(word: &[u8]) -> Option<Wheel>
     ensures { result ≡ wheel_named word.now }
 {
     wheel_among(Model::M4.wheels(), word)
 }
 
-/// The name of a reflector behind `UKW`, for *Umkehrwalze*.
+/// The name of a reflector after `UKW`, for *Umkehrwalze*.
 fn long_name(reflector: Reflector) -> &'static str
     ensures name { result.now ≡ codes "UKW" ++ reflector_text reflector }
     ensures short { length result.now ≤ 32 }
@@ -162,14 +163,14 @@ fn long_name(reflector: Reflector) -> &'static str
     }
 }
 
-/// Whether `cell` has the name of `reflector`, alone or behind `UKW`.
+/// Whether `cell` has the name of `reflector`, alone or after `UKW`.
 fn names_reflector(reflector: Reflector, cell: &[u8]) -> bool
     ensures { result ≡ names_reflector reflector cell.now }
 {
     is_named(reflector.text().as_str(), cell) || is_named(long_name(reflector), cell)
 }
 
-/// The first of `reflectors` that `cell` names.
+/// The first of `reflectors` whose name is in `cell`.
 fn reflector_among(reflectors: &[Reflector], cell: &[u8]) -> Option<Reflector>
     ensures { result ≡ find (λ reflector. names_reflector reflector cell.now) reflectors.now }
 {
@@ -181,7 +182,7 @@ fn reflector_among(reflectors: &[Reflector], cell: &[u8]) -> Option<Reflector>
     None
 }
 
-/// The reflector of `model` that `cell` names. On an M4 the letter B means the thin reflector b.
+/// The reflector of `model` with the name in `cell`. On an M4, the letter B means the thin reflector b.
 pub fn reflector_named(model: Model, cell: &[u8]) -> Option<Reflector>
     ensures { result ≡ reflector_named model cell.now }
 {

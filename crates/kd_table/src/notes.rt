@@ -1,4 +1,6 @@
-//! Tells in words what is wrong with a table. Which rows and cells are told is proved; the words aren't, but tests try them.
+//! Writes notes on what is wrong with a table.
+//!
+//! It is proved which rows and cells have notes. The words of the notes are only tested.
 ghost use Rattle.std.specs.Prelude.{◌≡◌, ◌&&◌, ◌++◌, ◌∷◌, [], codes, flat_map, length, map, slice_get, ℕ, List, IfOk, IfSome};
 ghost use Rattle.csv.specs.Records.{fields_of};
 ghost use Rattle.kd_tables.specs.Ports.{port};
@@ -37,7 +39,7 @@ use std::alloc::Global;
 pub use unread::unread_note;
 use words::Words;
 
-/// Said of a table whose quotes are wrong.
+/// The note on a table whose quotes are wrong.
 const OPEN_QUOTE: &[u8] = b"a quote isn't closed, or something follows the closing quote of a cell";
 
 /// Writes a note, unless `notes` fails.
@@ -48,10 +50,10 @@ pub fn put_note<N: Sink>(notes: &mut N, note: &[u8])
     let _ = put_all(notes, note);
 }
 
-/// Said of a table in which no row has anything under the first row.
+/// The note on a table whose rows under the first row are all blank.
 const NO_DAY: &str = "the table has no row with a day";
 
-/// Appends the lines on the first row: the columns that aren't read, and those that any table needs and this one lacks.
+/// Appends the notes on the first row: on unread columns, and on missing columns that any table needs.
 fn push_head(note: &mut Vec<u8>, head: &Head<'_>) -> Result<(), SpreadsheetFault>
     ensures { IfOk result (λ _. (missing : List (List ℕ)) × (note.new.items ≡ note.old.items
         ++ (unread_note head.now.names ++ flat_map (line_at (codes "row 1: ")) missing))) }
@@ -61,7 +63,7 @@ fn push_head(note: &mut Vec<u8>, head: &Head<'_>) -> Result<(), SpreadsheetFault
     push_words(note, b"row 1: ", &missing_columns(head))
 }
 
-/// Appends the note on a row under the first row. Nothing is said of a blank row.
+/// Appends the notes on a row under the first row; none if it is blank.
 fn push_body_row(
     note: &mut Vec<u8>,
     found: &mut Found,
@@ -82,14 +84,14 @@ fn push_body_row(
     push_row(note, found, head, number, row)
 }
 
-/// Whether the rows so far have nothing, and `row` neither.
+/// Whether `row` is blank, and so are all rows before it, by `blank`.
 fn is_still_blank(blank: bool, head: &Head<'_>, row: &ByteRecord) -> bool
     ensures { result ≡ (blank && is_blank_row head.now.columns (fields_of row.now)) }
 {
     blank && is_blank_row(head.columns(), row)
 }
 
-/// Appends the note on the rows under the first row.
+/// Appends the notes on the rows under the first row.
 fn push_rows(
     note: &mut Vec<u8>,
     table: &[u8],
@@ -112,7 +114,7 @@ fn push_rows(
     push_due_words(note, b"", &Words::new(), blank, NO_DAY)
 }
 
-/// Appends the note on a refused table whose quotes are closed.
+/// Appends the notes on a refused table whose quotes are right.
 fn push_table(
     note: &mut Vec<u8>,
     alloc: Global,
@@ -132,7 +134,7 @@ fn push_table(
     push_rows(note, table, &head, rows)
 }
 
-/// The note on a refused table: the columns that aren't read, and at least a line for each row that isn't a day.
+/// The notes on a refused table: on unread columns, and at least one line for each row that isn't a day.
 pub fn refused_note(
     alloc: Global,
     table: &[u8],

@@ -17,7 +17,7 @@ use kd_sheet::pins_of_text;
 use kd_state::SheetDay;
 use kd_tables::{Letter, Reading, Ring, ring1, ring2, ring3, ring4, ring5, ring6};
 
-/// The pins of the wheel with the letters `ring`, from the letters in `column`.
+/// The pins of the wheel with the letters `ring`, from the letters of its effective pins in `column`.
 fn pins_at<const N: usize>(
     ring: &Ring<N>,
     column: Option<usize>,
@@ -30,7 +30,7 @@ fn pins_at<const N: usize>(
     pins_of_text(ring, text.as_slice())
 }
 
-/// The pins of the six wheels, of which those of the first three are known.
+/// The pins of all six wheels; `one`, `two` and `three` are those of the first three.
 fn pins_after(
     columns: &Columns,
     row: &ByteRecord,
@@ -53,7 +53,7 @@ fn pins_after(
     })
 }
 
-/// The pins of the six wheels.
+/// The pins of all six wheels.
 #[tactic(auto, unfolding(crate::specs::PinRow::pins_in))]
 fn pins_in(columns: &Columns, row: &ByteRecord) -> Option<PinSet>
     ensures { result ≡ pins_in columns.now.pins (fields_of row.now) }
@@ -64,7 +64,7 @@ fn pins_in(columns: &Columns, row: &ByteRecord) -> Option<PinSet>
     pins_after(columns, row, w1, w2, w3)
 }
 
-/// Reads exactly `N` letters.
+/// The letters in a cell, if there are exactly `N`.
 fn letters_in<const N: usize>(text: &[u8]) -> Option<[Letter; N]>
     ensures { result ≡ option_and_then (exactly N) (letters_in text.now) }
 {
@@ -72,7 +72,7 @@ fn letters_in<const N: usize>(text: &[u8]) -> Option<[Letter; N]>
     <[Letter; N]>::try_from(letters.as_slice()).ok()
 }
 
-/// Reads the readings of all bars.
+/// The readings in a cell, if there is one for each bar.
 fn bars_in(text: &[u8]) -> Option<[Reading; 27]>
     ensures { result ≡ option_and_then (exactly 27) (readings_in text.now) }
 {
@@ -80,7 +80,7 @@ fn bars_in(text: &[u8]) -> Option<[Reading; 27]>
     <[Reading; 27]>::try_from(rows.as_slice()).ok()
 }
 
-/// Reads a row as a Converter's day. `None` if it doesn't describe a legal day.
+/// Reads a row as a Converter's day. `None` if the row doesn't have a legal day.
 #[tactic(auto, unfolding(crate::specs::PinRow::pin_values))]
 pub fn pin_day(
     options: &TableOptions<&[u8]>,

@@ -1,20 +1,21 @@
-//! Tests the quotes of a table. The library `csv` refuses nothing: it would read an open quote to the table's end.
+//! Checks the quotes of a table. The library `csv` refuses no table: after an open quote, it would read the rest as one
+//! cell.
 ghost use Rattle.std.specs.Prelude.{◌≡◌, find, if◌then◌else◌};
 ghost use Rattle.csv.specs.Reading.{strip_bom};
 ghost use Rattle.kd_table.specs.Rows.{is_separator, separator_of, ends_cell, quoting_after_byte, quoting_after, may_end, is_well_quoted};
 
-/// Where a place in a table stands, as quotes go.
+/// The state of quotes at a place in a table.
 #[derive(Clone, Copy)]
 pub enum Quoting {
     /// At the start of a cell.
     CellStart,
-    /// In a cell without quotes.
+    /// Within a cell without quotes.
     Unquoted,
-    /// In a quoted cell.
+    /// Within a quoted cell.
     Quoted,
     /// After a quote in a quoted cell, which ends the cell unless another quote follows.
     Closed,
-    /// After a quoted cell that was followed by something else than a separator.
+    /// After a closed quoted cell and a byte that doesn't end a cell.
     Wrong,
 }
 
@@ -37,7 +38,7 @@ fn first_separator(table: &[u8]) -> Option<u8>
     None
 }
 
-/// The first comma, semicolon or tab of `table`, which separates its cells; a comma if there is none.
+/// The separator of the cells of `table`: its first comma, semicolon or tab; a comma if there is none.
 pub fn separator_of(table: &[u8]) -> u8
     ensures { result ≡ separator_of table.now }
 {
@@ -54,7 +55,7 @@ fn ends_cell(separator: u8, byte: u8) -> bool
     byte == separator || byte == 13 || byte == 10
 }
 
-/// Where a table stands after `byte` outside quotes: at the start of a cell if `byte` ends one, and else at `otherwise`.
+/// The state of quotes after `byte`, outside of quotes: `CellStart` if `byte` ends a cell; otherwise `otherwise`.
 fn after_unquoted(separator: u8, byte: u8, otherwise: Quoting) -> Quoting
     ensures { result ≡ (if ends_cell separator byte then Quoting.CellStart else otherwise) }
 {
@@ -66,7 +67,7 @@ fn after_unquoted(separator: u8, byte: u8, otherwise: Quoting) -> Quoting
 }
 
 impl Quoting {
-    /// Where the table stands after one more byte.
+    /// The state of quotes after one more byte.
     pub fn after_byte(self, separator: u8, byte: u8) -> Self
         ensures { result ≡ quoting_after_byte separator self byte }
     {
@@ -82,7 +83,7 @@ impl Quoting {
         }
     }
 
-    /// Whether a table may end here.
+    /// Whether a table may end in this state.
     pub fn may_end(self) -> bool
         ensures { result ≡ may_end self }
     {
@@ -109,7 +110,7 @@ pub fn strip_bom(table: &[u8]) -> &[u8]
     }
 }
 
-/// Where `text` stands at its end.
+/// The state of quotes at the end of `text`.
 fn quoting_after(separator: u8, text: &[u8]) -> Quoting
     ensures { result ≡ quoting_after separator Quoting.CellStart text.now }
 {
@@ -120,7 +121,7 @@ fn quoting_after(separator: u8, text: &[u8]) -> Quoting
     quoting
 }
 
-/// Whether each quoted cell of `table` is closed, and has nothing after the closing quote.
+/// Whether each quoted cell of `table` is closed, and ends with its closing quote.
 pub fn is_well_quoted(table: &[u8]) -> bool
     ensures { result ≡ is_well_quoted table.now }
 {

@@ -13,12 +13,12 @@ use csv::ByteRecord;
 use kd_state::SheetDay;
 use std::alloc::Global;
 
-/// What was read of a table so far.
+/// What the rows of a table so far have.
 #[derive(Drop)]
 pub struct Reading {
-    /// The columns, once the first row was read.
+    /// The columns, after the first row.
     pub columns: Option<Columns>,
-    /// The days that rows describe, each with its own number.
+    /// The days of the rows so far, each with a number of its own.
     pub days: Vec<SheetDay>,
     /// Whether a row was refused.
     pub refused: bool,
@@ -34,7 +34,7 @@ fn is_taken(days: &[SheetDay], number: u8) -> bool
     }
 }
 
-/// Reads a row under the first row, and appends its day. Returns whether a row was refused: this one, or one before.
+/// Reads a row under the first row, and appends its day. Returns whether this row or an earlier one is refused.
 fn read_body_row(
     days: &mut Vec<SheetDay>,
     refused: bool,
@@ -85,7 +85,7 @@ fn read_row(
     Ok(())
 }
 
-/// Reads these rows, of which the first names the columns.
+/// Reads these rows. The first names the columns.
 fn read_all(
     alloc: Global,
     rows: &[ByteRecord],

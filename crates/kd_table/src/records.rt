@@ -1,4 +1,4 @@
-//! Cuts a table into its rows.
+//! Splits a table into its rows.
 ghost use Rattle.std.specs.Prelude.{[], map, IfOk};
 ghost use Rattle.csv.specs.Records.{fields_of};
 ghost use Rattle.kd_table.specs.{Records.{IsReadTo}, Table.{AreRows}};
@@ -8,7 +8,7 @@ use crate::quotes::separator_of;
 use csv::{ByteRecord, ByteRecordsIntoIter, ReaderBuilder};
 use std::alloc::Global;
 
-/// The rows of a table, with its first row. `NoMemory` if there is no memory for them.
+/// The rows of a table, its first row included. `NoMemory` if memory runs out.
 pub fn read_records(alloc: Global, table: &[u8]) -> Result<Vec<ByteRecord>, SpreadsheetFault>
     ensures { IfOk result (λ rows. AreRows table.now (map fields_of rows.items)) }
 {
@@ -24,7 +24,7 @@ pub fn read_records(alloc: Global, table: &[u8]) -> Result<Vec<ByteRecord>, Spre
     Ok(rows)
 }
 
-/// Reads the rows of a table one after another.
+/// An iterator over the rows of a table.
 fn records_of(alloc: Global, table: &[u8]) -> ByteRecordsIntoIter<&[u8]>
     ensures { IsReadTo table.now result [] }
 {

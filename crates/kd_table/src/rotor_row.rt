@@ -15,7 +15,7 @@ use csv::ByteRecord;
 use kd_state::{SheetDay, SheetWheel};
 use kd_tables::{Letter, Model, Wheel};
 
-/// Appends each wheel with its ring and its window letter. `None` unless there are as many rings and letters as wheels.
+/// Appends each wheel with its ring and its window letter. `None` unless there are equally many of each.
 fn push_wheels(
     wheels: &mut Values<SheetWheel>,
     names: &[Option<Wheel>],
@@ -40,7 +40,7 @@ fn push_wheels(
     }
 }
 
-/// Each wheel with its ring and its window letter. `None` unless there are as many rings and letters as wheels.
+/// Each wheel with its ring and its window letter. `None` unless there are equally many of each.
 fn wheels_with(
     names: &Values<Option<Wheel>>,
     rings: &Values<Letter>,
@@ -59,7 +59,7 @@ fn wheels_with(
     Some(wheels)
 }
 
-/// The wheels of a row's day, with their rings and window letters.
+/// The wheels of a row, with their rings and window letters.
 fn seated_in(
     options: &TableOptions<&[u8]>,
     columns: &Columns,
@@ -74,7 +74,7 @@ fn seated_in(
     wheels_with(&names, &rings, &letters)
 }
 
-/// The plugged pairs of a row's day. `None` if the table lacks their column.
+/// The plugged pairs of a row. `None` if the table doesn't have their column.
 fn plugs_in(columns: &Columns, row: &ByteRecord) -> Option<Values<(Letter, Letter)>>
     ensures { option_map (λ pairs. pairs.items) result ≡ plugs_in columns.now (fields_of row.now) }
 {
@@ -82,7 +82,7 @@ fn plugs_in(columns: &Columns, row: &ByteRecord) -> Option<Values<(Letter, Lette
     values_in::<(Letter, Letter)>(cell_at(row, Some(place)))
 }
 
-/// Reads a row as a day of `model`. `None` if it doesn't describe a legal day.
+/// Reads a row as a day of `model`. `None` if the row doesn't have a legal day.
 #[tactic(auto, unfolding(crate::specs::RotorRow::rotor_values))]
 pub fn rotor_day(
     options: &TableOptions<&[u8]>,

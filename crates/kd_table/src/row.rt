@@ -16,7 +16,7 @@ use csv::ByteRecord;
 use kd_state::SheetDay;
 use kd_tables::Model;
 
-/// The columns whose values are read, but for the columns of pins.
+/// The columns that are read, except those of pins.
 pub fn places_of(columns: &Columns) -> [Option<usize>; 10]
     ensures { result ≡ places_of columns.now }
 {
@@ -34,7 +34,7 @@ pub fn places_of(columns: &Columns) -> [Option<usize>; 10]
     ]
 }
 
-/// Whether `row` has nothing in these columns.
+/// Whether `row` is blank in these columns.
 fn has_nothing(row: &ByteRecord, columns: &[Option<usize>]) -> bool
     ensures { result ≡ list_all (λ column. is_blank (cell_at column (fields_of row.now))) columns.now }
 {
@@ -44,14 +44,14 @@ fn has_nothing(row: &ByteRecord, columns: &[Option<usize>]) -> bool
     }
 }
 
-/// Whether `row` has nothing in the columns that are read.
+/// Whether `row` is blank in all columns that are read.
 pub fn is_blank_row(columns: &Columns, row: &ByteRecord) -> bool
     ensures { result ≡ is_blank_row columns.now (fields_of row.now) }
 {
     has_nothing(row, &places_of(columns)) && has_nothing(row, &columns.pins)
 }
 
-/// Whether `row` has nothing in the columns from `start` to `end`.
+/// Whether `row` is blank in the columns from `start` up to `end`.
 fn are_blank(row: &ByteRecord, start: usize, end: usize) -> bool
     ensures { result ≡ list_all (λ place. is_blank (cell_at (Some place) (fields_of row.now)))
         (range_with_len start (end - start)) }
@@ -59,7 +59,7 @@ fn are_blank(row: &ByteRecord, start: usize, end: usize) -> bool
     (start..end).all(|place| is_blank(cell_at(row, Some(place))))
 }
 
-/// Whether `row` has a cell in each of the table's columns, and nothing beyond them.
+/// Whether `row` has a cell in each column of the table, and nothing but blank cells beyond.
 fn fits_columns(columns: &Columns, row: &ByteRecord) -> bool
     ensures { result ≡ fits_columns columns.now (fields_of row.now) }
 {
@@ -67,7 +67,7 @@ fn fits_columns(columns: &Columns, row: &ByteRecord) -> bool
     columns.count <= count && are_blank(row, columns.count, count)
 }
 
-/// Reads a row as a day. `None` if it doesn't describe a legal day.
+/// Reads a row as a day. `None` if the row doesn't have a legal day.
 pub fn row_day(
     options: &TableOptions<&[u8]>,
     columns: &Columns,

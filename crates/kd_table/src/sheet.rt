@@ -1,4 +1,4 @@
-//! The command `sheet`: makes a key sheet of a table.
+//! The command `sheet`: makes a key sheet from a table.
 ghost use Rattle.std.specs.Prelude.{◌≡◌, ◌≢◌, ◌⊎◌, ◌||◌, ◌∷◌, ℕ, Ok, Err, IfOk, IsErr, List, false};
 ghost use Rattle.std.specs.Io.KnownBytes.{Appends};
 ghost use Rattle.kd_tables.specs.Writing.{TakesPrefix};
@@ -47,7 +47,8 @@ fn read_days(
     Ok(days)
 }
 
-/// Tells the faults of a table that is refused for its faults. Returns `fault`, unless memory runs out for telling.
+/// Writes the notes on a table, if `fault` is that it is refused. Returns `fault`, or `NoMemory` if memory runs out for
+/// the notes.
 fn tell_refused<N: Sink>(
     fault: SpreadsheetFault,
     alloc: Global,
@@ -69,7 +70,7 @@ fn tell_refused<N: Sink>(
     fault
 }
 
-/// The note on the columns of a table that aren't read.
+/// The notes on the unread columns of a table.
 fn note_of_columns(alloc: Global, table: &[u8]) -> Result<Vec<u8>, SpreadsheetFault>
     requires { (head : List (List ℕ)) × (rows : List (List (List ℕ))) × AreRows table.now (head ∷ rows) }
     ensures note { IfOk result (λ note. (head : List (List ℕ)) × HasHead table.now head
@@ -82,11 +83,11 @@ fn note_of_columns(alloc: Global, table: &[u8]) -> Result<Vec<u8>, SpreadsheetFa
     }
 }
 
-/// Writes the key sheet that the days of `table` make.
+/// Writes the key sheet with the days of `table`.
 ///
 /// `Refused` if the table is refused: nothing is written, and `notes` gets a line for each fault. On `Device`, the sink
-/// has taken a prefix of the sheet. `notes` gets a line for each column that isn't read, too. On `NoMemory`, nothing is
-/// written, and `notes` may lack lines.
+/// has taken a prefix of the sheet. `notes` also gets a line for each unread column. On `NoMemory`, nothing is written,
+/// and lines may be missing in `notes`.
 pub fn run_sheet<W: Sink, N: Sink>(
     alloc: Global,
     table: &[u8],

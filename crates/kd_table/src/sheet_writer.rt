@@ -1,4 +1,4 @@
-//! Writes key sheets of all models.
+//! Writes key sheets, for all models.
 ghost use Rattle.std.specs.{Prelude.{◌≡◌, ◌≤◌, ◌||◌, ◌++◌, map, length, is_err}, List.{concat}};
 ghost use Rattle.arrayvec.specs.ArrayString.{array_string_len};
 ghost use Rattle.kd_tables.specs.{Text.{letters_text}, Writing.{Writes}};
@@ -23,7 +23,7 @@ pub fn push_day_head(text: &mut FileString, number: u8, model: Model)
     push_text_line(text, Key::Model, model.text().as_str());
 }
 
-/// Writes the rings of `wheels`, as letters.
+/// The rings of `wheels`, as letters.
 fn rings_text(wheels: &[SheetWheel]) -> ItemString
     requires { length wheels.now ≤ 32 }
     ensures { result.bytes ≡ letters_text (map (λ w. w.ring) wheels.now) }
@@ -35,7 +35,7 @@ fn rings_text(wheels: &[SheetWheel]) -> ItemString
     text
 }
 
-/// Writes the window letters of `wheels`.
+/// The window letters of `wheels`.
 fn window_text(wheels: &[SheetWheel]) -> ItemString
     requires { length wheels.now ≤ 32 }
     ensures { result.bytes ≡ letters_text (map (λ w. w.letter) wheels.now) }
@@ -81,7 +81,7 @@ fn push_rotor_day(text: &mut FileString, entry: &RotorEntry)
     push_plugs_lines(text, entry);
 }
 
-/// Appends what a Converter's day has after its number and its model.
+/// Appends the lines of a Converter's day after its number and model.
 fn push_converter_lines(text: &mut FileString, entry: &PinEntry)
     requires legal { IsLegalPinDay (pin_values entry.now) }
     requires room { array_string_len text.old ≤ 64 }
@@ -103,7 +103,7 @@ fn push_pin_day(text: &mut FileString, entry: &PinEntry)
     push_converter_lines(text, entry);
 }
 
-/// The section of `day`: the line `[[day]]` and the lines of the day. An empty line comes first if `started`.
+/// The section of `day`: the line `[[day]]`, and the day's lines. An empty line comes first if `started`.
 fn section_of(started: bool, day: &SheetDay) -> FileString
     ensures { result.bytes ≡ section_text started (day_lines day.now) }
 {
@@ -116,7 +116,7 @@ fn section_of(started: bool, day: &SheetDay) -> FileString
     text
 }
 
-/// Writes the sections of `days`. An empty line comes first if `started`.
+/// Writes the sections of `days`; an empty line comes first if `started`.
 fn put_sections<W: Sink>(sink: &mut W, started: bool, days: &[SheetDay]) -> Result<(), Device>
     ensures text { Writes (W.taken sink.old) (W.taken sink.new)
         (sections_text started (map day_lines days.now)) result }
@@ -134,10 +134,11 @@ fn put_sections<W: Sink>(sink: &mut W, started: bool, days: &[SheetDay]) -> Resu
     }
 }
 
-/// Writes the key sheet that has `days`, in this order.
+/// Writes the key sheet with the days `days`, in this order.
 ///
-/// On the fault `Device`, the sink has taken a prefix of the text. If there is a day, and no two days have the same
-/// number, `read_sheet` reads the text as exactly these days: the law `written_sheets_are_read_back` of `kd_sheet`.
+/// On the fault `Device`, the sink has taken a prefix of the text. If there is a day, and all days have different
+/// numbers, `read_sheet` reads exactly these days in the text: see the law `written_sheets_are_read_back` of
+/// `kd_sheet`.
 #[tactic(auto, unfolding(kd_sheet::specs::SheetText::sheet_text))]
 pub fn write_sheet<W: Sink>(sink: &mut W, days: &[SheetDay]) -> Result<(), Device>
     ensures text { Writes (W.taken sink.old) (W.taken sink.new) (sheet_text days.now) result }

@@ -1,15 +1,15 @@
--- The way of the current around a core, wheel by wheel. No public contract cites this file.
+-- The path of the current around a core, wheel by wheel. No public contract cites this file.
 use Rattle.std.specs.Prelude.{ℕ, List, ◌∷◌}
 use Rattle.kd_tables.specs.Permutation.{followed_by, inverse}
 use Rattle.kd_enigma.specs.Rotor.{rotor}
 use Rattle.kd_state.specs.declared.sheet_day.rotor_entry.SheetWheel.{SheetWheel}
 
--- the way in through a wheel, through `core`, and back through the wheel, while `letter` shows in the wheel's window
+-- the path in through a wheel, through `core`, and back through the wheel, with `letter` in the wheel's window
 unfoldable pub around_one : List ℕ → SheetWheel → ℕ → List ℕ
 around_one core w letter =
     let turns = rotor w.wheel w.ring letter in followed_by turns (followed_by core (inverse turns))
 
--- the way in through wheels, through `core`, and back; the first of the wheels is next to `core`
+-- the path in through wheels, through `core`, and back; the first of the wheels is next to `core`
 abbrev pub around_all : List ℕ → List SheetWheel → List ℕ → List ℕ
 around_all core (w ∷ wheels) (letter ∷ window) = around_all (around_one core w letter) wheels window
 around_all core _ _ = core

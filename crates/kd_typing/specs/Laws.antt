@@ -1,4 +1,4 @@
--- The laws of tables: typing on the table of a machine is pressing the keys of the machine.
+-- What the laws of this crate state: typing on a machine's table gives the same letters as pressing the machine's keys.
 use Rattle.std.specs.Prelude.{◌≡◌, ◌<◌, List, ℕ, All}
 use Rattle.kd_enigma.specs.Cipher.{RotorKey, enigma_cipher, key_turned}
 use Rattle.kd_drum.specs.Converter.{PinKey, converter_cipher, pin_key_turned}
@@ -6,14 +6,14 @@ use Rattle.kd_typing.specs.PinTable.{pin_table, printed_text}
 use Rattle.kd_typing.specs.TableText.{lines_text, pin_lines, pin_table_in, rotor_lines, rotor_table_in}
 use Rattle.kd_typing.specs.RotorTable.{CanShow, rotor_table, typed_by}
 
--- Typing on the table of a key, from any letters in the windows, gives the ciphertext of the key turned to them.
+-- Typing on the table of a key, from any window letters on, gives the ciphertext of the key with these window letters.
 abbrev pub TypingOnRotorTable : Type 0
 TypingOnRotorTable =
     (key : RotorKey) (window text : List ℕ) → CanShow key window → All (λ letter. letter < 26) text
     → typed_by (rotor_table key) window text ≡ enigma_cipher (key_turned key window) text
 
--- Typing on the table of a Converter's key, from any letters on the wheels, gives the ciphertext of the key turned to
--- them.
+-- Typing on the table of a Converter's key, from any wheel letters on, gives the ciphertext of the key with these
+-- letters.
 abbrev pub TypingOnPinTable : Type 0
 TypingOnPinTable =
     (key : PinKey) (letters text : List ℕ) → All (λ letter. letter < 26) text
@@ -21,7 +21,7 @@ TypingOnPinTable =
 
 -- ---- The laws of tables as text.
 
--- The text of a table gives the table back. So typing on the text of a table is typing on the table.
+-- A table that is written as text is read back as the same table, so that typing on its text is typing on the table.
 abbrev pub RotorTablesAreRead : Type 0
 RotorTablesAreRead = (key : RotorKey) → rotor_table_in (lines_text (rotor_lines (rotor_table key))) ≡ rotor_table key
 

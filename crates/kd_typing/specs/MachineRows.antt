@@ -1,10 +1,10 @@
--- The key from which rows are made.
+-- The key of the machine from which the rows of a table are made.
 use Rattle.kd_state.specs.EngineKey as keys
 use Rattle.kd_state.specs.EngineKey.{EngineKey}
 use Rattle.kd_typing.specs.declared.machine_rows.MachineRows.{MachineRows}
 use Rattle.kd_typing.specs.declared.machine_rows.MachineRows.TheVariants.{Rotor, Pin}
 
--- the key of a machine with these rows
+-- the key of the machine with these rows
 abbrev pub rows_key : MachineRows → EngineKey
 rows_key (Rotor key) = keys.Rotor key
 rows_key (Pin key) = keys.Pin key

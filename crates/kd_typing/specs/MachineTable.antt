@@ -1,4 +1,4 @@
--- The table of a machine of any model, and typing on it.
+-- The table of a machine of any model; typing on it looks letters up.
 use Rattle.std.specs.Prelude.{◌≡◌, ◌<◌, List, ℕ, All}
 use Rattle.kd_state.specs.EngineKey.{EngineKey, IsWindow}
 use Rattle.kd_state.specs.EngineKey as keys
@@ -14,8 +14,8 @@ pub data MachineTable : Type 0 where
   Rotor : RotorTable → MachineTable
   Pin : PinTable → MachineTable
 
--- what is typed on a table: the letters that light up or are printed for the keys of `text`, while these letters show
--- before the first key
+-- the letters that light up or are printed when `text` is typed on a table. The machine shows the letters `window`
+-- before the first key.
 abbrev pub typed_on : MachineTable → List ℕ → List ℕ → List ℕ
 typed_on (Rotor table) window text = typed_by table window text
 typed_on (Pin table) window text = printed_text table window text
@@ -25,7 +25,7 @@ abbrev pub table_text : MachineTable → List ℕ
 table_text (Rotor table) = lines_text (rotor_lines table)
 table_text (Pin table) = lines_text (pin_lines table)
 
--- the table of a key
+-- the table of a machine with this key
 abbrev pub table_of_key : EngineKey → MachineTable
 table_of_key (keys.Rotor key) = Rotor (rotor_table key)
 table_of_key (keys.Pin key) = Pin (pin_table key)
@@ -35,7 +35,7 @@ abbrev pub shown_letters : EngineKey → List ℕ
 shown_letters (keys.Rotor key) = key.window
 shown_letters (keys.Pin key) = key.letters
 
--- the table that the script of a page reads from a text; whether it is a rotor machine's or a Converter's is known
+-- the table that the script of a page reads in `text`; the key says whether it is a rotor machine's or a Converter's
 abbrev pub table_in : EngineKey → List ℕ → MachineTable
 table_in (keys.Rotor key) text = Rotor (rotor_table_in text)
 table_in (keys.Pin key) text = Pin (pin_table_in text)
@@ -44,8 +44,8 @@ table_in (keys.Pin key) text = Pin (pin_table_in text)
 abbrev pub machine_table_text : Parts → List ℕ
 machine_table_text machine = table_text (table_of_key (physical_key machine))
 
--- Typing on the text of the machine's table, from any letters that the machine can show, gives the ciphertext of the
--- machine turned to these letters.
+-- Typing on the text of the machine's table, from any letters `window` that the machine can show, gives the ciphertext
+-- of the machine with these letters.
 abbrev pub TypesAsMachine : Parts → Type 0
 TypesAsMachine machine =
     (turned : Parts) (window text : List ℕ) → IsWindow (physical_key machine) window → IsTurnedTo machine window turned

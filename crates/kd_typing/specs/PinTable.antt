@@ -1,4 +1,4 @@
--- The table of a Converter M-209, and typing on it by looking letters up. Wheels are numbered from 1 to 6.
+-- The table of a Converter M-209; typing on it looks letters up. Wheels are numbered from 1 to 6.
 -- Source: War Department TM 11-380
 use Rattle.std.specs.Prelude.{ℕ, ◌+◌, ◌-◌, ◌*◌, ◌/◌, ◌%◌, ◌^◌, nat_eq, nat_le, Bool, false, ◌&&◌, ◌||◌, List, [], ◌∷◌}
 use Rattle.std.specs.Prelude.{length, map, slice_index, slice_index_or}
@@ -10,10 +10,10 @@ use Rattle.kd_pins.specs.PinWheel.{is_effective}
 use Rattle.kd_pins.specs.PinWheels.{acting_offset, pin_wheels, pins_on}
 use Rattle.kd_drum.specs.Converter.{PinKey, shown_place}
 
--- The table of a Converter. `pins` has a list for each wheel: for each letter of the wheel, in the wheel's own order,
--- whether the acting pin is effective while the wheel shows this letter. `rows` has a row for each set of wheels with
--- an effective acting pin: which letter is printed for each letter. The number of a set has a binary digit for each
--- wheel, with wheel 1 first.
+-- The table of a Converter. `pins` has a list for each wheel: it says for each letter of the wheel, in the wheel's own
+-- order, whether the acting pin is effective while the wheel shows this letter. `rows` has a row for each set of wheels
+-- whose acting pins are effective: the letters that are printed for A to Z. A set has a number, with a binary digit for
+-- each wheel, wheel 1 first.
 pub record PinTable : Type 0 where
   pub rows : List (List ℕ)
   pub pins : List (List Bool)
@@ -25,23 +25,23 @@ abbrev pub binary : List Bool → ℕ
 binary [] = 0
 binary (digit ∷ digits) = from_bool digit * 2 ^ length digits + binary digits
 
--- whether a wheel's acting pin is effective while the wheels show these letters
+-- whether the acting pin of wheel `wheel` is effective while the wheels show `letters`
 abbrev pub acts_by : PinTable → List ℕ → ℕ → Bool
 acts_by table letters wheel =
     slice_index_or (slice_index_or table.pins (wheel - 1) []) (shown_place letters wheel) false
 
--- the letter that is printed for a letter while the wheels show these letters
+-- the letter that is printed for `letter` while the wheels show `letters`
 abbrev pub printed_by : PinTable → List ℕ → ℕ → ℕ
 printed_by table letters letter =
     slice_index (slice_index_or table.rows (binary (map (acts_by table letters) pin_wheels)) []) letter
 
--- the letter after the letter that a wheel shows, in the wheel's own order; after the last letter comes the first
+-- the next letter of wheel `wheel` after the one that it shows, in its own order; the first comes after the last
 abbrev pub next_on_wheel : List ℕ → ℕ → ℕ
 next_on_wheel letters wheel =
     slice_index (ring_of wheel) ((shown_place letters wheel + 1) % length (ring_of wheel))
 
--- The letters that are printed for the letters of `text`, one after the other, from these letters on the wheels on.
--- A letter is printed, and then each wheel goes on to its next letter.
+-- The letters that are printed for `text`, one after the other, if the wheels show `letters` at first. After each
+-- printed letter, every wheel moves to its next letter.
 abbrev pub printed_text : PinTable → List ℕ → List ℕ → List ℕ
 printed_text table letters [] = []
 printed_text table letters (letter ∷ text) =
@@ -49,19 +49,19 @@ printed_text table letters (letter ∷ text) =
 
 -- ---- The table of a key.
 
--- whether a wheel is in the set with this number
+-- whether a wheel is in the set `number`
 abbrev pub is_in_row : ℕ → ℕ → Bool
 is_in_row number wheel = (nat_le 1 wheel && nat_le wheel 6) && nat_eq (number / 2 ^ (6 - wheel) % 2) 1
 
--- how many bars have a lug at a wheel of the set with this number
+-- how many bars have a lug at a wheel of the set `number`
 abbrev pub bars_met_in_row : List (ℕ × ℕ) → ℕ → ℕ
 bars_met_in_row bars number = count_by (λ bar. is_in_row number bar.0 || is_in_row number bar.1) bars
 
--- the letters that are printed for A to Z if exactly the wheels of this set have an effective acting pin
+-- the letters that are printed for A to Z while the wheels with an effective acting pin are the set `number`
 unfoldable pub pin_row : PinKey → ℕ → List ℕ
 pin_row key number = map (λ letter. (25 + bars_met_in_row key.bars number - letter) % 26) alphabet
 
--- for each letter of a wheel, whether the acting pin is effective while the wheel shows this letter
+-- whether the acting pin of a wheel is effective while the wheel shows a letter, for each of its letters
 unfoldable pub acting_pins : PinKey → ℕ → List Bool
 acting_pins key wheel =
     map (λ place. is_effective (pins_on key.pins wheel) ((place + acting_offset wheel) % length (ring_of wheel)))
@@ -70,6 +70,6 @@ acting_pins key wheel =
 unfoldable pub pin_rows : PinKey → List (List ℕ)
 pin_rows key = map (pin_row key) (range_with_len 0 64)
 
--- the table of a key
+-- the table of a Converter with this key
 abbrev pub pin_table : PinKey → PinTable
 pin_table key = record { rows = pin_rows key; pins = map (acting_pins key) pin_wheels }

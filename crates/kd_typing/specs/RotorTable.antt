@@ -1,6 +1,6 @@
--- The table of a rotor machine, and typing on it by looking letters up. The right wheel stands at another letter after
--- each press, and the other wheels seldom move. So the way of the current is in two parts: in through plugboard and
--- right wheel; and through the core, which is all that lies to the left of the right wheel.
+-- The table of a rotor machine; typing on it looks letters up. The right wheel moves at each key, the other wheels
+-- seldom. So the path of the current has two parts: in through the plugboard and the right wheel; and through the core,
+-- which is all that lies to the left of the right wheel.
 -- Source: the published accounts of the current's path and of the stepping.
 use Rattle.std.specs.Prelude.{◌≡◌, ℕ, zero, suc, ◌+◌, ◌-◌, ◌*◌, ◌/◌, ◌%◌, ◌^◌, ◌<◌, ◌≤◌, ◌==◌, Bool, false, List, [], ◌∷◌}
 use Rattle.std.specs.Prelude.{length, map, take, drop, slice_get, slice_index, slice_index_or, All, if◌then◌else◌}
@@ -12,10 +12,10 @@ use Rattle.kd_tables.specs.declared.wheel.Wheel.{Wheel}
 use Rattle.kd_step.specs.Stepper.{with_last_moved}
 use Rattle.kd_enigma.specs.Cipher.{RotorKey, IsPlugboard, path, product, rotors}
 
--- The table of a rotor machine. `into` has a row for each letter of the right window: where the current of each key
--- goes, in through plugboard and right wheel. `core` has a row for all letters of the other windows: where the current
--- goes from there, through the core. `steps` has, for each letter of the middle window with each letter of the right
--- window, how many wheels the next press moves.
+-- The table of a rotor machine. `into` has a row for each letter in the right window: the places that the current of
+-- each key reaches, in through the plugboard and the right wheel. `core` has a row for all letters in the other
+-- windows: the places at which the current comes out of the core. `steps` says how many wheels move at the next key,
+-- for each letter in the middle window with each in the right window.
 pub record RotorTable : Type 0 where
   pub into : List (List ℕ)
   pub core : List (List ℕ)
@@ -23,7 +23,7 @@ pub record RotorTable : Type 0 where
 
 -- ---- Typing on a table.
 
--- the items of all slots but the right one, and the item of the right slot alone
+-- the items of all slots except the right one; then the item of the right slot alone
 abbrev pub core_slots : {X : Type 0} → List X → List X
 core_slots slots = take (length slots - 1) slots
 
@@ -34,26 +34,26 @@ right_slot slots = drop (length slots - 1) slots
 abbrev pub letter_in : List ℕ → ℕ → ℕ
 letter_in window from_right = slice_index window (length window - (from_right + 1))
 
--- the number of a row of `core`, from the letters of its windows: as a number with digits from 0 to 25
+-- the number of the row of `core` for these window letters: each letter is a digit from 0 to 25
 abbrev pub row_number : List ℕ → ℕ
 row_number [] = 0
 row_number (letter ∷ letters) = letter * 26 ^ length letters + row_number letters
 
--- the letters in the windows after a press
+-- the window letters after the next key
 abbrev pub window_by : RotorTable → List ℕ → List ℕ
 window_by table window =
     with_last_moved (slice_index table.steps (26 * letter_in window 1 + letter_in window 0)) window
 
--- The letter that lights up for a key while these letters show. The current comes back on the way that it would take
--- into the core from this letter's key.
+-- The letter that lights up for `key` while the windows show `window`. The current comes out of the core at the place
+-- to which this letter's own key would lead.
 abbrev pub lamp_by : RotorTable → List ℕ → ℕ → ℕ
 lamp_by table window key =
     let into = slice_index_or table.into (letter_in window 0) [] in
     let core = slice_index_or table.core (row_number (core_slots window)) [] in
     position_or_len (λ letter. letter == slice_index core (slice_index into key)) into
 
--- The letters that light up if the keys of `text` are pressed, one after the other, from these letters on. A press
--- moves the wheels, and then a lamp lights up.
+-- The letters that light up for the keys of `text`, one after the other, if the windows show `window` at first. At each
+-- key, wheels move before the lamp lights up.
 abbrev pub typed_by : RotorTable → List ℕ → List ℕ → List ℕ
 typed_by table window [] = []
 typed_by table window (key ∷ text) =
@@ -61,11 +61,12 @@ typed_by table window (key ∷ text) =
 
 -- ---- The table of a key.
 
--- where the current of each key goes, through the plugboard and the right wheel, while this letter shows
+-- the places that the current of each key reaches, through the plugboard and the right wheel, with `letter` in the
+-- right window
 unfoldable pub into_row : RotorKey → ℕ → List ℕ
 into_row key letter = product (key.plugs ∷ rotors (right_slot key.wheels) (right_slot key.rings) (letter ∷ []))
 
--- the key of the machine without its right wheel and without its cables
+-- the key of the core: the machine without its right wheel and its cables
 abbrev pub core_key : RotorKey → RotorKey
 core_key key = record {
   wheels = core_slots key.wheels;
@@ -75,26 +76,27 @@ core_key key = record {
   plugs = exchange [];
 }
 
--- the way of the current in the machine without its right wheel and without its cables, while these letters show
+-- the places at which the current comes out of the core, for each place at which it enters, with `window` in the core's
+-- windows
 unfoldable pub core_row : RotorKey → List ℕ → List ℕ
 core_row key window = path (core_key key) window
 
--- the letters of `count` windows that have this number: its last digits, from 0 to 25
+-- the letters of `count` windows with this number: its last `count` digits from 0 to 25
 abbrev pub letters_with_number : ℕ → ℕ → List ℕ
 letters_with_number zero number = []
 letters_with_number (suc count) number = number / 26 ^ count % 26 ∷ letters_with_number count number
 
--- whether a wheel is at one of its notches while this letter shows; wheels are counted from the right, from 0
+-- whether a wheel is at a notch while its window shows `letter`; wheels are counted from the right, from 0
 abbrev pub is_at_notch : List Wheel → ℕ → ℕ → Bool
 is_at_notch wheels from_right letter =
     option_map_or (λ wheel. is_notch wheel letter) (slice_get wheels (length wheels - (from_right + 1))) false
 
--- how many wheels the next press moves while these letters show in the middle window and in the right window
+-- how many wheels move at the next key, with these letters in the middle and the right window
 unfoldable pub wheels_moved : List Wheel → ℕ → ℕ → ℕ
 wheels_moved wheels middle right =
     if is_at_notch wheels 1 middle then 3 else (if is_at_notch wheels 0 right then 2 else 1)
 
--- how many rows the core of a key has
+-- the number of rows of the core
 abbrev pub core_size : RotorKey → ℕ
 core_size key = 26 ^ (length key.wheels - 1)
 
@@ -108,11 +110,11 @@ core_rows key =
 unfoldable pub all_steps : List Wheel → List ℕ
 all_steps wheels = map (λ number. wheels_moved wheels (number / 26) (number % 26)) (range_with_len 0 676)
 
--- the table of a key
+-- the table of a rotor machine with this key
 abbrev pub rotor_table : RotorKey → RotorTable
 rotor_table key = record { into = into_rows key; core = core_rows key; steps = all_steps key.wheels }
 
--- The key is that of a machine of three or four slots, and its windows can show these letters.
+-- The key is one of a machine with three or four slots, and its windows can show these letters.
 pub record CanShow (key : RotorKey) (window : List ℕ) : Type 0 where
   pub least : 3 ≤ length key.wheels
   pub most : length key.wheels ≤ 4

@@ -1,4 +1,4 @@
--- Tables as text: lines of capital letters and digits, with an LF between lines.
+-- Tables as text: lines of capital letters and digits, with LFs between them.
 use Rattle.std.specs.Prelude.{ℕ, ◌+◌, ◌-◌, ◌%◌, ◌==◌, Bool, List, [], ◌∷◌, ◌++◌, drop, flat_map, length, map}
 use Rattle.std.specs.Prelude.{slice_index_or, take}
 use Rattle.std.specs.List.{range_with_len, slice_split}
@@ -9,16 +9,16 @@ use Rattle.kd_pins.specs.PinWheel.{is_effective}
 use Rattle.kd_typing.specs.PinTable.{PinTable}
 use Rattle.kd_typing.specs.RotorTable.{RotorTable}
 
--- the lines, with an LF between each two
+-- the lines, with LFs between them
 abbrev pub lines_text : List (List ℕ) → List ℕ
 lines_text [] = []
 lines_text (line ∷ lines) = line ++ flat_map (λ other. 10 ∷ other) lines
 
--- the numbers from 0 to 9 as digits
+-- numbers from 0 to 9, each as a digit
 abbrev pub digits_text : List ℕ → List ℕ
 digits_text numbers = map (λ number. 48 + number) numbers
 
--- the lines of a rotor machine's table: `steps` as one line of digits, then the rows of `into`, then those of `core`
+-- the lines of a rotor machine's table: `steps` as one line of digits, then the rows of `into`, then the rows of `core`
 abbrev pub rotor_lines : RotorTable → List (List ℕ)
 rotor_lines table = digits_text table.steps ∷ map letters_text table.into ++ map letters_text table.core
 
@@ -26,7 +26,7 @@ rotor_lines table = digits_text table.steps ∷ map letters_text table.into ++ m
 abbrev pub pins_text : List Bool → List ℕ
 pins_text pins = digits_text (map from_bool pins)
 
--- the lines of a Converter's table: for each wheel a line of digits, and then the rows
+-- the lines of a Converter's table: a line of digits for each wheel, then the rows
 abbrev pub pin_lines : PinTable → List (List ℕ)
 pin_lines table = map pins_text table.pins ++ map letters_text table.rows
 
@@ -54,7 +54,7 @@ pin_table_in text =
 
 -- ---- Lines in parts. No public contract cites these definitions.
 
--- the line of a wheel with these pins, whose acting pin is `offset` places past the shown letter
+-- the line of a wheel with these pins. The acting pin is `offset` places after the pin of the shown letter.
 unfoldable pub acting_text : List Bool → ℕ → List ℕ
 acting_text pins offset =
     pins_text (map (λ place. is_effective pins ((place + offset) % length pins)) (range_with_len 0 (length pins)))

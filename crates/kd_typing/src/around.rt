@@ -1,4 +1,4 @@
-//! The way of the current through wheels.
+//! The path of the current through wheels.
 ghost use Rattle.std.specs.Prelude.{◌≡◌, ◌<◌, slice_index};
 ghost use Rattle.kd_enigma.specs.Cipher.{IsPlugboard};
 ghost use Rattle.kd_enigma.specs.Rotor.{rotor, wiring_turned_by};
@@ -9,7 +9,8 @@ use kd_enigma::Plugs;
 use kd_state::SheetWheel;
 use kd_tables::{Letter, unwiring, wiring};
 
-/// Where the current of each key goes, in through plugboard and wheel, while `letter` shows in the wheel's window.
+/// The places that the current of each key reaches, through the plugboard and a wheel, with `letter` in the wheel's
+/// window.
 pub(crate) fn inward(plugs: Plugs, seated: SheetWheel, letter: Letter) -> [Letter; 26]
     requires { IsPlugboard plugs }
     ensures { result ≡ followed_by plugs (rotor seated.wheel seated.ring letter) }
@@ -22,7 +23,8 @@ pub(crate) fn inward(plugs: Plugs, seated: SheetWheel, letter: Letter) -> [Lette
     row
 }
 
-/// The way around `core`: in through `wheels`, through `core`, and back. The first of the wheels is next to `core`.
+/// The path of the current around `core`: in through `wheels`, through `core`, and back. The first of the wheels is
+/// next to `core`.
 pub(crate) fn around_all(
     core: [Letter; 26],
     wheels: &[SheetWheel],
@@ -39,7 +41,7 @@ pub(crate) fn around_all(
     }
 }
 
-/// The way in through a wheel, through `core`, and back, while `letter` shows in the wheel's window.
+/// The path in through a wheel, through `core`, and back through the wheel, with `letter` in the wheel's window.
 fn around_one(core: &[Letter; 26], seated: SheetWheel, letter: Letter) -> [Letter; 26]
     ensures { result ≡ around_one core.now seated letter }
 {
@@ -53,7 +55,7 @@ fn around_one(core: &[Letter; 26], seated: SheetWheel, letter: Letter) -> [Lette
     row
 }
 
-/// Where the current goes from `letter` through a wiring that is turned by `by` places.
+/// The place that the current from `letter` reaches through a wiring that is turned by `by` places.
 #[tactic(auto, using(crate::proofs::WaysAround::turned_at))]
 fn through(wiring: &[Letter; 26], by: Letter, letter: Letter) -> Letter
     ensures value { result ≡ slice_index (wiring_turned_by by wiring.now) letter }

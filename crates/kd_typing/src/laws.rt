@@ -1,19 +1,19 @@
 //! Laws of tables: they follow from the definitions of ciphers and tables, whatever the code does.
 ghost use Rattle.kd_typing.specs.Laws.{PinTablesAreRead, RotorTablesAreRead, TypingOnPinTable, TypingOnRotorTable};
 
-/// Typing on the table of a rotor machine gives the machine's own ciphertext, from any letters in its windows.
+/// Typing on the table of a rotor machine, from any window letters on, gives the machine's own ciphertext.
 #[tactic(auto, using(crate::proofs::RotorTyping::typing_on_rotor_table))]
 pub fn tables_type_as_rotor_machines()
     ensures { TypingOnRotorTable }
 {}
 
-/// Typing on the table of a Converter gives the Converter's own ciphertext, from any letters on its wheels.
+/// Typing on the table of a Converter, from any wheel letters on, gives the Converter's own ciphertext.
 #[tactic(auto, using(crate::proofs::PinTyping::typing_on_pin_table))]
 pub fn tables_type_as_converters()
     ensures { TypingOnPinTable }
 {}
 
-/// The text of a table gives the table back.
+/// A table that is written as text is read back as the same table.
 #[tactic(auto, using(crate::proofs::ReadTables::rotor_tables_are_read, crate::proofs::ReadTables::pin_tables_are_read))]
 pub fn texts_of_tables_are_read()
     ensures rotor { RotorTablesAreRead }

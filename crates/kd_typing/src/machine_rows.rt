@@ -23,7 +23,7 @@ pub enum MachineRows {
 }
 
 impl MachineRows {
-    /// The rows of the table of `machine`, on which a text can be typed as on the machine.
+    /// The rows of the table of `machine`. Typing on the table gives the machine's ciphertext.
     ///
     /// Returns `NotReady` if a slot is empty or a cable has exactly one letter.
     pub fn of(machine: &Machine) -> Result<MachineRows, NotReady>
@@ -44,7 +44,7 @@ impl MachineRows {
         }
     }
 
-    /// Writes the table as lines of text, with an LF between each two.
+    /// Writes the table as lines of text, with LFs between them.
     pub fn draw<W: Sink>(&self, sink: &mut W)
         ensures { Draws W.taken W.has_failed sink.old sink.new
             (table_text (table_of_key (rows_key self.now))) }

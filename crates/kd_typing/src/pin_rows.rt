@@ -7,7 +7,7 @@ use kd_pins::PinSet;
 use kd_tables::{Letter, Reading};
 use std::marker::Model;
 
-/// The pins, the letters and the bars' readings of a Converter, from which the rows of its table are made.
+/// A Converter's pins, letters and readings of bars, from which the rows of its table are made.
 #[derive(Drop)]
 pub struct PinRows {
     pins: PinSet,
@@ -25,7 +25,7 @@ impl Model for PinRows {
 }
 
 impl PinRows {
-    /// The rows for a Converter with these pins, these letters on its wheels, and bars that read as `bars`.
+    /// The rows for a Converter with these pins, these letters on its wheels, and bars with the readings `bars`.
     pub fn new(pins: PinSet, letters: [Letter; 6], bars: [Reading; 27]) -> Self
         ensures { result ≡ record { pins = pins_of pins; letters = letters; bars = bars } }
     {
@@ -36,9 +36,9 @@ impl PinRows {
         }
     }
 
-    /// The letters that are printed for A to Z if exactly the wheels of the set `number` have an effective acting pin.
+    /// The letters that are printed for A to Z while the wheels with an effective acting pin are the set `number`.
     ///
-    /// The number of a set has a binary digit for each wheel, with wheel 1 first.
+    /// The number has a binary digit for each wheel, wheel 1 first.
     pub fn row_at(&self, number: usize) -> [Letter; 26]
         requires { number < 64 }
         ensures { result ≡ pin_row self.now number }
@@ -80,7 +80,7 @@ fn bars_met(bars: &[Reading; 27], number: usize) -> u8
     met
 }
 
-/// Whether a bar that reads as `bar` has a lug at a wheel of the set `number`.
+/// Whether a bar with the reading `bar` has a lug at a wheel of the set `number`.
 fn is_met(bar: Reading, number: usize) -> bool
     ensures { result ≡ (is_in_row number bar.0 || is_in_row number bar.1) }
 {

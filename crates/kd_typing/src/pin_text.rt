@@ -14,8 +14,8 @@ use kd_pictures::template::draw_letter;
 use kd_tables::{Letter, Sink};
 
 impl PinRows {
-    /// Writes the table: for each wheel a line of digits, 1 where the acting pin is effective; then the rows. There is
-    /// an LF between each two lines.
+    /// Writes the table as lines with LFs between them: for each wheel, a line of digits, 1 where the acting pin is
+    /// effective; then the rows.
     pub fn draw<W: Sink>(&self, sink: &mut W)
         ensures { Draws W.taken W.has_failed sink.old sink.new
             (lines_text (pin_lines (pin_table self.now))) }
@@ -57,7 +57,7 @@ impl PinRows {
     }
 }
 
-/// Writes letters without anything between them.
+/// Writes letters with nothing between them.
 fn draw_letters<W: Sink>(sink: &mut W, letters: &[Letter])
     ensures { Draws W.taken W.has_failed sink.old sink.new (letters_text letters.now) }
 {
@@ -77,7 +77,7 @@ fn draw_wheel<W: Sink>(sink: &mut W, pins: &[bool], offset: usize)
     draw(sink, acting_text(pins, offset).as_str());
 }
 
-/// A digit for each letter of a wheel: 1 if the acting pin, `offset` places on, is effective while this letter shows.
+/// The digits for a wheel's letters: 1 if the acting pin, `offset` places after the letter's pin, is effective.
 fn acting_text(pins: &[bool], offset: usize) -> ArrayString<26>
     requires pins { length pins.now ≤ 26 }
     requires offset { offset ≤ 26 }
@@ -90,7 +90,7 @@ fn acting_text(pins: &[bool], offset: usize) -> ArrayString<26>
     text
 }
 
-/// Appends 1 for an effective pin, and 0 for another.
+/// Appends 1 for an effective pin, otherwise 0.
 fn push_digit(text: &mut ArrayString<26>, effective: bool)
     requires { array_string_len text.old < 26 }
     ensures bytes { text.new.bytes ≡ text.old.bytes ++ pins_text (effective ∷ []) }

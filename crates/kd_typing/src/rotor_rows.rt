@@ -48,8 +48,8 @@ impl RotorRows {
         }
     }
 
-    /// Where the current of each key goes, in through plugboard and right wheel, while `letter` shows in the right
-    /// window.
+    /// The places that the current of each key reaches, through the plugboard and the right wheel, with `letter` in the
+    /// right window.
     #[tactic(auto, using(crate::proofs::WaysAround::into_of_wheels))]
     pub fn into_at(&self, letter: Letter) -> [Letter; 26]
         ensures { result ≡ into_row self.now letter }
@@ -58,8 +58,8 @@ impl RotorRows {
         inward(self.plugs, wheels[wheels.len() - 1], letter)
     }
 
-    /// Where a current that enters the core at each place comes back, while `window` shows in the windows of the core: the
-    /// other wheels and the reflector.
+    /// The places at which the current comes out of the core, for each place at which it enters, with `window` in the
+    /// core's windows. The core has the other wheels and the reflector.
     #[tactic(auto, using(crate::proofs::WaysAround::core_of_wheels))]
     pub fn core_at(&self, window: &[Letter]) -> [Letter; 26]
         requires { length window.now + 1 ≡ length self.now.wheels }
@@ -73,7 +73,7 @@ impl RotorRows {
         )
     }
 
-    /// How many wheels the next press moves, while these letters show in the middle window and in the right window.
+    /// How many wheels move at the next key, with these letters in the middle and the right window.
     #[tactic(auto, unfolding(crate::specs::RotorTable::wheels_moved))]
     pub fn steps_at(&self, middle: Letter, right: Letter) -> u8
         ensures value { result ≡ wheels_moved self.now.wheels middle right }
@@ -106,7 +106,7 @@ impl RotorRows {
     }
 }
 
-/// Whether a wheel is at a notch while `letter` shows in its window. Wheels are counted from the right, from 0.
+/// Whether a wheel is at a notch while its window shows `letter`. Wheels are counted from the right, from 0.
 fn is_at_notch(wheels: &[SheetWheel], from_right: usize, letter: Letter) -> bool
     requires { from_right < length wheels.now }
     ensures { result ≡ is_at_notch (map (λ w. w.wheel) wheels.now) from_right letter }

@@ -14,8 +14,8 @@ use kd_state::SheetWheel;
 use kd_tables::{Letter, Sink};
 
 impl RotorRows {
-    /// Writes the table: how many wheels move, as a line of digits; then the rows of the right wheel, from A on; then
-    /// the rows of the core, in the alphabetical order of its windows. There is an LF between each two lines.
+    /// Writes the table as lines with LFs between them: how many wheels move, as a line of digits; then the rows of the
+    /// right wheel, from A on; then the rows of the core, in the alphabetical order of its windows.
     #[tactic(auto, using(crate::proofs::TableTexts::rotor_text_is))]
     pub fn draw<W: Sink>(&self, sink: &mut W)
         ensures { Draws W.taken W.has_failed sink.old sink.new
@@ -26,14 +26,14 @@ impl RotorRows {
         self.draw_core(sink);
     }
 
-    /// Writes the letters in the windows.
+    /// Writes the window letters.
     pub fn draw_shown<W: Sink>(&self, sink: &mut W)
         ensures { Draws W.taken W.has_failed sink.old sink.new (letters_text self.now.window) }
     {
         draw_windows(sink, self.wheels());
     }
 
-    /// The digits of all steps, as one line.
+    /// The line of digits that say how many wheels move.
     fn steps_line(&self) -> ArrayString<676>
         ensures { result.bytes ≡ digits_text (rotor_table self.now).steps }
     {
@@ -84,7 +84,7 @@ impl RotorRows {
     }
 }
 
-/// Writes the letter in the window of each wheel.
+/// Writes the window letter of each wheel.
 fn draw_windows<W: Sink>(sink: &mut W, wheels: &[SheetWheel])
     ensures { Draws W.taken W.has_failed sink.old sink.new
         (letters_text (map (λ w. w.letter) wheels.now)) }
@@ -95,14 +95,14 @@ fn draw_windows<W: Sink>(sink: &mut W, wheels: &[SheetWheel])
     }
 }
 
-/// The three letters that have this number, as a number with digits from 0 to 25.
+/// The three letters that are the last digits of `number`, from 0 (A) to 25 (Z).
 fn three_letters(number: u16) -> [Letter; 3]
     ensures { result ≡ letters_with_number 3 number }
 {
     [letter(number / 676), letter(number / 26), letter(number)]
 }
 
-/// The letter for the last digit of this number.
+/// The letter that is the last digit of `number`, from 0 (A) to 25 (Z).
 fn letter(number: u16) -> Letter
     ensures { result ≡ number % 26 }
 {

@@ -6,7 +6,7 @@ use arrayvec::ArrayString;
 use kd_state::push_letter;
 use kd_tables::Letter;
 
-/// The row as a line of capital letters, with an LF before it.
+/// A row as a line of capital letters, with an LF before it.
 pub(crate) fn row_line(row: &[Letter; 26]) -> ArrayString<27>
     ensures { result.bytes ≡ row_line row.now }
 {

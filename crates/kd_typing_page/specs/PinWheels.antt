@@ -1,4 +1,4 @@
--- The pin wheels, knob and keys of a Converter, in language `l`.
+-- The pin wheels, the knob and the keys on a Converter's page, in language `l`.
 use Rattle.std.specs.Prelude.{decimal, ℕ, List, [], ◌∷◌, ◌++◌, flat_map}
 use Rattle.kd_tables.specs.declared.model.Model.{Model}
 use Rattle.kd_tables.specs.Rings.{ring_of}
@@ -12,17 +12,17 @@ use Rattle.kd_typing_page.specs.declared.texts.TheConstants as texts
 abbrev pub letter_option : ℕ → List ℕ
 letter_option letter = filled texts.LETTER.now (letter_text letter ∷ [])
 
--- a wheel: it can show these letters, in this order
+-- a wheel, with the letters that it can show, in their order
 unfoldable pub wheel_text : Language → ℕ → List ℕ → List ℕ
 wheel_text l wheel letters =
     filled (text_in l texts.WHEEL) (decimal wheel ∷ decimal wheel ∷ decimal wheel ∷ [])
     ++ flat_map letter_option letters ++ filled (text_in l texts.WHEEL_END) (decimal wheel ∷ [])
 
--- the six wheels, each with its letters in their order on the wheel
+-- the six wheels, each with its letters in their order
 unfoldable pub wheels_text : Language → List ℕ
 wheels_text l = flat_map (λ wheel. wheel_text l wheel (ring_of wheel)) pin_wheels
 
--- the wheels, and the knob, keys and tape
+-- the wheels, the knob, the keys and the tape
 unfoldable pub pin_desk : Language → Model → List ℕ
 pin_desk l model =
     filled (text_in l texts.PIN_HEAD) (model_name model ∷ []) ++ wheels_text l

@@ -1,4 +1,4 @@
--- How the machine is set, in words, in language `l`.
+-- The setting of the machine in words, in language `l`.
 use Rattle.std.specs.Prelude.{decimal, ℕ, Bool, true, false, if◌then◌else◌, List, [], ◌∷◌, ◌++◌, flat_map}
 use Rattle.std.specs.Prelude.{Option, Some, None}
 use Rattle.kd_tables.specs.declared.place.Place.{Place}
@@ -18,18 +18,18 @@ use Rattle.kd_pictures.specs.Wheels.{machine_words}
 use Rattle.kd_pictures.specs.Words.{is_converter}
 use Rattle.kd_typing_page.specs.declared.texts.TheConstants as texts
 
--- a rotor machine: its reflector, its wheels with rings and windows, and its cables
+-- the setting of a rotor machine: its reflector, its wheels with rings and window letters, and its cables
 unfoldable pub rotor_setting : Language → Parts → List ℕ
 rotor_setting l m =
     text_in l texts.ROTOR_SETTING ++ machine_words l m ++ text_in l texts.CABLES ++ all_cables l m ++ texts.SETTING_END.now
 
--- a letter, if its pin is effective
+-- the letter of a pin; nothing if the pin isn't effective
 abbrev pub pin_letter : ℕ → Option Bool → List ℕ
 pin_letter letter (Some true) = letter_text letter
 pin_letter letter (Some false) = []
 pin_letter letter None = []
 
--- the effective pins of a wheel with these letters
+-- the letters of a wheel's effective pins
 abbrev pub wheel_pins : Language → Parts → ℕ → List ℕ → List ℕ
 wheel_pins l m wheel letters =
     filled (text_in l texts.WHEEL_PINS) (decimal wheel ∷ [])
@@ -38,12 +38,12 @@ wheel_pins l m wheel letters =
 unfoldable pub pins_text : Language → Parts → List ℕ
 pins_text l m = flat_map (λ wheel. wheel_pins l m wheel (ring_of wheel)) pin_wheels
 
--- the places of a bar's two lugs, after a space
+-- a space, then the places of a bar's two lugs
 abbrev pub bar_text : Option (Place × Place) → List ℕ
 bar_text None = []
 bar_text (Some standing) = filled texts.BAR.now (place_text standing.0 ∷ place_text standing.1 ∷ [])
 
--- a Converter: the letters of its wheels, its effective pins, and its bars
+-- the setting of a Converter: the letters of its wheels, its effective pins, and its bars
 unfoldable pub pin_setting : Language → Parts → List ℕ
 pin_setting l m =
     text_in l texts.PIN_SETTING ++ letters_text (window_of m) ++ text_in l texts.PINS ++ pins_text l m

@@ -1,4 +1,4 @@
--- The page on which a machine is typed on, in language `l`.
+-- The page with which to type on a machine, in language `l`.
 use Rattle.std.specs.Prelude.{ℕ, if◌then◌else◌, List, [], ◌∷◌, ◌++◌}
 use Rattle.kd_tables.specs.declared.model.Model.{Model}
 use Rattle.kd_tables.specs.Text.{letters_text}
@@ -18,13 +18,13 @@ use Rattle.kd_typing_page.specs.PinWheels.{pin_desk}
 use Rattle.kd_typing_page.specs.Setting.{setting_text}
 use Rattle.kd_typing_page.specs.Windows.{rotor_desk}
 
--- all before the body: the title, what the page may run and load, and the style sheet
+-- the file up to its body: the title, the policy on which script and style sheet the page may use, and the style sheet
 unfoldable pub page_head : Language → Model → List ℕ
 page_head l model =
     file_head l ++ filled (text_in l texts.TITLE) (model_name model ∷ []) ++ texts.POLICY.now ++ STYLE.now
     ++ texts.BODY.now
 
--- windows or pin wheels, keys and tape
+-- the parts of the machine on the page: windows or pin wheels, keys and tape
 abbrev pub desk_text : Language → Parts → List ℕ
 desk_text l m = if is_converter (model_of m) then pin_desk l (model_of m) else rotor_desk l m
 
@@ -32,15 +32,15 @@ desk_text l m = if is_converter (model_of m) then pin_desk l (model_of m) else r
 abbrev pub script_words : Language → Model → List ℕ
 script_words l model = if is_converter model then text_in l texts.PIN_WORDS else text_in l texts.ROTOR_WORDS
 
--- what the script reads before the table: the letters that the machine shows, and the words that the script shows
+-- the data that the script reads before the table: the letters that the machine shows, and the script's words
 unfoldable pub data_text : Language → Model → List ℕ → List ℕ
 data_text l model letters = texts.START.now ++ letters_text letters ++ script_words l model
 
--- the script, which is the same in every page, and the end of the file
+-- the script, which is the same on every page, and the end of the file
 unfoldable pub script_text : List ℕ
 script_text = texts.SCRIPT_HEAD.now ++ SCRIPT.now ++ texts.FOOT.now
 
--- The whole page. The text of the machine's table is in it as it is.
+-- The whole page, with the text of the machine's table in it.
 unfoldable pub typing_page : Language → Parts → List ℕ
 typing_page l m =
     page_head l (model_of m) ++ desk_text l m ++ setting_text l m ++ data_text l (model_of m) (window_of m)

@@ -1,9 +1,9 @@
 //! A law of the page's templates.
 ghost use Rattle.kd_typing_page.specs.Plain.{TemplatesTakeTheirValues};
 
-/// In both languages, each template takes the values that the page fills into it.
+/// Each template takes the values that the page fills into it, in both languages.
 ///
-/// The law `kd_pictures::laws::values_are_plain` says that these values have no markup.
+/// The law `kd_pictures::laws::values_are_plain` says that the values have no markup.
 #[tactic(auto, using(crate::proofs::TemplatesChecked::templates_take_their_values))]
 pub fn templates_take_their_values()
     ensures { TemplatesTakeTheirValues }

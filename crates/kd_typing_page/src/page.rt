@@ -1,4 +1,4 @@
-//! The page on which a machine is typed on.
+//! The page with which to type on a machine.
 ghost use Rattle.std.specs.Prelude.{◌≡◌, ◌↔◌, IsOk, OnErr, OnOk};
 ghost use Rattle.kd_pictures.specs.Drawing.{Draws};
 ghost use Rattle.kd_state.specs.Machine.{model_of};
@@ -24,7 +24,8 @@ use kd_state::{Machine, NotReady};
 use kd_tables::{Model, Sink};
 use kd_typing::MachineRows;
 
-/// Writes the page on which `machine` is typed on, in this language. The table in it types as the machine.
+/// Writes the page with which to type on `machine`, in `language`. Typing on the page's table gives the machine's
+/// ciphertext.
 ///
 /// Returns `NotReady`, and writes nothing, if a slot is empty or a cable has exactly one letter.
 pub fn draw_typing_page<W: Sink>(
@@ -43,7 +44,7 @@ pub fn draw_typing_page<W: Sink>(
     Ok(())
 }
 
-/// Writes the page, with the table of these rows.
+/// Writes the page, with the table that has the rows `rows`.
 fn draw_page<W: Sink>(sink: &mut W, language: Language, machine: &Machine, rows: &MachineRows)
     requires { rows_key rows.now ≡ physical_key machine.now }
     ensures { Draws W.taken W.has_failed sink.old sink.new (typing_page language machine.now) }
@@ -57,7 +58,8 @@ fn draw_page<W: Sink>(sink: &mut W, language: Language, machine: &Machine, rows:
     draw_script(sink);
 }
 
-/// Writes all before the body: the title, what the page may run and load, and the style sheet.
+/// Writes the file up to its body: the title, the policy on which script and style sheet the page may use, and the
+/// style sheet.
 fn draw_page_head<W: Sink>(sink: &mut W, language: Language, model: Model)
     ensures { Draws W.taken W.has_failed sink.old sink.new (page_head language model) }
 {
@@ -68,7 +70,7 @@ fn draw_page_head<W: Sink>(sink: &mut W, language: Language, model: Model)
     draw(sink, BODY);
 }
 
-/// Writes what a hand and an eye need: windows, lamps, keys and tape.
+/// Writes the parts of the machine: windows and lamps, or pin wheels; keys and tape.
 fn draw_desk<W: Sink>(sink: &mut W, language: Language, machine: &Machine)
     ensures { Draws W.taken W.has_failed sink.old sink.new (desk_text language machine.now) }
 {
@@ -79,7 +81,7 @@ fn draw_desk<W: Sink>(sink: &mut W, language: Language, machine: &Machine)
     }
 }
 
-/// Writes what the script reads before the table: the letters that the machine shows, and the words of the language.
+/// Writes the data that the script reads before the table: the letters that the machine shows, and the script's words.
 fn draw_data<W: Sink>(sink: &mut W, language: Language, model: Model, rows: &MachineRows)
     ensures { Draws W.taken W.has_failed sink.old sink.new
         (data_text language model (shown_letters (rows_key rows.now))) }

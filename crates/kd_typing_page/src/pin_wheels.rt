@@ -1,4 +1,4 @@
-//! The pin wheels, the knob and the keys of a Converter.
+//! The pin wheels, the knob and the keys on a Converter's page.
 ghost use Rattle.std.specs.Prelude.{◌≡◌, ◌++◌, flat_map};
 ghost use Rattle.kd_pictures.specs.Drawing.{Draws};
 ghost use Rattle.kd_typing_page.specs.PinWheels.{letter_option, pin_desk, wheel_text, wheels_text};
@@ -8,7 +8,7 @@ use kd_pictures::template::{Value, fill, fill_in};
 use kd_pictures::{Language, draw, draw_in};
 use kd_tables::{Letter, Model, Sink, ring1, ring2, ring3, ring4, ring5, ring6};
 
-/// Writes the pin wheels, knob, keys and tape of a Converter.
+/// Writes a Converter's pin wheels, knob, keys and tape.
 pub(crate) fn draw_pin_desk<W: Sink>(sink: &mut W, language: Language, model: Model)
     ensures { Draws W.taken W.has_failed sink.old sink.new (pin_desk language model) }
 {
@@ -31,7 +31,7 @@ fn draw_wheels<W: Sink>(sink: &mut W, language: Language)
     draw_wheel(sink, language, 6, &ring6().letters());
 }
 
-/// Writes the wheel with this number and these letters.
+/// Writes wheel `wheel`, with its letters.
 fn draw_wheel<W: Sink>(sink: &mut W, language: Language, wheel: u8, letters: &[Letter])
     ensures { Draws W.taken W.has_failed sink.old sink.new (wheel_text language wheel letters.now) }
 {

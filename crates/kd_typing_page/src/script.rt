@@ -1,7 +1,7 @@
-//! The script of the page. It is the same in every page, and is trusted: it looks letters up in the page's table, and shows
-//! them.
+//! The script of the page, the same on every page. It looks letters up in the page's table, and shows them. Nothing is
+//! proved of it.
 
-/// The text between the tags of the script. The policy has its SHA-256.
+/// The text between the tags of the script. Its SHA-256 is in the page's policy.
 pub const SCRIPT: &str = "'use strict'
 // This script looks up and shows. What the machine does at a key press stands in the rows of this page.
 const $ = id => document.getElementById(id)

@@ -1,4 +1,4 @@
-//! How the machine is set, in words.
+//! The setting of the machine in words.
 ghost use Rattle.std.specs.Prelude.{◌≡◌, ◌++◌, flat_map};
 ghost use Rattle.kd_state.specs.Machine.{machine_pin, machine_standing};
 ghost use Rattle.kd_state.specs.OwnKeys.{physical_key};
@@ -20,7 +20,7 @@ use kd_state::Machine;
 use kd_tables::{Letter, Sink, Standing, ring1, ring2, ring3, ring4, ring5, ring6};
 use kd_typing::MachineRows;
 
-/// Writes how the machine is set. The rows are those of the machine.
+/// Writes the setting of the machine. `rows` are the rows of its table.
 pub(crate) fn draw_setting<W: Sink>(
     sink: &mut W,
     language: Language,
@@ -37,7 +37,7 @@ pub(crate) fn draw_setting<W: Sink>(
     }
 }
 
-/// Writes a rotor machine's reflector, wheels and cables.
+/// Writes the setting of a rotor machine: its reflector, wheels and cables.
 fn draw_rotor_setting<W: Sink>(sink: &mut W, language: Language, machine: &Machine)
     ensures { Draws W.taken W.has_failed sink.old sink.new (rotor_setting language machine.now) }
 {
@@ -48,7 +48,7 @@ fn draw_rotor_setting<W: Sink>(sink: &mut W, language: Language, machine: &Machi
     draw(sink, SETTING_END);
 }
 
-/// Writes a Converter's letters, effective pins and bars.
+/// Writes the setting of a Converter: its letters, effective pins and bars.
 fn draw_pin_setting<W: Sink>(
     sink: &mut W,
     language: Language,
@@ -79,7 +79,7 @@ fn draw_pins<W: Sink>(sink: &mut W, language: Language, machine: &Machine)
     draw_wheel_pins(sink, language, machine, 6, &ring6().letters());
 }
 
-/// Writes the effective pins of the wheel with these letters.
+/// Writes the letters of the effective pins of wheel `wheel`.
 fn draw_wheel_pins<W: Sink>(
     sink: &mut W,
     language: Language,
@@ -99,7 +99,7 @@ fn draw_wheel_pins<W: Sink>(
     draw_effective(sink, machine, wheel, letters);
 }
 
-/// Writes those of these letters of a wheel that have an effective pin.
+/// Writes those of `letters`, on wheel `wheel`, that have an effective pin.
 fn draw_effective<W: Sink>(sink: &mut W, machine: &Machine, wheel: u8, letters: &[Letter])
     ensures { Draws W.taken W.has_failed sink.old sink.new
         (flat_map (λ letter. pin_letter letter (machine_pin machine.now wheel letter)) letters.now) }
@@ -110,7 +110,7 @@ fn draw_effective<W: Sink>(sink: &mut W, machine: &Machine, wheel: u8, letters: 
     }
 }
 
-/// Writes a letter if its pin is effective.
+/// Writes the letter of a pin; nothing if the pin isn't effective.
 fn draw_pin<W: Sink>(sink: &mut W, letter: Letter, effective: Option<bool>)
     ensures { Draws W.taken W.has_failed sink.old sink.new (pin_letter letter effective) }
 {
@@ -120,7 +120,7 @@ fn draw_pin<W: Sink>(sink: &mut W, letter: Letter, effective: Option<bool>)
     }
 }
 
-/// Writes how the bars with these numbers stand.
+/// Writes the places of the lugs of the bars `bars`.
 fn draw_bars<W: Sink>(sink: &mut W, language: Language, machine: &Machine, bars: &[u8])
     ensures { Draws W.taken W.has_failed sink.old sink.new
         (flat_map (λ bar. bar_text (machine_standing machine.now bar)) bars.now) }
@@ -131,7 +131,7 @@ fn draw_bars<W: Sink>(sink: &mut W, language: Language, machine: &Machine, bars:
     }
 }
 
-/// Writes how a bar stands, after a space.
+/// Writes a space, then the places of a bar's two lugs.
 fn draw_bar<W: Sink>(sink: &mut W, language: Language, standing: Option<Standing>)
     ensures { Draws W.taken W.has_failed sink.old sink.new (bar_text standing) }
 {

@@ -1,6 +1,6 @@
-//! The style sheet of the page, the same in every page.
+//! The style sheet of the page, the same on every page.
 
-/// The text between the tags of the style sheet. The policy has its SHA-256.
+/// The text between the tags of the style sheet. Its SHA-256 is in the page's policy.
 pub const STYLE: &str = ":root{--ink:#111;--paper:#fff;--soft:#555;--line:#aaa;--in:#0b4f8a}
 *{box-sizing:border-box}
 html{touch-action:manipulation;-webkit-text-size-adjust:100%}

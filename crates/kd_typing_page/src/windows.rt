@@ -1,4 +1,4 @@
-//! The windows, lamps and keys of a rotor machine.
+//! The windows, lamps and keys on a rotor machine's page.
 ghost use Rattle.std.specs.Prelude.{◌≡◌, ◌++◌, flat_map};
 ghost use Rattle.kd_state.specs.Machine.{machine_slot, model_of};
 ghost use Rattle.kd_pictures.specs.Drawing.{Draws};
@@ -11,7 +11,7 @@ use kd_pictures::{Language, draw, draw_in};
 use kd_state::Machine;
 use kd_tables::{Sink, Wheel};
 
-/// Writes the windows, lamps, keys and tape of a rotor machine.
+/// Writes a rotor machine's windows, lamps, keys and tape.
 pub(crate) fn draw_rotor_desk<W: Sink>(sink: &mut W, language: Language, machine: &Machine)
     ensures { Draws W.taken W.has_failed sink.old sink.new (rotor_desk language machine.now) }
 {
@@ -23,7 +23,7 @@ pub(crate) fn draw_rotor_desk<W: Sink>(sink: &mut W, language: Language, machine
     draw_in(sink, language, ROTOR_TAPE);
 }
 
-/// Writes the windows of those of these slots that the machine has.
+/// Writes the windows of those slots of `slots` that the machine has.
 fn draw_windows<W: Sink>(sink: &mut W, language: Language, machine: &Machine, slots: &[u8])
     ensures { Draws W.taken W.has_failed sink.old sink.new
         (flat_map (λ slot. slot_window language slot (machine_slot machine.now slot)) slots.now) }
@@ -34,7 +34,7 @@ fn draw_windows<W: Sink>(sink: &mut W, language: Language, machine: &Machine, sl
     }
 }
 
-/// Writes the window of a slot, if the machine has this slot.
+/// Writes the window of a slot; nothing if the machine has no such slot.
 fn draw_slot_window<W: Sink>(
     sink: &mut W,
     language: Language,

@@ -1,4 +1,4 @@
-//! Says what is wrong with the text of a cell.
+//! The words for what is wrong with the text of a cell.
 use super::letter_words::{off_wheel_words, pair_words, pins_words};
 use super::words::Words;
 use crate::cell::{Cell, day_in, slots, windows};
@@ -8,10 +8,10 @@ use arrayvec::ArrayVec;
 use kd_state::split_words;
 use kd_tables::{Letter, Model, Reading, Wheel, allowed, in_box};
 
-/// Said of a cell that has nothing.
+/// The words for a blank cell.
 const NOTHING: &str = "nothing is there";
 
-/// Said of a cell that has too many bytes or words.
+/// The words for a cell with too many bytes or words.
 pub const TOO_LONG: &str = "the cell is too long";
 
 /// Says what is wrong with the text of `cell`, in a row of `model`.
@@ -39,7 +39,7 @@ pub fn cell_words(cell: Cell, model: Option<Model>, text: &[u8]) -> Words {
     words
 }
 
-/// Says which words of `text` have no value, and `what` they aren't. Or that there is nothing.
+/// Says which words of `text` have no value, in the words `what`, such as " isn't a wheel"; or that the cell is blank.
 pub fn item_words<T: FromWord + Copy>(lines: &mut Words, text: &[u8], what: &str) {
     if is_blank(text) {
         lines.tell(NOTHING);
@@ -48,7 +48,7 @@ pub fn item_words<T: FromWord + Copy>(lines: &mut Words, text: &[u8], what: &str
     }
 }
 
-/// Says which words of `text` have no value, and `what` they aren't. Returns false if the cell is too long.
+/// Says which words of `text` have no value, in the words `what`. Returns false if the cell is too long.
 fn has_told_words<T: FromWord + Copy>(lines: &mut Words, text: &[u8], what: &str) -> bool {
     if text.len() > CELL_LIMIT {
         return false;
@@ -64,7 +64,7 @@ fn has_told_words<T: FromWord + Copy>(lines: &mut Words, text: &[u8], what: &str
     }
 }
 
-/// Says which words have no value, and `what` they aren't.
+/// Says of each of `words` without a value what it isn't, in the words `what`.
 fn tell_words<T: FromWord + Copy>(lines: &mut Words, words: &[&[u8]], what: &str) {
     for word in words {
         if !word.is_empty() && T::read_word(word).is_none() {
@@ -73,7 +73,7 @@ fn tell_words<T: FromWord + Copy>(lines: &mut Words, words: &[&[u8]], what: &str
     }
 }
 
-/// Says that there are `found` things in place of `count`.
+/// Says that there are `found` things where `count` are needed. `one` and `many` are the things' name.
 fn count_words(lines: &mut Words, found: usize, count: usize, one: &str, many: &str) {
     lines.begin();
     lines.add_number(found as u64);
@@ -116,7 +116,7 @@ fn reflector_words(lines: &mut Words, model: Option<Model>, text: &[u8]) {
     }
 }
 
-/// Says which words are no letters, or how many letters there are in place of `count`.
+/// Says which words aren't letters, or how many letters there are where `count` are needed.
 fn letter_words(lines: &mut Words, text: &[u8], count: usize) {
     match values_in::<Letter>(text) {
         Some(letters) if letters.len() == count => {}
@@ -135,7 +135,7 @@ fn letter_words(lines: &mut Words, text: &[u8], count: usize) {
     }
 }
 
-/// Says what is wrong with the letters in the windows. A Converter's wheels don't have all letters.
+/// Says what is wrong with the window letters. A Converter's wheels don't have all letters.
 fn window_words(lines: &mut Words, model: Option<Model>, text: &[u8]) {
     letter_words(lines, text, windows(model));
     if model == Some(Model::M209)
@@ -146,7 +146,7 @@ fn window_words(lines: &mut Words, model: Option<Model>, text: &[u8]) {
     }
 }
 
-/// Says which of the letters their wheels lack. The first letter is that of wheel `wheel`.
+/// Says which of the letters aren't on their wheels. The first letter is for wheel `wheel`.
 fn off_wheels_words(lines: &mut Words, wheel: u8, letters: &[Letter]) {
     if let [letter, rest @ ..] = letters {
         off_wheel_words(lines, wheel, *letter);
@@ -170,7 +170,8 @@ fn wheel_words(lines: &mut Words, model: Option<Model>, text: &[u8]) {
     }
 }
 
-/// Says which wheels the model's box lacks, which are there twice, and, if all wheels are there, which can't be where they are.
+/// Says which wheels aren't in the model's box, and which stand twice. If the row has a wheel for each slot
+/// (`is_whole`), also says which can't be in their slots.
 fn seat_words(lines: &mut Words, wheels: &[Option<Wheel>], model: Model, is_whole: bool) {
     for (index, wheel) in wheels.iter().enumerate() {
         if let Some(wheel) = *wheel {
@@ -187,7 +188,7 @@ fn seat_words(lines: &mut Words, wheels: &[Option<Wheel>], model: Model, is_whol
     }
 }
 
-/// Says that the model's box lacks `wheel`, or that it can't be in slot `slot`; 0 if the slot isn't known.
+/// Says that `wheel` isn't in the model's box, or that it can't be in slot `slot`; 0 if the slot isn't known.
 fn one_seat_words(lines: &mut Words, wheel: Wheel, model: Model, slot: u8) {
     if !in_box(model, wheel) {
         one_wheel_words(lines, wheel, no_box_rule(model));
@@ -200,7 +201,7 @@ fn one_wheel_words(lines: &mut Words, wheel: Wheel, words: &str) {
     lines.tell_item("wheel ", wheel.text().as_str().as_bytes(), words);
 }
 
-/// That the box of a model lacks a wheel.
+/// The words for a wheel that isn't in the model's box.
 fn no_box_rule(model: Model) -> &'static str {
     match model {
         Model::EnigmaI => " isn't in the box of an Enigma I, which has I to V",
@@ -208,7 +209,7 @@ fn no_box_rule(model: Model) -> &'static str {
     }
 }
 
-/// Why a wheel of an M4's box can't be where it is.
+/// The words for a wheel of an M4 that can't be in its slot.
 fn seat_rule(wheel: Wheel) -> &'static str {
     match wheel {
         Wheel::Beta | Wheel::Gamma => " can only be at the left",

@@ -1,4 +1,4 @@
-//! What was found in the rows so far.
+//! What the rows so far have: needed for notes on later rows.
 use super::cell_words::day_words;
 use super::head::Head;
 use super::head_words::missing_of_model;
@@ -9,17 +9,17 @@ use arrayvec::ArrayVec;
 use csv::ByteRecord;
 use kd_tables::Model;
 
-/// What was found in the rows so far.
+/// What the rows so far have: needed for notes on later rows.
 #[derive(Drop)]
 pub struct Found {
     /// For each day, the number of the first row that has it; 0 if no row has it.
     rows: [u64; 32],
-    /// The models of which missing columns were told.
+    /// The models for which there are already notes on missing columns.
     models: ArrayVec<Option<Model>, 4>,
 }
 
 impl Found {
-    /// Nothing was found yet.
+    /// The state before the first row.
     pub fn new() -> Self {
         Found {
             rows: [0; 32],
@@ -27,7 +27,7 @@ impl Found {
         }
     }
 
-    /// Says which columns the table lacks that a row needs, at the first row of each model.
+    /// Says which columns the row needs that the table doesn't have; only at the first row of each model.
     pub fn missing(&mut self, head: &Head<'_>, row: &ByteRecord) -> Words {
         match row_model(head.options(), head.columns(), row) {
             Some(model) if !self.models.as_slice().contains(&Some(model)) => {
@@ -38,7 +38,7 @@ impl Found {
         }
     }
 
-    /// Says what is wrong with the day of the row with this number: it can't be read, or an earlier row has it.
+    /// Says what is wrong with the day of row `number`: it can't be read, or an earlier row has it.
     pub fn day_words(&mut self, columns: &Columns, row: &ByteRecord, number: u64) -> Words {
         let mut lines = Words::new();
         if columns.day.is_none() {

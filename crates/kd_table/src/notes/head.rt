@@ -1,10 +1,11 @@
-//! `Head` and `PlacedRow`: what the notes on a table's rows are made of.
+//! `Head` and `PlacedRow`: the values from which notes on a table's rows are made.
 use crate::columns::Columns;
 use crate::options::TableOptions;
 use csv::ByteRecord;
 use std::alloc::Global;
 
-/// What the notes on all rows of a table share: the options, the columns, and the first row, which names them.
+/// The values that the notes on all rows of a table share: the options, the columns, and the first row, with the
+/// columns' names.
 #[derive(Drop)]
 pub struct Head<'a> {
     alloc: Global,
@@ -74,7 +75,7 @@ impl<'a> Head<'a> {
     }
 }
 
-/// A row, and its place, with which its lines begin.
+/// A row, and its place, with which the lines on it begin.
 #[derive(Drop)]
 pub struct PlacedRow<'a> {
     place: &'a [u8],

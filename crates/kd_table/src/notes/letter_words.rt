@@ -1,10 +1,10 @@
-//! Says what is wrong with the letters of pins and of pairs.
+//! The words for what is wrong with the letters of pins and pairs.
 use super::cell_words::{TOO_LONG, item_words};
 use super::words::Words;
 use crate::items::{joined, values_in};
 use kd_tables::{Letter, place_on_wheel};
 
-/// Says that a wheel of a Converter lacks a letter, if it does.
+/// Says that `letter` isn't on a Converter's wheel `wheel`, if so.
 pub fn off_wheel_words(lines: &mut Words, wheel: u8, letter: Letter) {
     if place_on_wheel(wheel, letter).is_none() {
         lines.begin();
@@ -16,7 +16,7 @@ pub fn off_wheel_words(lines: &mut Words, wheel: u8, letter: Letter) {
     }
 }
 
-/// Says what is wrong with the letters of the effective pins of wheel `wheel`.
+/// Says what is wrong with the effective pins of wheel `wheel`.
 pub fn pins_words(lines: &mut Words, text: &[u8], wheel: u8) {
     match joined(text) {
         Some(letters) => pin_letters_words(lines, letters.as_slice(), wheel),
@@ -24,7 +24,7 @@ pub fn pins_words(lines: &mut Words, text: &[u8], wheel: u8) {
     }
 }
 
-/// Says which bytes are no letters of wheel `wheel`, and which are there twice.
+/// Says which bytes aren't letters of wheel `wheel`, and which stand twice.
 fn pin_letters_words(lines: &mut Words, letters: &[u8], wheel: u8) {
     for (index, byte) in letters.iter().enumerate() {
         pin_letter_words(lines, *byte, wheel);
@@ -34,7 +34,7 @@ fn pin_letters_words(lines: &mut Words, letters: &[u8], wheel: u8) {
     }
 }
 
-/// Says that `byte` is no letter, or no letter of wheel `wheel`, if so.
+/// Says that `byte` isn't a letter, or isn't on wheel `wheel`, if so.
 fn pin_letter_words(lines: &mut Words, byte: u8, wheel: u8) {
     match Letter::from_byte(byte) {
         Some(letter) => off_wheel_words(lines, wheel, letter),
@@ -50,7 +50,7 @@ pub fn pair_words(lines: &mut Words, text: &[u8]) {
     }
 }
 
-/// Says which letters are in two pairs, or twice in a pair.
+/// Says which letters are in two pairs, or twice in one pair.
 fn twice_words(lines: &mut Words, pairs: &[(Letter, Letter)]) {
     for (index, pair) in pairs.iter().enumerate() {
         let pair = *pair;
@@ -74,7 +74,7 @@ fn shared_words(lines: &mut Words, other: (Letter, Letter), pair: (Letter, Lette
     }
 }
 
-/// Says that `letter` is in two pairs.
+/// Says that `letter` is in the pairs `one` and `two`.
 fn shared_letter_words(lines: &mut Words, letter: u8, one: &[u8], two: &[u8]) {
     lines.begin();
     lines.add("the letter ");

@@ -1,11 +1,11 @@
-//! Says which column was probably meant by a name that is nearly a column's name.
+//! Finds columns with nearly the name of a missing column.
 use super::head::Head;
 use super::unread::is_column_read;
 use crate::cell::Cell;
 use crate::columns::{COLUMNS, cell_at, english_name, german_name, short_name};
 use crate::names::capital;
 
-/// The first column that isn't read, and whose name is nearly a name of the column of `cell`.
+/// The first unread column with nearly a name of the column of `cell`.
 pub fn near_column(head: &Head<'_>, cell: Cell) -> Option<usize> {
     for place in 0..COLUMNS {
         let name = cell_at(head.names(), Some(place));
@@ -23,7 +23,7 @@ fn is_near_column(cell: Cell, name: &[u8]) -> bool {
         || is_near(name, short_name(cell).as_bytes())
 }
 
-/// Whether `name` differs from `known` in one stretch of at most two letters, or in one letter if `known` is short.
+/// Whether `name` differs from `known` in at most two letters in a row, or in one letter if `known` is short.
 fn is_near(name: &[u8], known: &[u8]) -> bool {
     let slips = if known.len() < 5 { 1 } else { 2 };
     let explained = alike_at_start(name, known)
@@ -32,7 +32,7 @@ fn is_near(name: &[u8], known: &[u8]) -> bool {
     name.len() <= explained && known.len() <= explained && name.len().abs_diff(known.len()) <= slips
 }
 
-/// How many letters are alike at the starts of two names.
+/// How many letters two names share at their starts.
 fn alike_at_start(name: &[u8], known: &[u8]) -> usize {
     match (name, known) {
         ([letter, name @ ..], [other, known @ ..]) if capital(*letter) == capital(*other) => {
@@ -42,7 +42,7 @@ fn alike_at_start(name: &[u8], known: &[u8]) -> usize {
     }
 }
 
-/// How many letters are alike at the ends of two names.
+/// How many letters two names share at their ends.
 fn alike_at_end(name: &[u8], known: &[u8]) -> usize {
     match (name, known) {
         ([name @ .., letter], [known @ .., other]) if capital(*letter) == capital(*other) => {

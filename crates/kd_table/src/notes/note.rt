@@ -1,4 +1,4 @@
-//! Appends lines to a note: each begins with the place of what it tells.
+//! Appends lines to notes: each begins with the place that it is about.
 ghost use Rattle.std.specs.Prelude.{◌≡◌, ◌++◌, ◌∷◌, ◌<◌, [], codes, decimal, ℕ, List, true, flat_map, length, map, IfOk};
 ghost use Rattle.std.specs.List.{slice_split};
 ghost use Rattle.kd_table.specs.Notes.{cell_name, cell_place, line_at, option_name, row_number, row_place, shown, shown_byte};
@@ -22,7 +22,7 @@ pub fn push_bytes(note: &mut Vec<u8>, bytes: &[u8]) -> Result<(), SpreadsheetFau
     Ok(())
 }
 
-/// Appends a line: where something is, and what is said of it.
+/// Appends a line: a place, then words on it.
 pub fn push_line(note: &mut Vec<u8>, place: &[u8], words: &[u8]) -> Result<(), SpreadsheetFault>
     ensures { IfOk result (λ _. note.new.items ≡ note.old.items ++ line_at place.now words.now) }
 {
@@ -31,7 +31,7 @@ pub fn push_line(note: &mut Vec<u8>, place: &[u8], words: &[u8]) -> Result<(), S
     push_bytes(note, b"\n")
 }
 
-/// Appends a line for each line of `words`.
+/// Appends each line of `words`, after the place.
 pub fn push_lines(note: &mut Vec<u8>, place: &[u8], words: &[u8]) -> Result<(), SpreadsheetFault>
     ensures { IfOk result (λ _. (lines : List (List ℕ)) × (0 < length lines)
         × (note.new.items ≡ note.old.items ++ flat_map (line_at place.now) lines)) }
@@ -45,7 +45,7 @@ pub fn push_lines(note: &mut Vec<u8>, place: &[u8], words: &[u8]) -> Result<(), 
     }
 }
 
-/// Appends a line for each line of `words`, if there are any.
+/// Appends each line of `words`, after the place; nothing if there are no words.
 pub fn push_words(note: &mut Vec<u8>, place: &[u8], words: &Words) -> Result<(), SpreadsheetFault>
     ensures { IfOk result (λ _. (lines : List (List ℕ))
         × (note.new.items ≡ note.old.items ++ flat_map (line_at place.now) lines)) }
@@ -56,7 +56,8 @@ pub fn push_words(note: &mut Vec<u8>, place: &[u8], words: &Words) -> Result<(),
     push_lines(note, place, words.as_slice())
 }
 
-/// Appends a line for each line of `words`, and the line `otherwise` if there are none, but something is to be told.
+/// Appends each line of `words`, after the place. If there are no words, but a line `is_due`, appends the line
+/// `otherwise`.
 pub fn push_due_words(
     note: &mut Vec<u8>,
     place: &[u8],
@@ -77,7 +78,7 @@ pub fn push_due_words(
     Ok(())
 }
 
-/// Appends the bytes that are shown for `bytes`.
+/// Appends the bytes `bytes` as they are shown.
 fn push_shown_bytes(note: &mut Vec<u8>, is_long: bool, bytes: &[u8]) -> Result<(), SpreadsheetFault>
     ensures { IfOk result (λ _. note.new.items
         ≡ note.old.items ++ map (shown_byte is_long) bytes.now) }
@@ -89,7 +90,7 @@ fn push_shown_bytes(note: &mut Vec<u8>, is_long: bool, bytes: &[u8]) -> Result<(
     Ok(())
 }
 
-/// Appends what is shown of a cell: of a long cell, only the start.
+/// Appends a cell as it is shown: only the start of a long cell.
 pub fn push_shown(note: &mut Vec<u8>, cell: &[u8]) -> Result<(), SpreadsheetFault>
     ensures { IfOk result (λ _. note.new.items ≡ note.old.items ++ shown cell.now) }
 {
@@ -101,7 +102,7 @@ pub fn push_shown(note: &mut Vec<u8>, cell: &[u8]) -> Result<(), SpreadsheetFaul
     push_shown_bytes(note, false, cell)
 }
 
-/// Appends a number, and then `after`.
+/// Appends a number, then `after`.
 fn push_number(note: &mut Vec<u8>, number: u64, after: &[u8]) -> Result<(), SpreadsheetFault>
     ensures { IfOk result (λ _. note.new.items ≡ note.old.items ++ (decimal number ++ after.now)) }
 {
@@ -109,7 +110,7 @@ fn push_number(note: &mut Vec<u8>, number: u64, after: &[u8]) -> Result<(), Spre
     push_bytes(note, after)
 }
 
-/// Appends a row's number, and its day if the day can be read.
+/// Appends the words for a row's number, and for its day if that is known.
 fn push_row_number(
     place: &mut Vec<u8>,
     number: u64,
@@ -126,7 +127,7 @@ fn push_row_number(
     }
 }
 
-/// Where a row is: its number, and its day if the day can be read.
+/// The words for a row's place: its number, and its day if that is known.
 pub fn row_place(alloc: Global, number: u64, day: Option<u8>) -> Result<Vec<u8>, SpreadsheetFault>
     ensures { IfOk result (λ place. place.items ≡ row_place number day) }
 {
@@ -136,7 +137,7 @@ pub fn row_place(alloc: Global, number: u64, day: Option<u8>) -> Result<Vec<u8>,
     Ok(place)
 }
 
-/// The option that stands for a cell; an empty text if there is none.
+/// The name of the option that replaces a cell; empty if there is none.
 pub fn option_name(cell: Cell) -> &'static str
     ensures { result.now ≡ option_name cell }
 {
@@ -148,7 +149,7 @@ pub fn option_name(cell: Cell) -> &'static str
     }
 }
 
-/// Appends the name of a cell's column, or the option that stands for it.
+/// Appends the name of a cell's column as it stands in the table; if there is no such column, the name of its option.
 fn push_cell_name(place: &mut Vec<u8>, head: &Head<'_>, cell: Cell) -> Result<(), SpreadsheetFault>
     ensures { IfOk result (λ _. place.new.items
         ≡ place.old.items ++ cell_name head.now.columns head.now.names cell) }
@@ -159,7 +160,7 @@ fn push_cell_name(place: &mut Vec<u8>, head: &Head<'_>, cell: Cell) -> Result<()
     }
 }
 
-/// Where a cell is: its row, and its column's name.
+/// The words for a cell's place: its row, and its column's name.
 pub fn cell_place(head: &Head<'_>, row: &[u8], cell: Cell) -> Result<Vec<u8>, SpreadsheetFault>
     ensures { IfOk result (λ place. place.items
         ≡ cell_place head.now.columns head.now.names row.now cell) }

@@ -1,4 +1,4 @@
-//! The note on a row.
+//! The notes on a row.
 ghost use Rattle.std.specs.Prelude.{◌≡◌, ◌++◌, ◌<◌, [], ℕ, List, true, flat_map, length, IfOk};
 ghost use Rattle.std.specs.Option.{option_map_or};
 ghost use Rattle.csv.specs.Records.{fields_of};
@@ -19,7 +19,7 @@ use crate::items::is_blank;
 use crate::row::row_day;
 use csv::ByteRecord;
 
-/// Whether `cell` can't be read, although the table has its column, or an option stands for it.
+/// Whether the text of `cell` can't be read, though the table has its column, or an option replaces it.
 fn is_faulty(head: &Head<'_>, row: &PlacedRow<'_>, cell: Cell) -> bool
     ensures { result ≡ is_faulty head.now.options head.now.columns row.now.cells cell }
 {
@@ -43,7 +43,7 @@ fn words_of(head: &Head<'_>, row: &PlacedRow<'_>, cell: Cell) -> Words {
     cell_words(cell, model, text_of(options, columns, row.cells(), cell))
 }
 
-/// Appends the lines on a cell.
+/// Appends the notes on a cell.
 fn push_cell(
     note: &mut Vec<u8>,
     head: &Head<'_>,
@@ -62,7 +62,7 @@ fn push_cell(
     push_due_words(note, place.as_slice(), words, is_due, "this can't be read")
 }
 
-/// Appends the lines on cells.
+/// Appends the notes on these cells.
 fn push_cells(
     note: &mut Vec<u8>,
     head: &Head<'_>,
@@ -81,7 +81,7 @@ fn push_cells(
     Ok(())
 }
 
-/// The cells of a row of which its model has to be known; none if the model's name can't be read.
+/// The cells of a row that depend on its model; none if the model's name can't be read.
 fn cells_of_row(head: &Head<'_>, row: &PlacedRow<'_>) -> &'static [Cell]
     ensures { result.now ≡ option_map_or cells_of
         (row_model head.now.options head.now.columns row.now.cells) [] }
@@ -89,7 +89,7 @@ fn cells_of_row(head: &Head<'_>, row: &PlacedRow<'_>) -> &'static [Cell]
     known_cells(head.options(), head.columns(), row.cells())
 }
 
-/// Appends the lines on all cells of a row.
+/// Appends the notes on all cells of a row.
 fn push_row_cells(
     note: &mut Vec<u8>,
     head: &Head<'_>,
@@ -107,7 +107,7 @@ fn push_row_cells(
     push_cells(note, head, row, known)
 }
 
-/// Says before which column a row ends, if it ends too early, or what it has beyond the last column.
+/// Says before which column a row ends too early, or which texts it has beyond the last column.
 fn end_words(head: &Head<'_>, row: &ByteRecord) -> Words {
     let mut lines = Words::new();
     let count = head.columns().count;
@@ -124,7 +124,7 @@ fn end_words(head: &Head<'_>, row: &ByteRecord) -> Words {
     lines
 }
 
-/// Whether a row is no day, although the table has all columns that it needs, and nothing was said of its cells.
+/// Whether a row isn't a day, though the table has all columns that it needs, and there are no notes on its cells.
 fn is_untold(head: &Head<'_>, row: &ByteRecord, start: usize, end: usize) -> bool
     ensures { IsNoDay (row_values head.now.options head.now.columns (fields_of row.now))
         → has_columns head.now.options head.now.columns (fields_of row.now) ≡ true
@@ -141,7 +141,7 @@ fn is_untold(head: &Head<'_>, row: &ByteRecord, start: usize, end: usize) -> boo
     }
 }
 
-/// Where a row is: its number, and its day if the day can be read.
+/// The words for a row's place: its number, and its day if that is known.
 fn place_of_row(head: &Head<'_>, number: u64, row: &ByteRecord) -> Result<Vec<u8>, SpreadsheetFault>
     ensures { IfOk result (λ place. place.items
         ≡ row_place number (day_in (cell_at head.now.columns.day (fields_of row.now)))) }
@@ -150,7 +150,7 @@ fn place_of_row(head: &Head<'_>, number: u64, row: &ByteRecord) -> Result<Vec<u8
     row_place(head.alloc(), number, day)
 }
 
-/// Appends the lines on a row's cells, and on the row as a whole.
+/// Appends the notes on a row's cells, and on the row as a whole.
 fn push_placed_row(
     note: &mut Vec<u8>,
     head: &Head<'_>,
@@ -173,7 +173,7 @@ fn push_placed_row(
     )
 }
 
-/// Appends the note on a row that isn't blank, and keeps in mind what was found.
+/// Appends the notes on a row that isn't blank. `found` learns its day and its model.
 pub fn push_row(
     note: &mut Vec<u8>,
     found: &mut Found,

@@ -1,11 +1,11 @@
-//! Counts the rows of a table as a spreadsheet does: empty rows count, and a line end in a quoted cell doesn't.
+//! Numbers the rows of a table as a spreadsheet does: empty rows count, and line ends in quoted cells don't.
 ghost use Rattle.std.specs.Prelude.{◌≡◌, MatchOption, false};
 ghost use Rattle.kd_table.specs.RowNumbers.{AreLineEnds, AtStart, IsCounted, IsNext, IsRowBefore, StartsRow};
 ghost use Rattle.kd_table.specs.RowNumbers.{ends_line, numbers_from, numbers_left};
 
 use crate::quotes::Quoting;
 
-/// What is left of a table, and the number of its first row.
+/// The rest of a table, and the number of its first row.
 #[derive(Drop)]
 pub struct RowNumbers<'a> {
     separator: u8,
@@ -14,7 +14,7 @@ pub struct RowNumbers<'a> {
 }
 
 impl<'a> RowNumbers<'a> {
-    /// The rows of `table`, which begins with row 1.
+    /// All of `table`, which begins with row 1.
     pub fn new(separator: u8, table: &'a [u8]) -> Self
         ensures left { numbers_left result ≡ numbers_from separator (AtStart false) 1 table.now }
         ensures counted { IsCounted result }
@@ -40,7 +40,7 @@ impl<'a> RowNumbers<'a> {
     }
 }
 
-/// What follows a line end at the start of `rest`: CR, LF or both. `None` if there is no line end.
+/// The bytes after the line end with which `rest` begins: CR, LF or both. `None` if it doesn't begin with one.
 fn after_line_end(rest: &[u8]) -> Option<&[u8]>
     ensures { MatchOption result
         (StartsRow rest.now)
@@ -59,7 +59,7 @@ fn ends_line(byte: u8) -> bool
     byte == 13 || byte == 10
 }
 
-/// Skips empty rows: how many there are, and what follows them.
+/// The number of empty rows with which `rest` begins, and the bytes after them.
 fn skip_empty(rest: &[u8]) -> (u64, &[u8])
     ensures skipped { AreLineEnds rest.now result.0 result.1.now }
     ensures starts { StartsRow result.1.now }
@@ -73,7 +73,7 @@ fn skip_empty(rest: &[u8]) -> (u64, &[u8])
     (skipped, left)
 }
 
-/// What follows the row at the start of `rest`, and the row's line end.
+/// The bytes after the first row of `rest` and its line end.
 fn skip_row(separator: u8, rest: &[u8]) -> &[u8]
     requires { StartsRow rest.now }
     ensures { IsRowBefore separator rest.now result.now }

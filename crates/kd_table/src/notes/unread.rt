@@ -1,4 +1,4 @@
-//! The note on the columns that aren't read.
+//! The notes on unread columns.
 ghost use Rattle.std.specs.Prelude.{◌≡◌, ◌++◌, ◌+◌, ◌≤◌, ◌||◌, flat_map, IfOk};
 ghost use Rattle.std.specs.List.{list_any, range_with_len};
 ghost use Rattle.csv.specs.Records.{fields_of};
@@ -13,7 +13,7 @@ use crate::row::places_of;
 use csv::ByteRecord;
 use std::alloc::Global;
 
-/// Whether the column is the one at `place`.
+/// Whether `column` is the column at `place`.
 fn is_at(place: usize, column: Option<usize>) -> bool
     ensures { result ≡ is_at place column }
 {
@@ -23,7 +23,7 @@ fn is_at(place: usize, column: Option<usize>) -> bool
     }
 }
 
-/// Whether one of the columns is the one at `place`.
+/// Whether the column at `place` is one of `columns`.
 fn is_among(place: usize, columns: &[Option<usize>]) -> bool
     ensures { result ≡ list_any (is_at place) columns.now }
 {
@@ -40,7 +40,7 @@ pub fn is_column_read(columns: &Columns, place: usize) -> bool
     is_among(place, &places_of(columns)) || is_among(place, &columns.pins)
 }
 
-/// Appends the line on the column at `place`, if it has a name, and isn't read.
+/// Appends the note on the column at `place`, if it has a name, and isn't read.
 fn push_unread_line(
     note: &mut Vec<u8>,
     columns: &Columns,
@@ -60,7 +60,7 @@ fn push_unread_line(
     push_bytes(note, b": this column isn't read\n")
 }
 
-/// Appends the lines on the columns from `place` on that aren't read.
+/// Appends the notes on unread columns from `place` on.
 fn push_unread(
     note: &mut Vec<u8>,
     columns: &Columns,
@@ -80,7 +80,7 @@ fn push_unread(
     push_unread(note, columns, head, place + 1, count - 1)
 }
 
-/// The note on the columns that aren't read, of the first 64, in a table whose first row is `head`.
+/// The notes on unread columns, of the first 64, in a table whose first row is `head`.
 #[tactic(auto, unfolding(crate::specs::Notes::unread_note))]
 pub fn unread_note(alloc: Global, head: &ByteRecord) -> Result<Vec<u8>, SpreadsheetFault>
     ensures { IfOk result (λ note. note.items ≡ unread_note (fields_of head.now)) }

@@ -1,4 +1,4 @@
-//! Words on one place of a table, line by line.
+//! Lines of words on one place of a table.
 ghost use Rattle.std.specs.Prelude.{◌≡◌, ◌==◌, length};
 ghost use Rattle.kd_table.specs.Notes.{shown_byte};
 
@@ -11,17 +11,16 @@ const SHOWN: usize = 60;
 /// The most bytes in lines of words.
 const ROOM: usize = 2048;
 
-/// Added to lines that have no room for all words.
+/// The last line if there is no room for all lines.
 const MORE: &[u8] = b"\nfurther faults aren't told";
 
-/// Lines of words, with a line end between each two. The first line that has no room is left out, and so are all lines after
-/// it.
+/// Lines of words, with line ends between them. If a line has no room, it is left out with all lines after it.
 #[derive(Drop)]
 pub struct Words {
     text: ArrayVec<u8, 4096>,
-    /// The number of bytes in whole lines.
+    /// The number of bytes in complete lines.
     whole: usize,
-    /// Whether a line had no room.
+    /// Whether a line was left out.
     is_full: bool,
 }
 
@@ -42,14 +41,14 @@ impl Words {
         self.text.is_empty()
     }
 
-    /// The lines, with a line end between each two.
+    /// The lines, with line ends between them.
     pub fn as_slice(&self) -> &[u8]
         ensures { result.now ≡ self.now.text.items }
     {
         self.text.as_slice()
     }
 
-    /// Appends bytes to the line at hand.
+    /// Appends bytes to the current line.
     fn add_bytes(&mut self, bytes: &[u8]) {
         let has_room = self.text.len() < ROOM && bytes.len() < ROOM;
         if !self.is_full && !(has_room && self.text.try_extend_from_slice(bytes).is_ok()) {
@@ -61,32 +60,33 @@ impl Words {
         }
     }
 
-    /// Begins a line.
+    /// Begins a new line.
     pub fn begin(&mut self) {
         if !self.is_empty() {
             self.add("\n");
         }
     }
 
-    /// Appends a text to the line at hand.
+    /// Appends a text to the current line.
     pub fn add(&mut self, text: &str) {
         self.add_bytes(text.as_bytes());
     }
 
-    /// Ends the line at hand.
+    /// Ends the current line.
     pub fn end(&mut self) {
         if !self.is_full {
             self.whole = self.text.len();
         }
     }
 
-    /// Appends a number.
+    /// Appends a number to the current line.
     pub fn add_number(&mut self, number: u64) {
         let mut buffer = Buffer::new();
         self.add(buffer.format(number));
     }
 
-    /// Appends what a cell has, with `?` for bytes that can't be shown. Of a long cell, only the start is shown.
+    /// Appends the text of a cell to the current line, with `?` for bytes that can't be printed. Only the start of a
+    /// long cell is shown.
     pub fn add_cell(&mut self, cell: &[u8]) {
         let is_long = cell.len() > SHOWN;
         for byte in cell.iter().take(SHOWN) {
@@ -104,7 +104,7 @@ impl Words {
         self.end();
     }
 
-    /// Appends a line on an item, which stands between two parts of the line.
+    /// Appends a line: `before`, an item, and `after`.
     pub fn tell_item(&mut self, before: &str, item: &[u8], after: &str) {
         self.begin();
         self.add(before);
@@ -114,7 +114,7 @@ impl Words {
     }
 }
 
-/// The byte that is shown for a byte of a cell.
+/// The byte of a cell as it is shown: `?` if it can't be printed.
 pub fn shown_byte(is_long: bool, byte: u8) -> u8
     ensures { result ≡ shown_byte is_long byte }
 {
