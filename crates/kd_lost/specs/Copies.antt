@@ -8,7 +8,7 @@ use Rattle.kd_lost.specs.declared.damage.PartDamage.{PartDamage}
 use Rattle.kd_lost.specs.declared.damage.PartDamage.TheVariants.{CopiesDiffer, KeyLetterLost}
 use Rattle.kd_lost.specs.Lost.{IsLetterFor}
 
--- The received copies of a key letter are all one letter; lost copies don't count.
+-- All received copies of a key letter are the same letter. Lost copies don't count.
 abbrev pub HaveOneLetter : List (Option ℕ) → Type 0
 HaveOneLetter copies = (letter : ℕ) × All (λ got. IsLetterFor got letter) copies
 
@@ -18,7 +18,7 @@ IsKeyLetterAnswer number copies = do
   _ ← Demands (HaveOneLetter copies) (CopiesDiffer number)
   Finds (λ letter. Contains copies (Some letter)) (KeyLetterLost number)
 
--- The answer for key letters that have one copy in each list. The first of them has the number `number`.
+-- The answer for key letters of which each list has one copy. The first key letter has the number `number`.
 abbrev pub AreKeyLettersAnswer : ℕ → List (Option ℕ) → List (Option ℕ) → AnswerRule PartDamage (List ℕ)
 AreKeyLettersAnswer number (one ∷ start) (other ∷ end) = do
   letter ← IsKeyLetterAnswer number (one ∷ other ∷ [])
@@ -33,8 +33,8 @@ chosen_copies start end =
     slice_index_or start 0 None ∷ slice_index_or start 1 None ∷ slice_index_or end 0 None ∷ slice_index_or end 1 None
     ∷ []
 
--- The answer for the keys, which stand before and after the text: first the chosen letter, number 0, then the external
--- letters, numbered by their wheels.
+-- The answer for the keys, which stand before and after the text. The chosen letter comes first, as number 0. The
+-- external letters follow, numbered by their wheels.
 abbrev pub IsKeysAnswer : List (Option ℕ) → List (Option ℕ) → AnswerRule PartDamage PinKeys
 IsKeysAnswer start end = do
   chosen ← IsKeyLetterAnswer 0 (chosen_copies start end)

@@ -1,4 +1,5 @@
--- What is read of a part in which letters were lost: its numbers, and its text or the reason why there is none.
+-- What is read of a part in which letters were lost: its numbers, and its text. If there is no text, the reason stands
+-- in its place.
 -- Test: tests/messages-as-worked
 use Rattle.std.specs.Prelude.{◌≡◌, ℕ, ◌==◌, ◌||◌, Bool, IsTrue, IsFalse, if◌then◌else◌, List, [], ◌∷◌, length, map, take, All}
 use Rattle.std.specs.Prelude.{filter_map, Option, None, Some, MatchOption}
@@ -33,7 +34,7 @@ body_of (byte ∷ bytes) = if byte == 10 then bytes else body_of bytes
 abbrev pub filled_byte : ℕ → ℕ
 filled_byte byte = if is_lost byte then 66 else meant_byte byte
 
--- `line` is the heading line of `h`, though letters of its keys may be lost.
+-- `line` is the heading line of `h`; letters of the heading's keys may be lost.
 pub record IsDamagedHeading (s : Day) (line : List ℕ) (h : Heading) : Type 0 where
   pub is_heading : IsHeading s h
   pub text : IsLineText (map filled_byte line) (line_of (heading_words h))
@@ -44,8 +45,8 @@ is_body_byte byte = is_lost byte || is_text_byte (meant_byte byte)
 
 -- ---- The letters by which parts are compared.
 
--- the letter that a byte of a body counts as when parts are compared: a letter, a lost letter (also for a sign that may
--- not be in a body), or nothing
+-- The letter that a byte of a body counts as when parts are compared. A sign that may not be in a body counts as a lost
+-- letter, `Some None`. A space or a line end counts as none.
 abbrev pub body_letter : ℕ → Option (Option ℕ)
 body_letter byte = if is_body_byte byte then received_letter byte else Some None
 
@@ -72,15 +73,15 @@ IsDamagedBodyAnswer s h body = do
   _ ← Demands (length (received_letters body) ≡ h.letters) CountWrong
   IsDamagedLettersAnswer s h.indicator (received_letters body)
 
--- The answer for a part whose heading `h` was received as `line`, and whose body is `body`.
+-- The answer for a part. Its heading `h` was received as `line`, and its body is `body`.
 abbrev pub IsHeadedPartAnswer : Day → Heading → List ℕ → List ℕ → AnswerRule PartDamage DamagedText
 IsHeadedPartAnswer s h line body = do
   _ ← Demands (All (λ byte. IsFalse (is_lost byte)) line) HeadingKeyLost
   IsDamagedBodyAnswer s h body
 
--- The answer for a part that consists of `line` and `body`. The tests are, in order: there is a heading; none of its
--- letters is lost; each byte of the body is allowed; the body has as many letters as the heading says. Then come the
--- keys of a Converter's part.
+-- The answer for a part that consists of `line` and `body`. The tests come in this order. There is a heading. None of
+-- its letters is lost. Each byte of the body may be in a body. The body has as many letters as the heading says. Last
+-- come the keys of a Converter's part.
 abbrev pub IsDamagedLinesAnswer : Day → List ℕ → List ℕ → AnswerRule PartDamage DamagedText
 IsDamagedLinesAnswer s line body = do
   h ← Finds (IsDamagedHeading s line) HeadingDamaged
@@ -92,8 +93,8 @@ IsDamagedTextAnswer s part = IsDamagedLinesAnswer s (first_line part) (body_of p
 
 -- ---- What the text of a part is, for all completions.
 
--- Some completion of `part` has a text. For each completion that has one, whatever its group or list letters are,
--- `shown` is this text without the lost letters.
+-- Some completion of `part` has a text. For each completion that has one, `shown` has this text without the lost
+-- letters. The group and the list letters may be any letters.
 pub record IsPartShown (s : Day) (part : List ℕ) (shown : DamagedText) : Type 0 where
   pub whole : List ℕ
   pub heading : Heading

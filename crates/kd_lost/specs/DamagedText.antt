@@ -29,7 +29,7 @@ use Rattle.kd_lost.specs.WholePart.{IsLettersText}
 -- ---- The warnings: the group or the list letters, and the copies of a Converter's indicators.
 
 -- `test` is the result of comparing the group `received` with the day's groups. A group with a lost letter isn't
--- tested.
+-- compared.
 pub data IsGroupTest (s : Day) (received : List (Option ℕ)) (test : GroupTest) : Type 0 where
   GroupRight : (letters : List ℕ) → received ≡ map Some letters → AreADaysGroup s letters → test ≡ tests.Right
       → IsGroupTest s received test
@@ -37,14 +37,15 @@ pub data IsGroupTest (s : Day) (received : List (Option ℕ)) (test : GroupTest)
       → IsGroupTest s received test
   GroupLost : Any (λ got. got ≡ None) received → test ≡ tests.NotTested → IsGroupTest s received test
 
--- At some place, both copies have a lost letter.
+-- Some letter is lost in both copies.
 abbrev pub IsLostInBoth : List (Option ℕ) → List (Option ℕ) → Type 0
 IsLostInBoth (one ∷ start) (other ∷ end) = ((one ≡ None) × (other ≡ None)) ⊎ IsLostInBoth start end
 IsLostInBoth [] end = ⊥
 IsLostInBoth (one ∷ start) [] = ⊥
 
--- `test` is the result of comparing `start` and `end`, the received copies of the list letters, with `due`, the day's.
--- It is `Wrong` if a received letter differs; otherwise `NotTested` if a letter is lost in both copies.
+-- `test` is the result of comparing list letters: the received copies `start` and `end`, with `due`, the day's list
+-- letters. It is `Wrong` if a received letter differs from the day's. Otherwise it is `NotTested` if a letter is lost
+-- in both copies.
 pub data IsListTest (due : List ℕ) (start end : List (Option ℕ)) (test : GroupTest) : Type 0 where
   ListWrong : ¬ (Completes start due × Completes end due) → test ≡ tests.Wrong → IsListTest due start end test
   ListLost : Completes start due → Completes end due → IsLostInBoth start end → test ≡ tests.NotTested
@@ -66,14 +67,14 @@ AreWarnings s None received shown =
 
 -- ---- The text.
 
--- the letters of a body that belong to its text: on a rotor machine, all but the first five; on the Converter M-209,
--- all between the indicators
+-- The letters of a body that belong to its text. On a rotor machine, these are all letters but the first five. On the
+-- Converter M-209, they are all letters between the indicators.
 abbrev pub text_part : {A : Type 0} → Option Indicator → List A → List A
 text_part (Some i) letters = drop 5 letters
 text_part None letters = slice_range letters 10 (length letters - 10)
 
--- `keys` are the keys of the body `received`: on a rotor machine, those in the heading; on the Converter M-209, those
--- in both copies of the indicators, and the internal key that they give.
+-- `keys` are the keys of the body `received`. On a rotor machine, they are the keys in the heading. On the Converter
+-- M-209, they are the keys in both copies of the indicators, and their internal key.
 abbrev pub AreTextKeys : Day → Option Indicator → List (Option ℕ) → TextKeys → Type 0
 AreTextKeys s (Some i) received keys = HasIndicator s (Some i) × (keys ≡ text_keys.Rotor i)
 AreTextKeys s None received keys =
@@ -82,13 +83,14 @@ AreTextKeys s None received keys =
     × IsWindow (sheet_key s) pin.indicator.external
     × IsInternalKey (enciphered_choice s pin.indicator) pin.internal.items
 
--- the letters in the windows, or on the pin wheels, before the text is deciphered: the message key, or the internal key
+-- The letters in the windows, or on the pin wheels, before the text is deciphered. On a rotor machine, they are the
+-- message key; on the Converter M-209, the internal key.
 abbrev pub text_window : Day → TextKeys → List ℕ
 text_window s (text_keys.Rotor i) = deciphered_key s i
 text_window s (text_keys.Pin pin) = pin.internal.items
 
--- `shown` has the text of each completion of `received`, without the lost letters; `received` itself; and the keys.
--- With these keys, the machine gives the letters shown, whatever the lost letters were.
+-- `shown` has the text of each completion of `received`, without the lost letters. It also has `received` itself, and
+-- the keys. With these keys, the machine gives the letters shown, whatever the lost letters were.
 pub record IsTextShown (s : Day) (i : Option Indicator) (received : List (Option ℕ))
     (shown : DamagedText) : Type 0 where
   pub each : (whole text : List ℕ) → Completes received whole → IsLettersText s i whole text
@@ -99,8 +101,9 @@ pub record IsTextShown (s : Day) (i : Option Indicator) (received : List (Option
       → shown.letters.items ≡ covered (text_part i received) (cipher_from s (text_window s shown.keys) whole)
   pub warnings : AreWarnings s i received shown
 
--- The answer for the letters of a body. On a rotor machine, they always give a text. On the Converter M-209, the tests
--- are, in order: the copies give each key letter; each external letter is on its wheel; there is an internal key.
+-- The answer for the letters of a body. On a rotor machine, they always give a text. On the Converter M-209, three
+-- tests come in this order. The copies give each key letter. Each external letter is on its wheel. There is an internal
+-- key.
 abbrev pub IsDamagedLettersAnswer : Day → Option Indicator → List (Option ℕ) → AnswerRule PartDamage DamagedText
 IsDamagedLettersAnswer s (Some i) received = FindsAlways (IsTextShown s (Some i) received)
 IsDamagedLettersAnswer s None received = do

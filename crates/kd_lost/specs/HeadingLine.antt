@@ -1,5 +1,5 @@
--- Which lines of a damaged form are taken for headings: those that begin like `PART`, and have a digit or a slash, or a
--- lost sign at the start of their second word. So a wrong sign in a body begins no part, and a heading begins one even
+-- Which lines of a damaged form are taken for headings. Such a line begins like `PART`. It also has a digit or a slash,
+-- or a lost sign at the start of its second word. So a wrong sign in a body begins no part. A heading begins one even
 -- if some of its signs are lost or wrong.
 -- Test: tests/cases/curator-messages.toml
 use Rattle.std.specs.Prelude.{codes, ℕ, ◌+◌, ◌==◌, ◌&&◌, ◌||◌, nat_le, Bool, false, true, if◌then◌else◌, List, [], ◌∷◌}
@@ -11,12 +11,12 @@ use Rattle.kd_lost.specs.Lost.{meant_byte, is_lost}
 abbrev pub is_blank : ℕ → Bool
 is_blank byte = byte == 32 || byte == 9
 
--- `bytes`, without the blanks at their beginning
+-- `bytes` without the blanks at their beginning
 abbrev pub after_blanks : List ℕ → List ℕ
 after_blanks [] = []
 after_blanks (byte ∷ bytes) = if is_blank byte then after_blanks bytes else byte ∷ bytes
 
--- how many signs of `bytes` equal the sign of `word` at the same place, if small letters mean capitals
+-- how many signs of `bytes` equal the sign of `word` at the same place; small letters mean capitals
 abbrev pub right_signs : List ℕ → List ℕ → ℕ
 right_signs (letter ∷ word) (byte ∷ bytes) = (if meant_byte byte == letter then 1 else 0) + right_signs word bytes
 right_signs [] bytes = 0
@@ -34,7 +34,8 @@ abbrev pub is_letter : Option ℕ → Bool
 is_letter None = false
 is_letter (Some byte) = is_capital (meant_byte byte)
 
--- whether `bytes` begin with `PART`: at least two of its letters are right, at most one is wrong, and no letter follows
+-- Whether `bytes` begin with `PART`. At least two of its letters are right, at most one is wrong, and no fifth letter
+-- follows.
 abbrev pub begins_with_part : List ℕ → Bool
 begins_with_part bytes =
     nat_le 2 (right_signs (codes "PART") bytes) && nat_le 3 (fitting_signs (codes "PART") bytes)
@@ -60,7 +61,7 @@ has_digit_line (byte ∷ bytes) =
 abbrev pub is_part_line : List ℕ → Bool
 is_part_line bytes = begins_with_part (after_blanks bytes) || begins_with_three (after_blanks bytes)
 
--- `bytes` from the blank or LF on that ends their first word
+-- the end of `bytes` that begins with the blank or LF after their first word
 abbrev pub after_word : List ℕ → List ℕ
 after_word [] = []
 after_word (byte ∷ bytes) = if is_blank byte || byte == 10 then byte ∷ bytes else after_word bytes
@@ -75,7 +76,7 @@ abbrev pub is_blank_at : Option ℕ → Bool
 is_blank_at None = false
 is_blank_at (Some byte) = is_blank byte
 
--- whether the first word has three or four signs, so that it may be `PART`, but not a group of five letters
+-- whether the first word has three or four signs; it may be `PART` then, but no group of five letters
 abbrev pub has_short_word : List ℕ → Bool
 has_short_word bytes = is_blank_at (slice_get bytes 3) || is_blank_at (slice_get bytes 4)
 
@@ -119,8 +120,8 @@ abbrev pub has_text_line : List ℕ → Bool
 has_text_line [] = false
 has_text_line (byte ∷ bytes) = if byte == 10 && is_text_line bytes then true else has_text_line bytes
 
--- whether `bytes` look like an order to send: their first line begins like `PART` and has no digit, and a later line is
--- `TEXT`
+-- Whether `bytes` look like an order to send. Their first line begins like `PART`, and has no digit or slash. A later
+-- line is `TEXT`.
 abbrev pub is_order : List ℕ → Bool
 is_order bytes =
     begins_with_part (after_blanks bytes) && not (has_digit_line bytes) && has_text_line bytes

@@ -1,4 +1,4 @@
--- What the laws of this crate state of damaged parts, of their ciphers, and of forms of one message.
+-- What the laws of this crate say about damaged parts, their ciphers, and forms of one message.
 use Rattle.std.specs.Prelude.{◌≡◌, ℕ, false, List, [], ◌∷◌, ◌++◌, All, IsTrue, true, map, slice_get, Option, Some, None}
 use Rattle.std.specs.Prelude.{Result, Ok}
 use Rattle.std.specs.List.{Contains}
@@ -18,8 +18,8 @@ use Rattle.kd_lost.specs.DamagedPart.{AreNumbersRead, IsDamagedTextAnswer, first
 use Rattle.kd_lost.specs.OneMessage.{are_of_one_message, bodies_agree}
 use Rattle.kd_lost.specs.Tidy.{tidied}
 
--- If two texts have the same letter at a place, they are deciphered to the same letter there, whatever their other
--- letters are.
+-- If two texts have the same letter at a place, both are deciphered to the same letter there. The other letters may
+-- differ.
 abbrev pub CiphersAgreeWhereTextsDo : Type 0
 CiphersAgreeWhereTextsDo =
     (key : EngineKey) (text other : List ℕ) (place : ℕ) → slice_get text place ≡ slice_get other place
@@ -64,15 +64,16 @@ abbrev pub IsReadWell : DamagedPart → Type 0
 IsReadWell read =
     (shown : DamagedText) × (read.text ≡ Ok shown) × (shown.group ≡ tests.Right) × AreWholeCopies shown.copies
 
--- If `receive` reads a form, all its parts are read without a warning, and the letters shown are together its text.
+-- If `receive` reads a form, all its parts are read without a warning. The letters shown are, one part after another,
+-- the text of the form.
 abbrev pub FormsReadAreShownWhole : Type 0
 FormsReadAreShownWhole =
     (s : Day) (form text : List ℕ) (reads : List DamagedPart) → IsTextOf s form text
     → AreReadOf s (damaged_parts_of form) reads
     → All IsReadWell reads × (text ≡ map (shown_byte (space_letter s)) (shown_letters reads) ++ 10 ∷ [])
 
--- In a form of one message, any two parts with one number have the same letter at each place where neither body lost
--- it, whether the parts are read or not.
+-- In a form of one message, take any two parts with the same part number. At each place, their bodies have the same
+-- letter, unless one of them lost it. This also holds of parts that aren't read.
 abbrev pub RepetitionsAgree : Type 0
 RepetitionsAgree =
     (before after : List DamagedPart) (one other : DamagedPart) (numbers again : PartNumbers)

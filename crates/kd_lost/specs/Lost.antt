@@ -1,4 +1,4 @@
--- What may have been sent where letters were lost on the air. A lost letter is a `?` or `-`, a small letter means its
+-- What may have been sent if letters were lost on the air. A lost letter is a `?` or `-`, a small letter means its
 -- capital, and a tab means a space.
 -- Code: the reader puts A in place of each lost letter, deciphers, and leaves out what it deciphered there.
 -- Test: tests/messages-as-worked
@@ -13,12 +13,12 @@ use Rattle.kd_form.specs.Sending.{letter_of_byte}
 abbrev pub is_lost : ℕ → Bool
 is_lost byte = byte == 63 || byte == 45
 
--- the byte that is meant: the capital letter for a small one, a space for a tab, otherwise the byte itself
+-- the byte that is meant: the capital letter for a small letter, a space for a tab, otherwise the byte
 abbrev pub meant_byte : ℕ → ℕ
 meant_byte byte = if nat_le 97 byte && nat_le byte 122 then byte - 32 else if byte == 9 then 32 else byte
 
--- `sent` may have been sent where `byte` was received: any capital letter for a lost one, otherwise the byte that is
--- meant.
+-- `sent` may have been sent where `byte` was received. For a lost letter, that is any capital letter; otherwise it is
+-- the byte that is meant.
 pub data MayHaveBeen (byte sent : ℕ) : Type 0 where
   AnyLetter : IsTrue (is_lost byte) → IsTrue (is_capital sent) → MayHaveBeen byte sent
   AsReceived : IsFalse (is_lost byte) → sent ≡ meant_byte byte → MayHaveBeen byte sent
@@ -32,7 +32,7 @@ IsCompletion (byte ∷ received) [] = ⊥
 
 -- ---- Letters: `None` is a lost one.
 
--- the letter that a byte of a body stands for: `Some None` for a lost letter, `None` for no letter
+-- the letter that a byte of a body stands for; `Some None` for a lost letter, `None` for no letter
 abbrev pub received_letter : ℕ → Option (Option ℕ)
 received_letter byte = if is_lost byte then Some None else option_map Some (letter_of_byte None (meant_byte byte))
 

@@ -16,7 +16,7 @@ letter_agrees (Some one) (Some other) = one == other
 letter_agrees (Some one) None = true
 letter_agrees None other = true
 
--- whether two bodies are equally long, and agree at each place
+-- whether two bodies are equally long, and have agreeing letters at each place
 abbrev pub letters_agree : List (Option ℕ) → List (Option ℕ) → Bool
 letters_agree (letter ∷ one) (again ∷ other) = letter_agrees letter again && letters_agree one other
 letters_agree [] [] = true
@@ -30,8 +30,8 @@ same_letters (letter ∷ one) (again ∷ other) = letter == again && same_letter
 same_letters [] (again ∷ other) = false
 same_letters (letter ∷ one) [] = false
 
--- whether the keys are the same: on a rotor machine, both keys of the heading; on the Converter M-209, the letters of the
--- indicators
+-- Whether the keys are the same. On a rotor machine, these are both keys of the heading; on the Converter M-209, the
+-- letters of the indicators.
 abbrev pub same_keys : TextKeys → TextKeys → Bool
 same_keys (text_keys.Rotor one) (text_keys.Rotor other) =
     same_letters one.ground_setting other.ground_setting && same_letters one.enciphered_key other.enciphered_key
@@ -49,7 +49,7 @@ texts_agree (Err damage) other = true
 
 -- ---- Any two parts, be they read or not.
 
--- whether two bodies agree at each place at which both have a letter
+-- whether two bodies have agreeing letters at each place, up to the end of the shorter body
 abbrev pub bodies_agree : List (Option ℕ) → List (Option ℕ) → Bool
 bodies_agree (letter ∷ one) (again ∷ other) = letter_agrees letter again && bodies_agree one other
 bodies_agree [] other = true
@@ -94,8 +94,8 @@ counts_agree one other =
 abbrev pub heading_repeats : DamagedPart → DamagedPart → Bool
 heading_repeats one other = counts_agree one other && keys_agree one other
 
--- whether two parts may be the same part, sent twice: their bodies agree; if both are read, their texts agree; neither
--- is longer than the other, if the other is read; and the counts and keys in their headings agree
+-- Whether two parts may be the same part, sent twice. Their bodies, and the counts and keys in their headings, agree.
+-- If both are read, their texts agree. If one is read, the other isn't longer.
 abbrev pub may_repeat : DamagedPart → DamagedPart → Bool
 may_repeat one other =
     bodies_agree one.body.items other.body.items
@@ -103,13 +103,13 @@ may_repeat one other =
 
 -- ---- The parts of a form.
 
--- Whether two headings can be of one message: they give the same number of parts; and they have different part numbers
--- or, with `agree`, may be of the same part.
+-- Whether two headings can be of one message. They give the same number of parts. Their part numbers differ or, if
+-- `agree` is true, may be equal.
 abbrev pub numbers_agree : PartNumbers → PartNumbers → Bool → Bool
 numbers_agree one other agree =
     one.parts == other.parts && (not (one.part == other.part) || agree)
 
--- `numbers_agree`, if both headings give numbers; a damaged heading agrees with any
+-- `numbers_agree`, if both headings give numbers; a damaged heading agrees with any heading
 abbrev pub headings_agree : Option PartNumbers → Option PartNumbers → Bool → Bool
 headings_agree (Some one) (Some other) agree = numbers_agree one other agree
 headings_agree (Some one) None agree = true
@@ -119,7 +119,7 @@ headings_agree None other agree = true
 abbrev pub parts_agree : DamagedPart → DamagedPart → Bool
 parts_agree one other = headings_agree one.numbers other.numbers (may_repeat one other)
 
--- whether the part can be of one message with each of the others
+-- whether the part can be of one message with each of the other parts
 abbrev pub agrees_with_each : DamagedPart → List DamagedPart → Bool
 agrees_with_each part [] = true
 agrees_with_each part (other ∷ others) = parts_agree part other && agrees_with_each part others

@@ -1,4 +1,4 @@
--- Parts that came several times: a letter that is lost in one copy is taken from another. Copies have the same part
+-- Parts that came several times. If a letter is lost in one copy, it is taken from another. Copies have the same part
 -- number, the same keys, and equally many letters.
 -- Test: tests/cases/curator-messages.toml
 use Rattle.std.specs.Prelude.{ℕ, ◌+◌, ◌==◌, ◌&&◌, Bool, true, false, if◌then◌else◌, is_some, slice_index_or}
@@ -25,15 +25,15 @@ abbrev pub has_keys_of : DamagedText → DamagedText → Bool
 has_keys_of one other =
     same_keys one.keys other.keys && length one.received.items == length other.received.items
 
--- the letter at `place` of a text; `None` if it is lost, or the text isn't a copy of `shown`. `same`: whether both
--- parts have the same number
+-- The letter at `place` of a copy of `shown`. It is `None` if the letter is lost, or the text isn't a copy. `same` says
+-- whether both parts have the same number.
 abbrev pub letter_of_copy : Bool → DamagedText → ℕ → Option DamagedText → Option ℕ
 letter_of_copy same shown place None = None
 letter_of_copy same shown place (Some text) =
     if same && has_keys_of shown text then slice_index_or text.received.items place None else None
 
--- the letter at `place` of the last part; `None` if it is lost, or the part isn't a copy of `read`, whose text is
--- `shown`
+-- The letter at `place` of `other`. It is `None` if the letter is lost, or `other` isn't a copy of `read`, whose text
+-- is `shown`.
 abbrev pub copied_letter : DamagedPart → DamagedText → ℕ → DamagedPart → Option ℕ
 copied_letter read shown place other =
     letter_of_copy (is_same_part read.numbers other.numbers) shown place (shown_text other)
@@ -51,27 +51,27 @@ known_letter (copy ∷ copies) read shown place =
 
 -- ---- A part with the letters of its copies.
 
--- the byte; if it stands for a lost letter that a copy has, this letter
+-- the byte or, if it stands for a lost letter that a copy has, the copy's letter
 abbrev pub completed_byte : Option ℕ → ℕ → ℕ
 completed_byte (Some letter) byte = if is_lost byte then letter + 65 else byte
 completed_byte None byte = byte
 
--- the bytes of a body from letter `place` on, with letters from copies in place of lost ones
+-- the bytes of a body, with letters from copies in place of lost ones; its first letter stands at `place`
 abbrev pub completed_from : List DamagedPart → DamagedPart → DamagedText → ℕ → List ℕ → List ℕ
 completed_from copies read shown place [] = []
 completed_from copies read shown place (byte ∷ bytes) =
     completed_byte (known_letter copies read shown place) byte
     ∷ completed_from copies read shown (if is_some (received_letter byte) then place + 1 else place) bytes
 
--- the part, with letters from its copies in place of lost ones; unchanged if it has no text. `read` is what was read of
--- the part alone.
+-- The part, with letters from its copies in place of lost ones. A part without a text is unchanged. `read` is what was
+-- read of the part alone.
 abbrev pub completed_with : List DamagedPart → DamagedPart → Option DamagedText → List ℕ → List ℕ
 completed_with copies read None part = part
 completed_with copies read (Some shown) part =
     first_line part ++ completed_from copies read shown 0 (from_line_end part)
 
--- the part, with letters from its copies in place of lost ones. `copies` are all parts, each read alone; the second
--- argument is what was read of this one.
+-- The part, with letters from its copies in place of lost ones. `copies` are all parts, each read alone. The second
+-- argument is what was read of the part to complete.
 abbrev pub completed_of : List DamagedPart → Option DamagedPart → List ℕ → List ℕ
 completed_of copies None part = part
 completed_of copies (Some read) part = completed_with copies read (shown_text read) part
@@ -86,7 +86,7 @@ completed_at copies index part = completed_of copies (slice_get copies index) pa
 abbrev pub copies_in : List DamagedPart → List DamagedPart
 copies_in parts = if are_of_one_message parts then parts else []
 
--- whether the part, read again with letters from its copies, still has its number, and all letters that it had before
+-- whether the part, read again with letters from its copies, keeps its number, and the letters that it had
 abbrev pub is_kept : DamagedPart → DamagedPart → Bool
 is_kept alone again = is_same_part alone.numbers again.numbers && text_within (shown_text alone) (shown_text again)
 

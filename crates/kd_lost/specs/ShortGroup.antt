@@ -1,4 +1,4 @@
--- The first group of a body that doesn't have five letters, though letters follow it. `desk send` writes groups of
+-- The first short group of a body: it doesn't have five letters, though letters follow it. `desk send` writes groups of
 -- five.
 -- Test: tests/cases/curator-messages.toml
 use Rattle.std.specs.Prelude.{◌≡◌, ◌≢◌, ℕ, ◌+◌, ◌<◌, ◌/◌, ◌%◌, List, length, slice_index, take, Option, None, MatchOption}

@@ -13,13 +13,13 @@ letters_on bytes = length (received_letters bytes)
 abbrev pub is_short : ℕ → Bool
 is_short letters = not (letters == 0) && not (letters == 50)
 
--- for each line after the first, the bytes from its start on
+-- the rest of the bytes from the start of each line after the first
 abbrev pub later_lines : List ℕ → List (List ℕ)
 later_lines [] = []
 later_lines (byte ∷ bytes) = if byte == 10 then bytes ∷ later_lines bytes else later_lines bytes
 
--- The first short line in a list of lines, each given with all bytes after it. The first line has the number `number`;
--- the body has `all` letters.
+-- The first short line in a list. Each item begins with a line, and has all bytes after it, too. The first line has the
+-- number `number`; the body has `all` letters.
 abbrev pub short_line_from : ℕ → ℕ → List (List ℕ) → Option ShortLine
 short_line_from all number [] = None
 short_line_from all number (bytes ∷ others) =

@@ -1,4 +1,4 @@
--- Which parts of a received form are shown under which numbers, and whether the form is one whole message.
+-- Which part of a received form is shown under each number, and whether the form is one whole message.
 use Rattle.std.specs.Prelude.{◌≡◌, ◌≢◌, ℕ, ◌<◌, ◌==◌, if◌then◌else◌, List, [], ◌∷◌, All, Option, None, Some}
 use Rattle.std.specs.Prelude.{MatchOption, Ok, IfSome, IsTrue, is_err, is_ok, is_some, nat_le, nat_lt, ◌&&◌, ◌||◌}
 use Rattle.std.specs.Prelude.{Bool, true, false}
@@ -21,12 +21,12 @@ abbrev pub total_of : List DamagedPart → ℕ
 total_of [] = 0
 total_of (part ∷ parts) = parts_or (total_of parts) part.numbers
 
--- the part number that a heading gives, if any, then the others
+-- `others`, after the part number that a heading gives, if it gives one
 abbrev pub number_before : Option PartNumbers → List ℕ → List ℕ
 number_before (Some numbers) others = numbers.part ∷ others
 number_before None others = others
 
--- the numbers of the parts that have one, in the order in which they came
+-- the numbers of the parts that have a number, in the order in which the parts came
 abbrev pub numbers_of : List DamagedPart → List ℕ
 numbers_of [] = []
 numbers_of (part ∷ parts) = number_before part.numbers (numbers_of parts)
@@ -47,8 +47,8 @@ times_of parts number = count_by (λ part. is_number number part.numbers) parts
 
 -- ---- Repetitions.
 
--- Whether the second text tells more: there is no first text; or fewer letters of the second are lost; or equally many,
--- and only the second has a right count (`counted`).
+-- Whether the second text tells more than the first. It does if there is no first text, or if fewer of its letters are
+-- lost. It also does if equally many are lost, and only its count is right (`counted`).
 abbrev pub is_text_worse : Bool → Option DamagedText → Option DamagedText → Bool
 is_text_worse counted (Some one) (Some other) =
     nat_lt (lost_in other) (lost_in one) || (counted && lost_in other == lost_in one)
@@ -59,13 +59,14 @@ is_text_worse counted one None = false
 abbrev pub is_worse : DamagedPart → DamagedPart → Bool
 is_worse one other = is_text_worse (is_err one.text && is_ok other.text) (shown_text one) (shown_text other)
 
--- the later part, if its text tells more; otherwise the first
+-- the later part, if its text tells more; otherwise the first part
 abbrev pub better : DamagedPart → Option DamagedPart → Option DamagedPart
 better part None = Some part
 better part (Some later) =
     if is_worse part later then Some later else Some part
 
--- the part that is shown under this number: the one whose text tells most; of several, the first
+-- The part that is shown under this number: the one whose text tells most. If several tell most, it is the first of
+-- them.
 abbrev pub shown_under : List DamagedPart → ℕ → Option DamagedPart
 shown_under [] number = None
 shown_under (part ∷ parts) number =
@@ -76,7 +77,7 @@ abbrev pub text_in : Option DamagedPart → Option DamagedText
 text_in None = None
 text_in (Some part) = shown_text part
 
--- whether the part that is shown under this number has all letters of the text; true if there is no number
+-- Whether the part that is shown under this number has all letters of the text. True if there is no number, or no text.
 abbrev pub is_covered_by : List DamagedPart → Option DamagedText → Option PartNumbers → Bool
 is_covered_by parts text None = true
 is_covered_by parts text (Some numbers) = text_within text (text_in (shown_under parts numbers.part))
@@ -84,12 +85,12 @@ is_covered_by parts text (Some numbers) = text_within text (text_in (shown_under
 abbrev pub is_covered : List DamagedPart → DamagedPart → Bool
 is_covered parts part = is_covered_by parts (shown_text part) part.numbers
 
--- whether each part of the second list has its letters in the part of `all` that is shown under its number
+-- whether each part in `parts` has its letters in the part of `all` that is shown under its number
 abbrev pub are_covered : List DamagedPart → List DamagedPart → Bool
 are_covered all [] = true
 are_covered all (part ∷ parts) = is_covered all part && are_covered all parts
 
--- whether the parts are shown as one message: any two can be of one message, and none has a letter that isn't shown
+-- whether the parts are shown as one message: any two can be of one message, and no received letter is left out
 abbrev pub is_one_message : List DamagedPart → Bool
 is_one_message parts = are_of_one_message parts && are_covered parts parts
 
@@ -113,8 +114,8 @@ IsNumberWhole parts number = MatchOption (shown_under parts number) ⊥ IsReadWh
 abbrev pub MayBeOfTheDay : DamagedPart → Type 0
 MayBeOfTheDay part = IfSome (shown_text part) (λ shown. shown.group ≢ Wrong)
 
--- The form is one whole message: the parts are shown as one message; each has a number; none is of another day or
--- network; and under each number from 1 to the number of parts, there is a text without a lost letter.
+-- The form is one whole message. The parts are shown as one message. Each part has a number, and none is of another day
+-- or network. Under each number, from 1 to the number of parts, there is a text without a lost letter.
 pub record IsWhole (parts : List DamagedPart) : Type 0 where
   pub one_message : IsTrue (is_one_message parts)
   pub numbered : All (λ part. part.numbers ≢ None) parts

@@ -11,7 +11,7 @@ abbrev pub text_or : Result DamagedText PartDamage → Option DamagedText → Op
 text_or (Ok shown) counted = Some shown
 text_or (Err damage) counted = counted
 
--- the text that is shown of a part: its text or, if its count is wrong or damaged, its text by count
+-- The text that is shown of a part. If its count is wrong or damaged, this is its text by count.
 abbrev pub shown_text : DamagedPart → Option DamagedText
 shown_text part = text_or part.text part.by_count
 
@@ -31,7 +31,8 @@ letters_within [] other = true
 letters_within (letter ∷ one) (again ∷ other) = letter_within letter again && letters_within one other
 letters_within (letter ∷ one) [] = is_none letter && letters_within one []
 
--- whether the second text has each letter of the first, and no more lost letters; true if there is no first text
+-- Whether the second text has each letter of the first, and no more lost letters than it. True if there is no first
+-- text.
 abbrev pub text_within : Option DamagedText → Option DamagedText → Bool
 text_within None other = true
 text_within (Some one) (Some other) =

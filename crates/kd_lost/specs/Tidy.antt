@@ -1,7 +1,7 @@
--- A form without noise, that is, without bytes that no operator sent, left by copying the form or typing around it. A
--- byte order mark is dropped, and so are the lines before the first heading, unless one of them may have been a
--- heading: it begins like `PART`, or has a slash. In a heading, blanks around its words are dropped, and all but one
--- between two words. Bodies may have any spaces and line ends.
+-- A form without noise: bytes that no operator sent, left by copying the form or typing around it. A byte order mark is
+-- dropped. The lines before the first heading are dropped, too, unless one may be a damaged heading. Such a line begins
+-- like `PART`, or has a slash. In a heading, blanks around its words are dropped, and all but one between two words.
+-- Bodies may have any spaces and line ends.
 -- Test: tests/cases/curator-messages.toml
 use Rattle.std.specs.Prelude.{ℕ, ◌==◌, ◌&&◌, ◌||◌, Bool, true, if◌then◌else◌, List, [], ◌∷◌, ◌++◌, take, drop}
 use Rattle.std.specs.Prelude.{Option, None, Some, unwrap_or}
@@ -19,15 +19,15 @@ without_mark form = if bytes_eq (take 3 form) (239 ∷ 187 ∷ 191 ∷ []) then 
 abbrev pub was_heading : ℕ → List ℕ → Bool
 was_heading byte bytes = byte == 47 || byte == 10 && is_part_line bytes
 
--- `bytes` from the first heading after their first line on; `None` if there is none, or a damaged heading may stand
--- before it
+-- The bytes from the first heading after the first line on. `None` if there is no such heading, or if a damaged heading
+-- may stand before it.
 abbrev pub later_heading : List ℕ → Option (List ℕ)
 later_heading [] = None
 later_heading (byte ∷ bytes) =
     if byte == 10 && is_heading_line bytes then Some bytes
     else if was_heading byte bytes then None else later_heading bytes
 
--- `bytes` from the first heading on; all of them if there is none, or a damaged heading may stand before it
+-- The bytes from the first heading on. All bytes if there is no heading, or if a damaged heading may stand before it.
 abbrev pub from_heading : List ℕ → List ℕ
 from_heading bytes = if is_part_line bytes then bytes else unwrap_or (later_heading bytes) bytes
 
@@ -50,8 +50,8 @@ ends_word (byte ∷ line) = is_gap byte
 abbrev pub as_space : ℕ → ℕ
 as_space byte = if is_gap byte then 32 else byte
 
--- what stays of `byte` before `line`: nothing of a gap before another gap or the end, a space of any other gap,
--- otherwise `byte`
+-- The bytes that stay of `byte` before `line`. A gap before another gap, or at the end, is dropped. Any other gap
+-- becomes a space, and any other byte stays.
 abbrev pub spaced_byte : ℕ → List ℕ → List ℕ
 spaced_byte byte line = if is_gap byte && ends_word line then [] else as_space byte ∷ []
 

@@ -12,8 +12,8 @@ use Rattle.kd_form.specs.PartMaking.{cipher_from, enciphered_choice}
 use Rattle.kd_form.specs.PartReading.{HasHeading}
 use Rattle.kd_form.specs.Sending.{letters_from}
 
--- The first two letters are equal; and the keys, which are the first eight letters, stand again after the text, before
--- the last two letters.
+-- The first two letters are equal. The first eight letters, the keys, stand again after the text, before the last two
+-- letters.
 pub record HasKeysAround (letters : List ℕ) : Type 0 where
   pub again : take 8 letters ≡ take 8 (drop (length letters - 10) letters)
   pub twice : slice_index letters 0 ≡ slice_index letters 1
@@ -26,14 +26,14 @@ pub record IsPinText (s : Day) (letters text : List ℕ) : Type 0 where
   pub is_key : IsInternalKey (enciphered_choice s (keys_of_body letters)) internal
   pub is : text ≡ cipher_from s internal (text_of_body letters)
 
--- `text` is the text of the body `letters`, whatever its group or list letters are: on a rotor machine if the heading
--- has an indicator, otherwise on the Converter M-209.
+-- `text` is the text of the body `letters`, whatever its group or list letters are. If the heading has an indicator,
+-- the body is a rotor machine's; otherwise the Converter's.
 abbrev pub IsLettersText : Day → Option Indicator → List ℕ → List ℕ → Type 0
 IsLettersText s (Some i) letters text = text ≡ cipher_from s (deciphered_key s i) (drop 5 letters)
 IsLettersText s None letters text = IsPinText s letters text
 
--- `part` has the heading `h` and the text `text`, whatever its group or list letters are. Beyond this, `receive` only
--- tests these letters, and the number of the part.
+-- `part` has the heading `h` and the text `text`, whatever its group or list letters are. Besides, `receive` tests only
+-- these letters, and the number of the part.
 pub record IsPartText (s : Day) (part : List ℕ) (h : Heading) (text : List ℕ) : Type 0 where
   pub body : List ℕ
   pub has : HasHeading s part h body

@@ -36,7 +36,7 @@ fn six_letters(letters: &[Letter]) -> [Letter; 6]
     <[Letter; 6]>::try_from(letters).unwrap()
 }
 
-/// Appends the key letters that have one copy in `start` and one in `end`. The first of them has the number `number`.
+/// Appends the key letters of which `start` and `end` each have one copy. The first key letter has the number `number`.
 fn push_key_letters(
     letters: &mut ArrayVec<Letter, 6>,
     number: u8,
@@ -60,7 +60,7 @@ fn push_key_letters(
     Ok(())
 }
 
-/// Key letter `number`, from all its copies, or why there is none.
+/// Key letter `number`, from all its copies. The error says why there is none.
 fn key_letter(number: u8, copies: &[Option<Letter>]) -> Result<Letter, PartDamage>
     ensures { IsKeyLetterAnswer number copies.now result }
 {
@@ -87,7 +87,7 @@ fn first_received(copies: &[Option<Letter>]) -> Option<Letter>
     None
 }
 
-/// Whether a received letter of `copies` isn't `letter`.
+/// Whether `copies` has a received letter other than `letter`.
 fn has_other(copies: &[Option<Letter>], letter: Letter) -> bool
     ensures other { OnTrue result (Any (λ got. ¬ (IsLetterFor got letter)) copies.now) }
     ensures none { OnFalse result (All (λ got. IsLetterFor got letter) copies.now) }

@@ -2,11 +2,12 @@
 
 /// Why the text of a part can't be read.
 ///
-/// The key letters of a Converter M-209's part have numbers: the chosen letter has number 0, and the external letter
-/// of a wheel has the wheel's number, from 1 to 6.
+/// The key letters of a Converter M-209's part have numbers. The chosen letter has number 0. The external letter of a
+/// wheel has the wheel's number, from 1 to 6.
 #[derive(Clone, Copy, Debug, PartialEq, Eq)]
 pub enum PartDamage {
-    /// The part doesn't begin with a valid heading for the day's model, even if letters of its keys are lost.
+    /// The part doesn't begin with a valid heading of the day's model. Lost letters in the heading's keys alone don't
+    /// cause this fault.
     HeadingDamaged,
     /// A letter of the ground setting or of the enciphered message key is lost in the heading.
     HeadingKeyLost,
@@ -20,6 +21,6 @@ pub enum PartDamage {
     KeyLetterLost(u8),
     /// An external letter isn't on its wheel.
     KeyNotOnWheel,
-    /// The twelve letters from which the internal key is picked don't give each wheel a letter.
+    /// The twelve enciphered letters, from which the internal key is picked, don't give each wheel a letter.
     NoInternalKey,
 }

@@ -43,13 +43,15 @@ pub struct PinTextKeys {
 pub enum GroupTest {
     /// These letters are the day's.
     Right,
-    /// They aren't the day's: the part was made with another day's settings, or they were changed on the air.
+    /// These letters aren't the day's. The part was made with another day's settings, or the letters were changed on
+    /// the air.
     Wrong,
     /// They weren't compared: a letter of the group, or a list letter in both copies, is lost.
     NotTested,
 }
 
-/// Which of the two copies of a Converter's indicators, the first and the last ten letters, have lost letters.
+/// Which copies of a Converter's indicators have lost letters. One copy is the first ten letters of the body, the other
+/// the last ten.
 #[derive(Clone, Copy, Debug, PartialEq, Eq)]
 pub struct LostCopies {
     /// Whether a letter is lost in the copy before the text.

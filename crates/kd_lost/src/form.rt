@@ -34,9 +34,9 @@ pub enum DamagedFormFault {
 
 /// Reads each part of `form`. A letter that is lost in one copy of a part is taken from another copy.
 ///
-/// A part begins at each line that is taken for a heading: it begins like `PART`, and has a digit or a slash, or a lost
-/// sign in place of its number. Lines before the first heading are passed over, unless one of them may have been a
-/// heading. A form that `receive` reads is cut into the same parts.
+/// A part begins at each line that is taken for a heading. The line begins like `PART`. It also has a digit or a slash,
+/// or a lost sign in place of its number. Lines before the first heading are passed over, unless one of them may have
+/// been a heading. A form that `receive` reads is cut into the same parts.
 pub fn read_damaged_form(
     alloc: Global,
     day: &SheetDay,
@@ -59,8 +59,8 @@ pub fn read_damaged_form(
     }
 }
 
-/// Reads each part of `form`, with letters from `copies` in place of lost ones. `copies` are the parts of the form,
-/// each read alone, or none.
+/// Reads each part of `form`, with letters from `copies` in place of lost ones. `copies` is empty, or has the parts of
+/// the form, each read alone.
 fn read_parts(
     alloc: Global,
     day: &SheetDay,
@@ -92,8 +92,8 @@ fn read_parts(
     Ok(parts)
 }
 
-/// Reads the part at place `index` of its form, where it begins on line `line`, with letters from its copies in place
-/// of lost ones.
+/// Reads the part at place `index` of its form. It begins on line `line`, and letters from its copies stand in place of
+/// lost ones.
 fn read_one(
     alloc: Global,
     day: &SheetDay,
@@ -142,7 +142,8 @@ fn read_placed(
     }
 }
 
-/// Reads `part` as it stands or, if its first line isn't a heading, with single spaces between the words of this line.
+/// Reads `part` as it stands, if its first line is a heading. Otherwise reads it with single spaces between the words
+/// of this line.
 fn read_as_meant(
     alloc: Global,
     day: &SheetDay,
@@ -175,7 +176,7 @@ fn is_headed(day: &SheetDay, part: &[u8]) -> bool
     read_damaged_part(day, part).numbers.is_some()
 }
 
-/// Reads `part` as it stands; if its count is wrong or damaged, also by the letters that came.
+/// Reads `part` as it stands. If its count is wrong or damaged, also reads it with the number of letters that came.
 fn read_with_count(
     alloc: Global,
     day: &SheetDay,
@@ -224,7 +225,7 @@ pub(crate) fn split_part(form: &[u8]) -> (&[u8], Option<&[u8]>)
     (form, None)
 }
 
-/// Whether `byte` ends a part that `rest` follows.
+/// Whether `byte` ends a part if `rest` follows it.
 pub(crate) fn ends_part(byte: u8, rest: &[u8]) -> bool
     ensures { result ≡ ends_part byte rest.now }
 {

@@ -12,7 +12,8 @@ use arrayvec::ArrayString;
 
 /// Whether the first line of `bytes` is taken for a heading.
 ///
-/// The line begins like `PART`, and has a digit or a slash, which no body has, or a lost sign in place of its number.
+/// Such a line begins like `PART`. It also has a digit or a slash, or a lost sign in place of its number. No body has a
+/// digit or a slash.
 pub(crate) fn is_heading_line(bytes: &[u8]) -> bool
     ensures { result ≡ is_heading_line bytes.now }
 {
@@ -27,7 +28,7 @@ fn has_lost_number(bytes: &[u8]) -> bool
     has_short_word(line) && begins_lost(after_blanks(after_word(line)))
 }
 
-/// Whether the first word has three or four signs, so that it may be `PART`, but not a group of five letters.
+/// Whether the first word has three or four signs. So it may be `PART`, but isn't a group of five letters.
 fn has_short_word(bytes: &[u8]) -> bool
     ensures { result ≡ has_short_word bytes.now }
 {
@@ -53,7 +54,7 @@ fn begins_lost(bytes: &[u8]) -> bool
     }
 }
 
-/// `bytes` from the blank or LF on that ends their first word.
+/// The end of `bytes` that begins with the blank or LF after their first word.
 fn after_word(bytes: &[u8]) -> &[u8]
     ensures { result.now ≡ after_word bytes.now }
 {
@@ -190,7 +191,7 @@ fn has_digit_line(bytes: &[u8]) -> bool
 /// How many signs of a heading line are kept.
 const MOST_SIGNS: usize = 64;
 
-/// The first signs of a heading line as it came, at most 64, with `?` for each that may not stand in a heading.
+/// The first signs of a heading line as it came, at most 64. `?` stands for each sign that may not be in a heading.
 pub(crate) fn heading_signs(line: &[u8]) -> ArrayString<64>
     ensures { result.bytes ≡ heading_signs line.now }
 {
@@ -217,8 +218,8 @@ fn is_heading_byte(byte: u8) -> bool
     byte.is_ascii_uppercase() || (byte >= b'/' && byte <= b'9') || is_lost(byte) || byte == b' '
 }
 
-/// Whether `bytes` look like an order to send: their first line begins like `PART` and has no digit, and a later line
-/// is `TEXT`.
+/// Whether `bytes` look like an order to send. Their first line begins like `PART`, and has no digit or slash. A later
+/// line is `TEXT`.
 pub(crate) fn is_order(bytes: &[u8]) -> bool
     ensures { result ≡ is_order bytes.now }
 {

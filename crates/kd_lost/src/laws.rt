@@ -1,8 +1,9 @@
-//! Laws of damaged parts, of their ciphers, and of forms of one message.
+//! Laws about damaged parts, their ciphers, and forms of one message.
 ghost use Rattle.kd_lost.specs.Laws.{CiphersAgreeWhereTextsDo, PartsReadAreShownWhole, PartsReadHaveNumbers};
 ghost use Rattle.kd_lost.specs.Laws.{FormsReadAreShownWhole, FormsReadAreTidy, FormsReadHaveTheirParts, RepetitionsAgree};
 
-/// Equal letters at one place of two texts are enciphered to equal letters, whatever the other letters are.
+/// If two texts have equal letters at a place, both are enciphered to equal letters there. The other letters may
+/// differ.
 #[tactic(auto, using(crate::proofs::Ciphers::ciphers_agree))]
 pub fn ciphers_agree_where_texts_do()
     ensures { CiphersAgreeWhereTextsDo }
@@ -14,16 +15,16 @@ pub fn parts_read_are_shown_whole()
     ensures numbers { PartsReadHaveNumbers }
 {}
 
-/// If `receive` reads a form, this crate cuts it into the same parts and reads the same text, without a warning.
+/// If `receive` reads a form, this crate cuts it into the same parts, and reads the same text, without a warning.
 ///
-/// Nothing before its first heading is passed over.
+/// Nothing before the form's first heading is passed over.
 pub fn forms_read_are_shown_whole()
     ensures tidy { FormsReadAreTidy }
     ensures parts { FormsReadHaveTheirParts }
     ensures shown { FormsReadAreShownWhole }
 {}
 
-/// In a form of one message, parts with one number have no different letters at one place.
+/// In a form of one message, parts with the same number don't have different letters at any place.
 #[tactic(auto, using(crate::proofs::OneMessage::repetitions_agree))]
 pub fn repetitions_agree()
     ensures { RepetitionsAgree }

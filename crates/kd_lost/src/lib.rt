@@ -1,7 +1,7 @@
 //! Forms in which letters were lost on the air: everything that can be read of them without guessing.
 //!
 //! A lost letter is a `?` or `-`, and a small letter means its capital. The text of a part is shown without the letters
-//! that were lost; a part whose keys were lost isn't read. Parts may come twice or in another order: this crate also
+//! that were lost. A part whose keys were lost isn't read. Parts may come twice or in another order. This crate also
 //! says which of them are shown, and whether they are one whole message.
 #![tactic(auto)]
 

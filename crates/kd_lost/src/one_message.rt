@@ -123,7 +123,7 @@ fn ends_within(one: &DamagedPart, other: &DamagedPart) -> bool
     other.text.is_err() || one.came <= other.came
 }
 
-/// Whether two bodies agree at each place at which both have a letter.
+/// Whether two bodies have agreeing letters at each place, up to the end of the shorter body.
 fn bodies_agree(one: &[Option<Letter>], other: &[Option<Letter>]) -> bool
     ensures { result ≡ bodies_agree one.now other.now }
 {
@@ -135,14 +135,14 @@ fn bodies_agree(one: &[Option<Letter>], other: &[Option<Letter>]) -> bool
     true
 }
 
-/// Whether two headings can be of one message. `agree`: whether the parts may be the same.
+/// Whether two headings can be of one message. `agree` says whether their parts may be the same part.
 fn numbers_agree(one: &PartNumbers, other: &PartNumbers, agree: bool) -> bool
     ensures { result ≡ numbers_agree one.now other.now agree }
 {
     one.parts == other.parts && (one.part != other.part || agree)
 }
 
-/// Whether two texts may be of the same part, sent twice.
+/// Whether two texts may be of the same part, sent twice. A text that couldn't be read agrees with any text.
 fn texts_agree(
     one: &Result<DamagedText, PartDamage>,
     other: &Result<DamagedText, PartDamage>,
@@ -158,7 +158,7 @@ fn texts_agree(
     }
 }
 
-/// Whether two bodies are equally long, and agree at each place.
+/// Whether two bodies are equally long, and have agreeing letters at each place.
 fn letters_agree(one: &[Option<Letter>], other: &[Option<Letter>]) -> bool
     ensures { result ≡ letters_agree one.now other.now }
 {
@@ -180,7 +180,7 @@ fn letter_agrees(one: &Option<Letter>, other: &Option<Letter>) -> bool
     }
 }
 
-/// Whether the keys are the same.
+/// Whether two texts have the same keys.
 pub(crate) fn same_keys(one: &TextKeys, other: &TextKeys) -> bool
     ensures { result ≡ same_keys one.now other.now }
 {

@@ -34,9 +34,10 @@ use kd_tables::Letter;
 #[derive(Drop)]
 pub struct DamagedPart {
     /// The numbers in the heading; `None` if the heading is damaged. If only the count is damaged, and the part is read
-    /// by count, the number of letters that came stands for the count.
+    /// by count, `letters` is how many letters came.
     pub numbers: Option<PartNumbers>,
-    /// The first signs of the heading line as it came, at most 64, with `?` for each that may not stand in a heading.
+    /// The first signs of the heading line as it came, at most 64. `?` stands for each sign that may not be in a
+    /// heading.
     pub heading: ArrayString<64>,
     /// How many letters of the body came, lost ones included.
     pub came: usize,
@@ -46,20 +47,20 @@ pub struct DamagedPart {
     pub text: Result<DamagedText, PartDamage>,
     /// The first wrong sign of the body, if it has one.
     pub wrong_sign: Option<WrongSign>,
-    /// The text, read with the number of letters that came as the count, if the heading's count is wrong or damaged.
+    /// The text by count, if the heading's count is wrong or damaged. It is read with the number of letters that came
+    /// as the count.
     pub by_count: Option<DamagedText>,
-    /// The first line of the body that has letters, but not 50, and isn't the last with letters; `None` if there is
-    /// none.
+    /// The first line of the body that has letters, but not 50, though letters follow it. `None` if there is none.
     pub short_line: Option<ShortLine>,
-    /// The number of the first group that doesn't have five letters and isn't the last; `None` if there is none.
+    /// The number of the first group that doesn't have five letters, though letters follow it. `None` if there is none.
     pub short_group: Option<usize>,
-    /// Whether blanks in the part's first line were dropped, because it isn't a heading with them.
+    /// Whether needless blanks in the part's first line were dropped. They are if the line is no heading with them.
     pub respaced: bool,
-    /// Whether each byte of the part is meant as it stands: none is a small letter or a tab.
+    /// Whether each byte of the part means itself: none is a small letter or a tab.
     pub as_spelled: bool,
     /// Whether the part looks like an order to send instead of a received form.
     pub is_order: bool,
-    /// The line of the form on which the part begins, counted from 1; 1, if the part is read by itself.
+    /// The line of the form on which the part begins, counted from 1. It is 1 if the part is read by itself.
     pub line: usize,
 }
 
@@ -68,9 +69,9 @@ pub struct DamagedPart {
 pub struct PartNumbers {
     /// The part's number, counted from 1.
     pub part: u8,
-    /// How many parts the form has.
+    /// How many parts the form has, as the heading says.
     pub parts: u8,
-    /// How many letters the body has.
+    /// How many letters the body has, as the heading says.
     pub letters: usize,
 }
 

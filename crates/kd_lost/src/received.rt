@@ -67,7 +67,7 @@ pub(crate) fn has_lost_byte(line: &[u8]) -> bool
     false
 }
 
-/// Whether each byte of `part` is meant as it stands: none is a small letter or a tab.
+/// Whether each byte of `part` means itself: none is a small letter or a tab.
 pub(crate) fn is_spelled(part: &[u8]) -> bool
     ensures { IsTrue result ↔ All (λ byte. meant_byte byte ≡ byte) part.now }
 {
@@ -112,7 +112,8 @@ pub(crate) fn body_letters(body: &[u8]) -> ArrayVec<Option<Letter>, 525>
     letters
 }
 
-/// The letter that a byte of a body counts as: `Some(None)` for a lost letter, or for a sign that may not be in a body.
+/// The letter that a byte of a body counts as. It is `Some(None)` for a lost letter, and for a sign that may not be in
+/// a body.
 fn body_letter(byte: u8) -> Option<Option<Letter>>
     ensures { result ≡ body_letter byte }
 {
@@ -138,7 +139,7 @@ pub(crate) fn is_received(byte: &u8) -> bool
     received_letter(*byte).is_some()
 }
 
-/// Appends `letter`, if it is there, and there is room for it. It may be a lost letter.
+/// Appends `letter`, received or lost, if there is one, and there is room for it.
 fn keep_letter(letters: &mut ArrayVec<Option<Letter>, 525>, letter: Option<Option<Letter>>)
     ensures { letters.old.items ≡ take 525 letters.old.items
         → letters.new.items ≡ take 525 (letters.old.items ++ option_to_list letter) }
@@ -148,7 +149,7 @@ fn keep_letter(letters: &mut ArrayVec<Option<Letter>, 525>, letter: Option<Optio
     }
 }
 
-/// The letter that a byte of a body stands for: `Some(None)` for a lost letter, `None` for no letter.
+/// The letter that a byte of a body stands for; `Some(None)` for a lost letter, `None` for no letter.
 fn received_letter(byte: u8) -> Option<Option<Letter>>
     ensures { result ≡ received_letter byte }
 {

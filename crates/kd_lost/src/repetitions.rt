@@ -1,4 +1,4 @@
-//! Parts that came several times: a letter that is lost in one copy is taken from another.
+//! Parts that came several times. If a letter is lost in one copy, it is taken from another.
 ghost use Rattle.std.specs.Prelude.{◌≡◌, ◌++◌, MatchResult, None, Some, slice_index_or};
 ghost use Rattle.kd_lost.specs.Repetitions.{are_kept, completed_byte, completed_from, completed_with, copied_letter};
 ghost use Rattle.kd_lost.specs.Repetitions.{has_keys_of, is_kept, is_same_part, known_letter};
@@ -61,7 +61,7 @@ fn push_completed(
     Ok(())
 }
 
-/// `byte`; if it stands for a lost letter that a copy has, this letter.
+/// `byte` or, if it stands for a lost letter that a copy has, the copy's letter.
 fn completed_byte(
     copies: &[DamagedPart],
     read: &DamagedPart,
@@ -98,7 +98,8 @@ fn known_letter(
     }
 }
 
-/// The letter at `place` of `other`; `None` if it is lost, or `other` isn't a copy of `read`, whose text is `shown`.
+/// The letter at `place` of `other`. It is `None` if the letter is lost, or `other` isn't a copy of `read`, whose text
+/// is `shown`.
 fn copied_letter(
     read: &DamagedPart,
     shown: &DamagedText,
@@ -114,7 +115,7 @@ fn copied_letter(
     None
 }
 
-/// The letter that came at `place` of a text.
+/// The received letter at `place` of a text; `None` if it is lost.
 fn letter_at(text: &DamagedText, place: usize) -> Option<Letter>
     ensures { result ≡ slice_index_or text.now.received.items place None }
 {

@@ -40,7 +40,8 @@ pub(crate) fn first_short_line(body: &[u8]) -> Option<ShortLine>
     None
 }
 
-/// Whether a line with this many letters is neither empty nor full, and letters stand in `rest`, the bytes after it.
+/// Whether a line with this many letters is neither empty nor full, and letters follow it. `rest` has the bytes after
+/// the line.
 fn is_short_before(letters: usize, rest: &[u8]) -> bool
     ensures { result ≡ (is_short letters && nat_lt 0 (letters_on rest.now)) }
 {

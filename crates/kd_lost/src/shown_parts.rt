@@ -1,4 +1,4 @@
-//! Which parts of a received form are shown under which numbers, and whether the form is one whole message.
+//! Which part of a received form is shown under each number, and whether the form is one whole message.
 ghost use Rattle.std.specs.Prelude.{◌≡◌, ◌≢◌, ◌↔◌, ◌≤◌, ◌+◌, All, IsTrue, MatchOption, None, Some, length};
 ghost use Rattle.std.specs.List.{range_with_len};
 ghost use Rattle.kd_lost.specs.ShownParts.{IsNumberWhole, IsReadWhole, IsWhole, MayBeOfTheDay, are_covered};
@@ -24,7 +24,7 @@ pub fn total_of(parts: &[DamagedPart]) -> u8
     }
 }
 
-/// Whether no number of a part is less than the one before it, and the first isn't less than `before`.
+/// Whether no part number is less than the one before it, and the first isn't less than `before`.
 ///
 /// Parts without a number don't count.
 pub fn are_in_order(before: u8, parts: &[DamagedPart]) -> bool
@@ -59,7 +59,8 @@ pub fn times_of(parts: &[DamagedPart], number: u16) -> usize
         .count()
 }
 
-/// The part that is shown under this number: the one whose text tells most; of several, the first.
+/// The part that is shown under this number: the one whose text tells most. If several tell most, it is the first of
+/// them.
 pub fn shown_under(parts: &[DamagedPart], number: u16) -> Option<&DamagedPart>
     ensures { MatchOption result
         (shown_under parts.now number ≡ None)
@@ -78,8 +79,8 @@ pub fn shown_under(parts: &[DamagedPart], number: u16) -> Option<&DamagedPart>
     }
 }
 
-/// Whether the text of `other` tells more: `one` has no text; or fewer letters are lost; or equally many, and only its
-/// count is right.
+/// Whether the text of `other` tells more than the text of `one`. It does if `one` has no text, or if fewer of its
+/// letters are lost. It also does if equally many are lost, and only its count is right.
 fn is_worse(one: &DamagedPart, other: &DamagedPart) -> bool
     ensures { result ≡ is_worse one.now other.now }
 {
@@ -93,7 +94,7 @@ fn is_worse(one: &DamagedPart, other: &DamagedPart) -> bool
     }
 }
 
-/// Whether the parts are shown as one message: any two can be of one message, and none has a letter that isn't shown.
+/// Whether the parts are shown as one message: any two can be of one message, and no received letter is left out.
 pub fn is_one_message(parts: &[DamagedPart]) -> bool
     ensures { result ≡ is_one_message parts.now }
 {

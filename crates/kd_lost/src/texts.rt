@@ -6,7 +6,7 @@ use crate::damaged_text::DamagedText;
 use crate::part::DamagedPart;
 use kd_tables::Letter;
 
-/// The text that is shown of a part: its text or, if its count is wrong or damaged, its text by count.
+/// The text that is shown of a part. If its count is wrong or damaged, this is its text by count.
 pub fn shown_text(part: &DamagedPart) -> Option<&DamagedText>
     ensures { MatchOption result
         (shown_text part.now ≡ None)
@@ -19,7 +19,7 @@ pub fn shown_text(part: &DamagedPart) -> Option<&DamagedText>
     }
 }
 
-/// Whether the text of `other` has each letter of the text of `one`, and no more lost letters.
+/// Whether the text of `other` has each letter of the text of `one`, and no more lost letters than it.
 pub(crate) fn is_text_within(one: &DamagedPart, other: &DamagedPart) -> bool
     ensures { result ≡ text_within (shown_text one.now) (shown_text other.now) }
 {

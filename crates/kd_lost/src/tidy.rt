@@ -1,4 +1,4 @@
-//! Forms without noise, that is, without bytes that no operator sent, left by copying a form or typing around it.
+//! Forms without noise: bytes that no operator sent, left by copying a form or typing around it.
 ghost use Rattle.std.specs.Prelude.{◌≡◌, ◌++◌, None, Some, MatchOption, MatchResult};
 ghost use Rattle.kd_lost.specs.DamagedPart.{first_line};
 ghost use Rattle.kd_lost.specs.Tidy.{as_space, ends_word, from_line_end, is_gap, later_heading, respaced};
@@ -8,8 +8,8 @@ use crate::form::{DamagedFormFault, ends_part};
 use crate::heading_line::{after_blanks, is_blank, is_part_line};
 use std::alloc::Global;
 
-/// `form` without a byte order mark, and without the lines before its first heading, unless one may be a damaged
-/// heading.
+/// `form` without a byte order mark, and without the lines before its first heading. The lines stay if one may be a
+/// damaged heading.
 pub(crate) fn tidied(form: &[u8]) -> &[u8]
     ensures { result.now ≡ tidied form.now }
 {
@@ -39,8 +39,8 @@ fn without_mark(form: &[u8]) -> &[u8]
     }
 }
 
-/// `bytes` from the first heading after their first line on; `None` if there is none, or a damaged heading may stand
-/// before it.
+/// The bytes from the first heading after the first line on. `None` if there is no such heading, or if a damaged
+/// heading may stand before it.
 ///
 /// The part under a damaged heading mustn't be dropped in silence.
 fn later_heading(bytes: &[u8]) -> Option<&[u8]>
@@ -113,7 +113,8 @@ fn push_single_spaced(bytes: &mut Vec<u8>, line: &[u8]) -> Result<(), DamagedFor
     Ok(())
 }
 
-/// Appends what stays of `byte` before `rest`: a space for a gap, nothing for a gap before another gap or the end.
+/// Appends the bytes that stay of `byte` before `rest`. A gap before another gap, or at the end, is dropped. Any other
+/// gap becomes a space, and any other byte stays.
 fn push_spaced(bytes: &mut Vec<u8>, byte: u8, rest: &[u8]) -> Result<(), DamagedFormFault>
     ensures { MatchResult result
         (λ _. bytes.new.items ≡ bytes.old.items ++ spaced_byte byte rest.now)

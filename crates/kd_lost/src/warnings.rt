@@ -1,4 +1,4 @@
-//! The warnings of a part: whether its group or its list letters are the day's, and which copies have lost letters.
+//! The warnings of a part: whether its group or its list letters are the day's, and which copies lost letters.
 ghost use Rattle.std.specs.Prelude.{◌≡◌, ◌≢◌, ◌≤◌, ◌↔◌, length, map, take, All, Any, None, Some, IsTrue, MatchOption};
 ghost use Rattle.std.specs.Bool.{OnTrue, OnFalse};
 ghost use Rattle.kd_form.specs.PartMaking.{list_letters};
@@ -45,7 +45,7 @@ fn known_letters(received: &[Option<Letter>]) -> Option<ArrayVec<Letter, 3>>
     Some(letters)
 }
 
-/// Compares `start` and `end`, the received copies of the list letters, with the day's.
+/// Compares `start` and `end`, the received copies of the list letters, with the day's list letters.
 pub(crate) fn test_list(
     day: &SheetDay,
     start: &[Option<Letter>],

@@ -5,7 +5,7 @@ ghost use Rattle.kd_lost.specs.WrongSign.{IsFirstWrongSign};
 
 use crate::received::{is_body_byte, is_received, letter_count};
 
-/// A sign in the body of a part that isn't a letter, a lost letter, a blank, or part of a line end.
+/// A sign that may not be in a body: no letter, no lost letter, no blank, and no part of a line end.
 #[derive(Clone, Copy, Debug, PartialEq, Eq)]
 pub struct WrongSign {
     /// The line of the part on which the sign stands, counted from 1. On line 1 stands the heading.
@@ -41,7 +41,7 @@ pub(crate) fn first_wrong_sign(body: &[u8]) -> Option<WrongSign>
     None
 }
 
-/// The place, counted from 1, of a letter at `index` among the letters of `body`.
+/// The place of the letter at `index` among the letters of `body`, counted from 1.
 #[tactic(auto, using(crate::proofs::Bytes::letters_counted))]
 fn place_at(body: &[u8], index: usize) -> usize
     requires { index ≤ length body.now }
@@ -59,7 +59,8 @@ fn line_after(line: usize, byte: u8) -> usize
     if byte == b'\n' { line + 1 } else { line }
 }
 
-/// The number, on its line, of the next letter after `byte`. A letter at `byte` would have the number `letter`.
+/// The number that the next letter after `byte` has on its line. A letter in place of `byte` would have the number
+/// `letter`.
 fn letter_after(letter: usize, byte: u8) -> usize
     requires { letter < 2 ^ 63 + 2 }
     ensures { result ≡ (if byte == 10 then 1
