@@ -16,7 +16,7 @@ use Rattle.kd_part_sheet.specs.Rows.{pieces}
 abbrev pub form_head : Language → Day → List ℕ
 form_head l s = filled (text_in l texts.FORM) (model_name (day_model s) ∷ decimal (day_number s) ∷ [])
 
--- the head of a part: its number, the number of parts, the model, the day, and the number of letters
+-- the head of a part: its number, the number of parts, the model, the day, and how many letters it has
 abbrev pub part_head : Language → Model → ℕ → ℕ → ℕ → ℕ → List ℕ
 part_head l model day part parts letters = filled (text_in l texts.FORM_PART) (
     decimal part ∷ decimal parts ∷ model_name model ∷ decimal day ∷ decimal part ∷ decimal parts ∷ decimal letters ∷ [])
@@ -35,12 +35,12 @@ indicator_text l None = []
 abbrev pub form_group : List ℕ → List ℕ
 form_group letters = texts.FORM_GROUP.now ++ letters_text letters ++ texts.FORM_GROUP_END.now
 
--- the note below a part that says which of its groups are fillers or indicators
+-- the note below a part; it says which groups of the part are fillers or indicators
 abbrev pub part_note : Language → Option Indicator → List ℕ
 part_note l (Some indicator) = text_in l texts.FORM_ROTOR_NOTE
 part_note l None = text_in l texts.FORM_PIN_NOTE
 
--- a part of the form: the values in its heading, its letters in groups of five, and a note
+-- a part of the form: its head, the keys in its heading, its letters in groups of five, and a note
 unfoldable pub form_part : Language → Model → ℕ → Part → List ℕ
 form_part l model day part =
     part_head l model day part.heading.part part.heading.parts part.heading.letters

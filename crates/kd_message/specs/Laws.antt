@@ -1,4 +1,4 @@
--- What the laws of this crate state of the rows of a page, and of the page for receiving a whole message.
+-- What the laws of this crate say about the rows of a page, and about the page for receiving a whole message.
 use Rattle.std.specs.Prelude.{◌≡◌, ℕ, ◌≤◌, List, [], ◌∷◌, ◌++◌, All, Contains, IsFalse, IsTrue, filter, flat_map, length, map, slice_get, Option, Some, None, Ok}
 use Rattle.std.specs.List.{range_with_len}
 use Rattle.kd_state.specs.SheetDay.{Day, day_model}
@@ -26,8 +26,8 @@ use Rattle.kd_lost.specs.ShownParts.{IsWhole, is_number, shown_under, times_of, 
 use Rattle.kd_lost.specs.Texts.{lost_in, shown_text}
 use Rattle.kd_message.specs.TextSheet.{came_text, read_text, text_begin, text_part_head}
 
--- The lamps of a row are the cipher of the letters pressed in this row, from the windows that the rows before it lead
--- to.
+-- The lamps of a row are the cipher of the letters that are pressed in this row. It starts from the windows to which
+-- the rows before it lead.
 abbrev pub RowsAreEnciphered : Type 0
 RowsAreEnciphered =
     (s : Day) (start before row : List ℕ)
@@ -44,9 +44,9 @@ letter_of (signs.Letter letter) = Some letter
 abbrev pub pressed_of : List Cell → List Cell
 pressed_of cells = filter (λ cell. cell.is_pressed) cells
 
--- The rows of a part that is read can be deciphered, whatever keys are pressed for the lost letters. From the windows
--- that the sheet shows, the machine turns the pressed keys `keys` into the letters below the line: `?` at each lost
--- letter, and nothing for a space.
+-- The rows of a part that is read can be deciphered, whatever keys are pressed for the lost letters. The windows are
+-- set as the sheet shows. Then the machine turns the pressed keys `keys` into the letters below the line. There, `?`
+-- stands for each lost letter, and nothing for a space.
 abbrev pub RowsAreDeciphered : Type 0
 RowsAreDeciphered =
     (s : Day) (part : List ℕ) (shown : DamagedText) (keys : List ℕ) → IsDamagedTextAnswer s part (Ok shown)
@@ -68,8 +68,8 @@ abbrev pub message_letters : List DamagedPart → List (Option ℕ)
 message_letters parts =
     flat_map (λ number. letters_of_part (shown_under parts number)) (range_with_len 1 (total_of parts))
 
--- A form that `desk receive` reads is one whole message, and the shown texts join to the text that `desk receive`
--- gives.
+-- If `desk receive` reads a form, the form is one whole message. Joined, the shown texts of its parts are the text that
+-- `desk receive` gives.
 abbrev pub FormsReadAreWhole : Type 0
 FormsReadAreWhole =
     (s : Day) (form text : List ℕ) (parts : List DamagedPart) → IsTextOf s form text → AreFormParts s form parts
@@ -85,8 +85,8 @@ HasLettersOf text other =
     (place letter : ℕ) → slice_get other.letters.items place ≡ Some (Some letter)
     → slice_get text.letters.items place ≡ Some (Some letter)
 
--- For each part with a text, even if only by count, the page shows a text of a part with the same number. The shown
--- text has each letter of the part's own text, and no more lost letters. `alone` are the parts, each read by itself.
+-- The page shows a text for the number of each part with a text, even if this is a text by count. The shown text has
+-- each letter of the part's own text, and no more lost letters. `alone` are the parts, each read by itself.
 abbrev pub NothingReadIsHidden : Type 0
 NothingReadIsHidden =
     (l : Language) (s : Day) (form : List ℕ) (parts : List DamagedPart) (read : AreFormParts s form parts)
@@ -101,7 +101,7 @@ abbrev pub clear_text : Language → Day → PartName → ℕ → List ℕ → L
 clear_text l s name times letters =
     text_part_head l name ++ came_text l times ++ (text_begin name.model ++ plaintext_bytes s letters ++ TEXT_END.now)
 
--- The page of a whole message has the text of each part, with no lost letter.
+-- The page of a whole message has the text of each part, without a lost letter.
 abbrev pub WholeMessagesAreOnThePage : Type 0
 WholeMessagesAreOnThePage =
     (l : Language) (s : Day) (parts : List DamagedPart) (number : ℕ) → IsWhole parts → 1 ≤ number
@@ -117,8 +117,8 @@ WholeMessagesHaveOneTotal =
     → Contains parts one → Contains parts other → one.numbers ≡ Some numbers → other.numbers ≡ Some others
     → numbers.parts ≡ others.parts
 
--- In a whole message, a part with the number of the first one has equally many letters, and the same ones, except where
--- one is lost.
+-- Take the first part of a whole message, and any other part with the same number, both of them read. Their bodies have
+-- equally many letters. At each place, they have the same letter, unless one of them lost it.
 abbrev pub RepetitionsHaveTheLetters : Type 0
 RepetitionsHaveTheLetters =
     (one other : DamagedPart) (others : List DamagedPart) (numbers again : PartNumbers) (shown later : DamagedText)
@@ -128,14 +128,14 @@ RepetitionsHaveTheLetters =
 
 -- ---- The converse.
 
--- No byte of the part stands for a lost letter, and each means itself: none is a small letter or a tab.
+-- Each byte of the part means itself: none stands for a lost letter, and none is a small letter or a tab.
 abbrev pub IsClear : List ℕ → Type 0
 IsClear part = All (λ byte. IsFalse (is_lost byte) × (meant_byte byte ≡ byte)) part
 
--- Let a form be one whole message, with no lost letter, small letter, tab, or heading with needless blanks. Then `desk
--- receive` reads some parts of the form, one for each number, in the order of their numbers, and gets the letters that
--- the page shows. So the shown text is the one that `desk receive` gives, once the parts are sorted and repeated ones
--- left out.
+-- Let a form be one whole message, with no lost letter, no small letter, no tab, and no heading with needless blanks.
+-- Then `desk receive` reads some parts of the form, one for each number, in the order of their numbers. It gets the
+-- letters that the page shows. So once the parts are sorted, and repeated ones left out, the shown text is the one that
+-- `desk receive` gives.
 abbrev pub WholeMessagesAreRead : Type 0
 WholeMessagesAreRead =
     (s : Day) (form : List ℕ) (parts : List DamagedPart) → AreFormParts s form parts

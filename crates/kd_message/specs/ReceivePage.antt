@@ -48,7 +48,7 @@ sheet_to_receive model = if is_converter model then PinReceive else RotorReceive
 abbrev pub listed_unread : Language → PartName → List ℕ
 listed_unread l name = filled (text_in l texts.LISTED_UNREAD) (decimal name.part ∷ decimal name.parts ∷ [])
 
--- a part with this text, as a line in the list of the sheets
+-- a part as a line in the list of the sheets; the last argument is its text
 abbrev pub listed_text : Language → PartName → Option DamagedText → List ℕ
 listed_text l name (Some shown) = listed_sheet l name.sheet name.part name.parts
 listed_text l name None = listed_unread l name
@@ -63,13 +63,13 @@ abbrev pub worked_text : Language → Day → PartName → Option DamagedText �
 worked_text l s name (Some shown) = sheet_of_text l s name shown
 worked_text l s name None = []
 
--- the text of a part by count; if there is none, why the part isn't read
+-- the text of a part by count; if there is none, the reason why the part isn't read
 abbrev pub counted_or_damage : Language → Day → PartName → DamagedPart → PartDamage → Option DamagedText → List ℕ
 counted_or_damage l s name part damage (Some shown) =
     counted_text l (sheet_to_receive (day_model s)) s name part damage shown
 counted_or_damage l s name part damage None = damage_text l name part damage
 
--- the text of a part; if there is none, why the part isn't read
+-- the text of a part; if there is none, the reason why the part isn't read
 abbrev pub text_or_damage : Language → Day → PartName → DamagedPart → Result DamagedText PartDamage → List ℕ
 text_or_damage l s name part (Ok shown) = read_text l (sheet_to_receive (day_model s)) s name shown
 text_or_damage l s name part (Err damage) = counted_or_damage l s name part damage part.by_count
@@ -89,7 +89,7 @@ missing_in sections.Worked l name = []
 missing_in sections.Noted l name = missing_note l name
 missing_in sections.Texts l name = text_part_head l name ++ missing_text l name ++ SECTION_END.now
 
--- the words of a section on a part without a number; `after` is the number of the last numbered part before it
+-- The words of a section on a part without a number. `after` is the number of the last numbered part before it.
 abbrev pub lone_in : Section → Language → Day → ℕ → DamagedPart → List ℕ
 lone_in sections.Listed l s after part = listed_lone l after
 lone_in sections.Worked l s after part = []
@@ -103,26 +103,26 @@ abbrev pub number_or : ℕ → Option PartNumbers → ℕ
 number_or before (Some numbers) = numbers.part
 number_or before None = before
 
--- The words of a section on the unnumbered parts between the part with number `after` and the next numbered part.
--- `before` is the last number before `parts`.
+-- The words of a section on unnumbered parts. These stand between the part with number `after` and the next numbered
+-- part. `before` is the last number before `parts`.
 abbrev pub lone_after : Section → Language → Day → ℕ → ℕ → List DamagedPart → List ℕ
 lone_after section l s after before [] = []
 lone_after section l s after before (part ∷ parts) =
     (if is_none part.numbers && before == after then lone_in section l s after part else [])
     ++ lone_after section l s after (number_or before part.numbers) parts
 
--- the words of a section on the part that is shown under a number, or that there is none
+-- the words of a section on the part that is shown under a number; if there is none, that it didn't come
 abbrev pub shown_in : Section → Language → Day → PartName → ℕ → Option DamagedPart → List ℕ
 shown_in section l s name times (Some part) = part_in section l s name times part
 shown_in section l s name times None = missing_in section l name
 
--- the words of a section on a number, then on the unnumbered parts after it
+-- the words of a section on the part with a number, then on the unnumbered parts after it
 abbrev pub number_in : Section → Language → Day → List DamagedPart → ℕ → List ℕ
 number_in section l s parts number =
     shown_in section l s (part_name s number (total_of parts)) (times_of parts number) (shown_under parts number)
     ++ lone_after section l s number 0 parts
 
--- the words of a section on the unnumbered parts at the beginning, then on each number
+-- the words of a section on the unnumbered parts at the beginning, then on the part with each number
 abbrev pub by_number : Section → Language → Day → List DamagedPart → List ℕ
 by_number section l s parts =
     lone_after section l s 0 0 parts ++ flat_map (number_in section l s parts) (range_with_len 1 (total_of parts))
@@ -133,19 +133,19 @@ abbrev pub name_at : Day → ℕ → PartNumbers → PartName
 name_at s place numbers =
     record { model = day_model s; day = day_number s; sheet = place; part = numbers.part; parts = numbers.parts }
 
--- the words of a section on the part at `place`; `before` is the last number before it
+-- The words of a section on the part at `place`. `before` is the last part number before it.
 abbrev pub part_at : Section → Language → Day → ℕ → ℕ → Option PartNumbers → DamagedPart → List ℕ
 part_at section l s place before (Some numbers) part = part_in section l s (name_at s place numbers) 1 part
 part_at section l s place before None part = lone_in section l s before part
 
--- the words of a section on the parts from `place` on
+-- The words of a section on the parts from `place` on. `before` is the last part number before them.
 abbrev pub as_they_came : Section → Language → Day → ℕ → ℕ → List DamagedPart → List ℕ
 as_they_came section l s place before [] = []
 as_they_came section l s place before (part ∷ parts) =
     part_at section l s place before part.numbers part
     ++ as_they_came section l s (place + 1) (number_or before part.numbers) parts
 
--- a section: the parts by number or, if they aren't of one message, in the order of arrival
+-- a section: the parts by their numbers or, if they aren't of one message, in the order of arrival
 abbrev pub section_text : Section → Language → Day → List DamagedPart → List ℕ
 section_text section l s parts =
     if is_one_message parts then by_number section l s parts else as_they_came section l s 1 0 parts
@@ -156,8 +156,8 @@ section_text section l s parts =
 abbrev pub sheet_count : List DamagedPart → ℕ
 sheet_count parts = max (total_of parts) (length parts)
 
--- The file: the list of the sheets; a sheet for each part that is read; and the texts of all parts, with what to ask
--- the other station for.
+-- The file. It has the list of the sheets, a sheet for each part that is read, and the texts of all parts. With the
+-- texts stands what to ask the other station for.
 unfoldable pub receive_text : Language → Day → List DamagedPart → List ℕ
 receive_text l s parts =
     title_text l (text_in l texts.TITLE_TO_RECEIVE) s ++ list_head l (sheet_count parts)
@@ -177,13 +177,14 @@ abbrev pub page_fault : DamagedFormFault → ReceivePageFault
 page_fault form_faults.NoMemory = faults.NoMemory
 page_fault form_faults.TooManyParts = faults.TooManyParts
 
--- whether the page couldn't be written, since a write failed
+-- whether a write failed, so that the page isn't complete
 abbrev pub is_device_fault : Result Bool ReceivePageFault → Bool
 is_device_fault (Err faults.Device) = true
 is_device_fault _ = false
 
--- `ReceivedPageWritten`: the page of the form's parts was written, or a prefix of it if the sink failed; the answer
--- says whether the parts are one whole message. `FormNotRead`: nothing was written.
+-- `ReceivedPageWritten`: the page of the form's parts was written. If the sink failed, only a prefix of it was. The
+-- answer says whether the parts are one whole message.
+-- `FormNotRead`: nothing was written.
 pub data IsReceivePageAnswer (l : Language) (s : Day) (form : List ℕ) (sink : Port)
     (answer : Result Bool ReceivePageFault) : Type 0 where
   ReceivedPageWritten : (parts : List DamagedPart) → AreFormParts s form parts
@@ -194,7 +195,7 @@ pub data IsReceivePageAnswer (l : Language) (s : Day) (form : List ℕ) (sink : 
   FormNotRead : (fault : DamagedFormFault) → IsFormFault (damaged_parts_of form) fault
       → answer ≡ Err (page_fault fault) → IsUntouched sink → IsReceivePageAnswer l s form sink answer
 
--- The notes for standard error satisfy `Told`; there are none if the form has too many parts, or memory is short.
+-- `Told` holds of the notes for standard error. There are none if the form has too many parts, or memory is short.
 pub data IsFormNoted (l : Language) (s : Day) (form : List ℕ) (Told : List ℕ → Type 0)
     (answer : Result Bool ReceivePageFault) : Type 0 where
   Noted : (parts : List DamagedPart) → AreFormParts s form parts → Told (receive_notes l s parts)
@@ -203,10 +204,10 @@ pub data IsFormNoted (l : Language) (s : Day) (form : List ℕ) (Told : List ℕ
 
 -- ---- What the code holds. No public contract cites these definitions.
 
--- The machine can show the letters of the keys of the part's text, even if it is one by count.
+-- The machine can show the letters of the keys of the part's text, even if it is a text by count.
 abbrev pub HasShowableKeys : Day → DamagedPart → Type 0
 HasShowableKeys s part = IfSome (shown_text part) (λ shown. AreShowable s shown.keys)
 
--- The machine can show the letters of the keys of each text.
+-- For each part with a text, the machine can show the letters of its keys.
 abbrev pub AreWorkable : Day → List DamagedPart → Type 0
 AreWorkable s parts = All (HasShowableKeys s) parts

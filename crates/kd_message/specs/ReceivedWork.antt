@@ -1,4 +1,4 @@
--- What the operator presses and finds for a received part.
+-- The letters that the operator presses and finds for a received part.
 use Rattle.std.specs.Prelude.{ℕ, ◌-◌, List, ◌++◌, length, map, take, drop, Some, None}
 use Rattle.std.specs.List.{slice_range}
 use Rattle.kd_state.specs.SheetDay.{Day}
@@ -16,8 +16,8 @@ use Rattle.kd_part_sheet.specs.declared.cells.Cell.{Cell}
 use Rattle.kd_part_sheet.specs.Cells.{choice_cells, pressed_cells, received_cells, skipped}
 use Rattle.kd_part_sheet.specs.PartWork.{Work}
 
--- On a rotor machine: at the ground setting, the enciphered key from the heading is pressed, and the lamps show the
--- message key. At the message key, the letters after the first five are pressed.
+-- On a rotor machine, the windows first show the ground setting. The enciphered key from the heading is pressed, and
+-- the lamps show the message key. At the message key, the letters after the first five are pressed.
 abbrev pub rotor_received : Day → Indicator → DamagedText → Work
 rotor_received s i shown =
     let ground : List ℕ = i.ground_setting in record {
@@ -29,15 +29,15 @@ rotor_received s i shown =
           ++ received_cells None (drop 5 shown.received.items) shown.letters.items;
     }
 
--- the body on a Converter: the letters between the indicators are deciphered, the others skipped
+-- the body on a Converter: the letters between the indicators are deciphered, all others are skipped
 abbrev pub pin_body : Day → DamagedText → List Cell
 pin_body s shown =
     map skipped (take 10 shown.received.items)
     ++ received_cells (space_letter s) (slice_range shown.received.items 10 (length shown.received.items - 10))
     shown.letters.items ++ map skipped (drop (length shown.received.items - 10) shown.received.items)
 
--- On a Converter: at the external letters, the chosen letter is enciphered twelve times. At the internal key, the body
--- is deciphered.
+-- On a Converter, the pin wheels first show the external letters, and the chosen letter is enciphered twelve times. At
+-- the internal key, the body is deciphered.
 abbrev pub pin_received : Day → PinTextKeys → DamagedText → Work
 pin_received s k shown = record {
   ground = k.indicator.external;
@@ -46,12 +46,12 @@ pin_received s k shown = record {
   body = pin_body s shown;
 }
 
--- the work for a text with these keys
+-- the letters that are pressed and found for a text with these keys
 abbrev pub work_with : Day → TextKeys → DamagedText → Work
 work_with s (text_keys.Rotor i) shown = rotor_received s i shown
 work_with s (text_keys.Pin k) shown = pin_received s k shown
 
--- the work that the sheet of a received part shows
+-- the letters that are pressed and found on the sheet of a received part
 abbrev pub received_work : Day → DamagedText → Work
 received_work s shown = work_with s shown.keys shown
 

@@ -63,7 +63,7 @@ part_name s part parts = record { model = day_model s; day = day_number s; sheet
 abbrev pub sheet_to_send : Model → Sheet
 sheet_to_send model = if is_converter model then PinSend else RotorSend
 
--- the warnings of a part to send: none
+-- no warnings, as for each part to send
 abbrev pub no_warnings : Warnings
 no_warnings = record { letters_lost = false; copies_lost = false; wrong_day = false; not_tested = false }
 
@@ -89,8 +89,8 @@ send_text l s parts works made =
 
 -- ---- What is worked for an order, and its form.
 
--- For each part, `works` has the letters that are pressed and that light up when its piece of the text is enciphered
--- with its keys.
+-- `works` has, for each part, the letters that are pressed, and those that light up. The part's piece of the text is
+-- enciphered with the part's keys.
 abbrev pub AreWorks : Day → List Keys → List (List ℕ) → List Work → Type 0
 AreWorks s [] [] works = works ≡ []
 AreWorks s (k ∷ keys) (piece ∷ pieces) works =
@@ -98,7 +98,7 @@ AreWorks s (k ∷ keys) (piece ∷ pieces) works =
 AreWorks s [] (piece ∷ pieces) works = ⊥
 AreWorks s (k ∷ keys) [] works = ⊥
 
--- `made` are the parts of a form with `parts` parts, from number `part` on. Each has its piece of the text, enciphered
+-- `made` are the parts of a form with `parts` parts, from number `part` on. Each is its piece of the text, enciphered
 -- with its keys.
 abbrev pub AreMade : Day → ℕ → ℕ → List Keys → List (List ℕ) → List Part → Type 0
 AreMade s part parts [] [] made = made ≡ []
@@ -132,13 +132,13 @@ IsSendRefusal m s order fault =
     IsKeyFault m s fault
     ⊎ (IsReadyOnKey m s × IsFaultOrNoMemory (IsSendFault s order) ((form : List ℕ) × IsFormOf s order form) fault)
 
--- whether the page couldn't be written, since a write failed
+-- whether a write failed, so that the page isn't complete
 abbrev pub is_device : Result (Unit {0}) SendPageFault → Bool
 is_device (Err Device) = true
 is_device _ = false
 
--- `PageWritten`: the order has a form, and the page was written, or a prefix of it if the sink failed. `Refused`:
--- nothing was written.
+-- `PageWritten`: the order has a form, and the page was written. If the sink failed, only a prefix of it was.
+-- `Refused`: nothing was written.
 pub data IsSendPageAnswer (l : Language) (m : Parts) (s : Day) (order : List ℕ) (sink : Port)
     (answer : Result (Unit {0}) SendPageFault) : Type 0 where
   PageWritten : (form page : List ℕ) → IsReadyOnKey m s → IsFormOf s order form → IsSendPage l s order form page
@@ -154,7 +154,7 @@ pub data IsSendPageAnswer (l : Language) (m : Parts) (s : Day) (order : List ℕ
 abbrev pub HasForm : Day → List ℕ → Type 0
 HasForm s order = (form : List ℕ) × IsFormOf s order form
 
--- The keys for the parts from number `part` on are valid on the day, and there is one for each piece of the text.
+-- The keys are for the parts from number `part` on. They are valid on the day, and each piece of the text has its keys.
 pub record AreKeysOfText (s : Day) (part parts : ℕ) (keys : List Keys) (text : List ℕ) : Type 0 where
   pub of_the_day : All (AreKeys s) keys
   pub suited : InTurn (IsKeysAnswer s) part keys (Ok tt)

@@ -38,7 +38,7 @@ abbrev pub text_part_head : Language → PartName → List ℕ
 text_part_head l name = filled (text_in l texts.TEXT_PART) (
     decimal name.part ∷ decimal name.parts ∷ model_name name.model ∷ decimal name.day ∷ [])
 
--- the numbers, with `first` before the first and commas before the others
+-- the numbers, with `first` before the first number, and commas before the other numbers
 abbrev pub numbers_after : List ℕ → List ℕ → List ℕ
 numbers_after first [] = []
 numbers_after first (number ∷ numbers) = first ++ decimal number ++ numbers_after COMMA.now numbers
@@ -51,12 +51,12 @@ order_words l numbers = text_in l texts.ORDER ++ numbers_after [] numbers ++ tex
 unfoldable pub heading_words : PartNumbers → List ℕ
 heading_words numbers = decimal numbers.part ++ texts.OF_PARTS.now ++ decimal numbers.parts
 
--- `first`, the heading's numbers and `more`; if the heading is damaged, `others`
+-- `first`, the heading's numbers and `more`; only `others` if the heading is damaged
 abbrev pub heading_then : List ℕ → Option PartNumbers → List ℕ → List ℕ → List ℕ
 heading_then first (Some numbers) more others = first ++ heading_words numbers ++ more
 heading_then first None more others = others
 
--- the numbers in the undamaged headings, with `first` before the first and commas before the others
+-- the numbers in the undamaged headings, with `first` before the first heading's, and commas before the others'
 abbrev pub headings_after : List ℕ → List DamagedPart → List ℕ
 headings_after first [] = []
 headings_after first (part ∷ parts) =
@@ -66,8 +66,8 @@ headings_after first (part ∷ parts) =
 unfoldable pub several_words : Language → List DamagedPart → List ℕ
 several_words l parts = text_in l texts.SEVERAL ++ headings_after [] parts ++ text_in l texts.SEVERAL_END
 
--- the sentence that the parts aren't of one message; if they are, the order in which they came, unless their numbers
--- rise
+-- The sentence that the parts aren't of one message. If they are, it says in which order they came; it is empty if
+-- their numbers rise.
 abbrev pub order_text : Language → List DamagedPart → List ℕ
 order_text l parts =
     if is_one_message parts
@@ -89,12 +89,13 @@ abbrev pub begins_late : List DamagedPart → Bool
 begins_late [] = false
 begins_late (part ∷ parts) = nat_lt 1 part.line
 
--- the sentence that some of the form was passed over, or read as what it means; empty if nothing was
+-- The sentence that some of the form was passed over, or that some signs were read as other signs. Empty if nothing
+-- was.
 abbrev pub passed_text : Language → List DamagedPart → List ℕ
 passed_text l parts =
     if begins_late parts || is_any_smoothed parts then text_in l texts.PASSED_OVER else []
 
--- the sentence that a part came this often
+-- the sentence that a part came `times` times
 unfoldable pub came_words : Language → ℕ → List ℕ
 came_words l times = text_in l texts.CAME ++ decimal times ++ text_in l texts.CAME_END
 
@@ -103,7 +104,7 @@ came_text l times = if nat_lt 1 times then came_words l times else []
 
 -- ---- What to ask the other station for.
 
--- the checkbox to ask for the words `words` of this part again
+-- the checkbox to ask for `words` of this part again
 unfoldable pub ask_text : Language → ℕ → List ℕ → List ℕ
 ask_text l part words = filled (text_in l texts.ASK) (decimal part ∷ []) ++ words ++ texts.ASK_END.now
 
@@ -116,7 +117,7 @@ unfoldable pub groups_words : Language → ℕ → ℕ → List ℕ
 groups_words l first last =
     text_in l texts.GROUPS ++ decimal first ++ text_in l texts.TO_GROUP ++ decimal last
 
--- the words for a group and the `more` groups after it
+-- the words for the group `number` and the `more` groups after it
 abbrev pub range_words : Language → ℕ → ℕ → List ℕ
 range_words l number more = if more == 0 then group_words l number else groups_words l number (number + more)
 
@@ -125,14 +126,14 @@ abbrev pub has_lost : List (Option ℕ) → Bool
 has_lost [] = false
 has_lost (letter ∷ letters) = is_none letter || has_lost letters
 
--- how many groups at the front of the list have lost letters
+-- how many groups at the start of the list have lost letters, before the first group without one
 abbrev pub run_length : List (List (Option ℕ)) → ℕ
 run_length [] = 0
 run_length (group ∷ groups) = if has_lost group then run_length groups + 1 else 0
 
--- The words for the groups that lost letters, with `first` before the first. The list begins with group `number`.
--- Successive groups are named together, at the first of them: `before` says whether the group before the list lost
--- letters, too.
+-- The words for the groups that lost letters. `first` stands before the first of them. The list begins with group
+-- `number`. Successive groups are named together, where the first of them stands. `before` says whether the group
+-- before the list lost letters, too.
 abbrev pub lost_groups : Language → List ℕ → Bool → ℕ → List (List (Option ℕ)) → List ℕ
 lost_groups l first before number [] = []
 lost_groups l first before number (group ∷ groups) =
@@ -144,26 +145,26 @@ lost_groups l first before number (group ∷ groups) =
 abbrev pub first_text_group : Model → ℕ
 first_text_group model = if is_converter model then 3 else 2
 
--- the place of this key letter in the first copy of the indicators; the chosen letter, number 0, stands at places 1 and
--- 2
+-- The place of this key letter in the first copy of the indicators. The chosen letter, number 0, stands at places 1 and
+-- 2.
 abbrev pub indicator_place : ℕ → ℕ
 indicator_place number = if number == 0 then 1 else number + 2
 
--- the words for the two groups with this key letter: one of the first two groups, and one of the last two, in a body of
--- `came` letters
+-- The words for the two groups with this key letter, in a body of `came` letters. One is among the first two groups,
+-- the other among the last two.
 unfoldable pub key_letter_groups : Language → ℕ → ℕ → List ℕ
 key_letter_groups l came number =
     let group = if nat_le (indicator_place number) 5 then 1 else 2 in
     group_words l group ++ COMMA.now ++ group_words l (came / 5 - 2 + group)
 
--- the words for the groups with the indicators: the first two and the last two, in a body of `came` letters
+-- the words for the groups with the indicators, in a body of `came` letters: the first two and the last two
 unfoldable pub indicator_groups : Language → ℕ → List ℕ
 indicator_groups l came =
     groups_words l 1 2 ++ COMMA.now ++ groups_words l (came / 5 - 1) (came / 5)
 
 -- ---- A part that is read.
 
--- whether a letter of the indicators is lost in one of their copies
+-- whether a letter is lost in some copy of the indicators
 abbrev pub is_copy_lost : Option LostCopies → Bool
 is_copy_lost None = false
 is_copy_lost (Some copies) = copies.at_start || copies.at_end
@@ -173,7 +174,7 @@ is_wrong_day tests.Right = false
 is_wrong_day tests.Wrong = true
 is_wrong_day tests.NotTested = false
 
--- whether the day isn't tested, since a letter of the group is lost, or a list letter in both copies
+-- whether the day couldn't be tested: a letter of the group, or a list letter in both copies, is lost
 abbrev pub is_not_tested : GroupTest → Bool
 is_not_tested tests.Right = false
 is_not_tested tests.Wrong = false
@@ -188,7 +189,7 @@ warnings_of shown = record {
   not_tested = is_not_tested shown.group;
 }
 
--- the start of a text: letters between which lines may break anywhere or, on a Converter, words
+-- The start of a text. It says where lines may break: between any letters or, on a Converter, between words.
 abbrev pub text_begin : Model → List ℕ
 text_begin model = if is_converter model then texts.TEXT_WORDS.now else texts.TEXT_LETTERS.now
 
@@ -199,7 +200,7 @@ ask_for_lost l name letters =
     then ask_text l name.part (lost_groups l [] false (first_text_group name.model) (pieces 5 letters))
     else []
 
--- the text of a part: `?` for each lost letter; then the warnings, and the groups to ask for
+-- the text of a part, with `?` for each lost letter; then the warnings, and the groups to ask for
 unfoldable pub read_text : Language → Sheet → Day → PartName → DamagedText → List ℕ
 read_text l sheet s name shown =
     text_begin name.model ++ map (shown_byte (space_letter s)) shown.letters.items ++ texts.TEXT_END.now
@@ -207,11 +208,11 @@ read_text l sheet s name shown =
 
 -- ---- A part that isn't read.
 
--- the words for line `number` of a part that begins on line `line` of the form; they give the line's number in the form
+-- The words for a line of the form. It is line `number` of a part that begins on line `line` of the form.
 abbrev pub line_words : Language → ℕ → ℕ → List ℕ
 line_words l line number = text_in l texts.LINE ++ decimal (line + number - 1)
 
--- the sentence on what is wrong with the heading of a part that begins on line `line` of the form
+-- the sentence about what is wrong with the heading of a part that begins on line `line` of the form
 unfoldable pub heading_fault : Language → ℕ → List ℕ → List ℕ
 heading_fault l line fault = line_words l line 1 ++ fault
 
@@ -219,13 +220,13 @@ heading_fault l line fault = line_words l line 1 ++ fault
 abbrev pub sign_words : Language → ℕ → List ℕ
 sign_words l byte = if nat_le 48 byte && nat_le byte 57 then decimal (byte - 48) else text_in l texts.THIS_SIGN
 
--- the sentence on a wrong sign, with its place, of a part that begins on line `line` of the form
+-- The sentence about a wrong sign, with its place. The part begins on line `line` of the form.
 unfoldable pub sign_text : Language → ℕ → WrongSign → List ℕ
 sign_text l line sign =
     line_words l line sign.line ++ text_in l texts.LETTER_OF_LINE ++ decimal sign.letter ++ texts.COLON.now
     ++ sign_words l sign.byte ++ text_in l texts.NO_LETTER
 
--- the sentence on the wrong sign of a body
+-- the sentence about the wrong sign of a body
 abbrev pub bad_byte_text : Language → ℕ → Option WrongSign → List ℕ
 bad_byte_text l line (Some sign) = sign_text l line sign
 bad_byte_text l line None = text_in l texts.BAD_BYTE
@@ -235,13 +236,13 @@ abbrev pub sign_group : Language → Option WrongSign → List ℕ
 sign_group l (Some sign) = group_words l ((sign.place - 1) / 5 + 1)
 sign_group l None = text_in l texts.ALL_OF_IT
 
--- the sentence on the heading's count and on the number of letters that came
+-- the sentence with the heading's count, and the number of letters that came
 unfoldable pub counts_text : Language → ℕ → ℕ → List ℕ
 counts_text l counted came =
     text_in l texts.COUNT_WRONG ++ decimal counted ++ text_in l texts.COUNT_CAME ++ decimal came
     ++ text_in l texts.COUNT_END
 
--- the sentence on how many letters a short line has, of a part that begins on line `line` of the form
+-- The sentence that says how many letters a short line has. The part begins on line `line` of the form.
 unfoldable pub short_words : Language → ℕ → ShortLine → List ℕ
 short_words l line short =
     texts.GAP.now ++ line_words l line short.line ++ text_in l texts.LINE_HAS ++ decimal short.letters
@@ -251,26 +252,25 @@ abbrev pub short_text : Language → ℕ → Option ShortLine → List ℕ
 short_text l line (Some short) = short_words l line short
 short_text l line None = []
 
--- what to ask for if the count is wrong or damaged: the count, and the first short group. If no group is short, and the
--- count isn't damaged: the part's lines once the count is confirmed.
+-- The words for what to ask for if the count is wrong or damaged: the count, and the first short group. If no group is
+-- short, and the count is only wrong, ask for the lines once the count is confirmed.
 abbrev pub count_asked : Language → PartDamage → Option ℕ → List ℕ
 count_asked l damage (Some group) = text_in l texts.ITS_COUNT ++ COMMA.now ++ group_words l group
 count_asked l damages.HeadingDamaged None = text_in l texts.ITS_COUNT
 count_asked l _ None = text_in l texts.ITS_COUNT_OR_LINES
 
--- what to ask for if the count is wrong, and the part isn't read: the ten groups of the short line that explains the
--- count, if there is one
+-- The words for what to ask for if the count is wrong, and the part isn't read. If a short line explains the count,
+-- these are its ten groups.
 abbrev pub short_groups : Language → Option ℕ → Option ShortLine → List ℕ
 short_groups l group (Some short) = groups_words l (short.before / 5 + 1) (short.before / 5 + 10)
 short_groups l group None = count_asked l damages.CountWrong group
 
--- the sentences on the heading's count, on the number of letters that came, and on the line in which letters are
--- missing
+-- the sentences about the heading's count, the number of letters that came, and the line in which letters are missing
 unfoldable pub count_text : Language → DamagedPart → List ℕ
 count_text l part =
     counts_text l (heading_count part.numbers) part.came ++ short_text l part.line (part_line part)
 
--- the sentence on why a part isn't read
+-- the sentence that says why a part isn't read
 abbrev pub reason_text : Language → DamagedPart → PartDamage → List ℕ
 reason_text l part damages.HeadingDamaged = heading_fault l part.line (text_in l texts.HEADING_DAMAGED)
 reason_text l part damages.HeadingKeyLost = heading_fault l part.line (text_in l texts.HEADING_KEY_LOST)
@@ -295,33 +295,35 @@ asked_words l part (damages.KeyLetterLost number) = key_letter_groups l part.cam
 asked_words l part damages.KeyNotOnWheel = indicator_groups l part.came
 asked_words l part damages.NoInternalKey = indicator_groups l part.came
 
--- the paragraph on a part that isn't read, for the reason `reason`, and the checkbox to ask for `words` again
+-- The paragraph about a part that isn't read, for the reason `reason`. It has the checkbox to ask for `words` again.
 unfoldable pub unread_text : Language → PartName → List ℕ → List ℕ → List ℕ
 unread_text l name reason words =
     text_in l texts.UNREAD ++ reason ++ texts.REASON_END.now ++ ask_text l name.part words
 
--- the paragraph on a part that isn't read
+-- the paragraph about a part that isn't read
 abbrev pub damage_text : Language → PartName → DamagedPart → PartDamage → List ℕ
 damage_text l name part damage =
     unread_text l name (reason_text l part damage) (asked_words l part damage)
 
--- the paragraph on a part that didn't come
+-- the paragraph about a part that didn't come
 abbrev pub missing_text : Language → PartName → List ℕ
 missing_text l name = unread_text l name (text_in l texts.DID_NOT_COME) (text_in l texts.ALL_OF_IT)
 
 -- ---- A part that is read by the letters that came, since its count is wrong or damaged.
 
--- the sentence that the count in the heading on line `line` of the form is damaged, and how many letters came
+-- The sentence that says that the count in the heading is damaged, and how many letters came. The heading is on line
+-- `line` of the form.
 unfoldable pub damaged_count : Language → ℕ → ℕ → List ℕ
 damaged_count l line came =
     line_words l line 1 ++ text_in l texts.COUNT_DAMAGED ++ decimal came ++ text_in l texts.COUNT_DAMAGED_END
 
--- the sentence on what is wrong with the count
+-- the sentence that says what is wrong with the count
 abbrev pub counted_reason : Language → DamagedPart → PartDamage → List ℕ
 counted_reason l part damages.HeadingDamaged = damaged_count l part.line part.came
 counted_reason l part _ = counts_text l (heading_count part.numbers) part.came
 
--- the sentence on the first short group; if no group is short, that the number of letters that came may be right
+-- The sentence that names the first short group. If no group is short, it says that the number of letters that came may
+-- be right.
 abbrev pub groups_told : Language → ℕ → Option ℕ → List ℕ
 groups_told l came (Some group) =
     text_in l texts.SHORT_GROUP ++ decimal group ++ text_in l texts.SHORT_GROUP_END

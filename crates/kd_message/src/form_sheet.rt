@@ -116,7 +116,7 @@ fn draw_form_group<W: Sink>(sink: &mut W, letters: &[Letter])
     draw(sink, FORM_GROUP_END);
 }
 
-/// The note below a part that says which of its groups are fillers or indicators.
+/// The note below a part. It says which groups of the part are fillers or indicators.
 fn part_note(language: Language, indicator: &Option<Indicator>) -> &'static str
     ensures { result.now ≡ part_note language indicator.now }
 {

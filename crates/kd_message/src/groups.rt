@@ -21,7 +21,7 @@ pub(crate) fn has_lost(letters: &[Option<Letter>]) -> bool
     }
 }
 
-/// Writes which groups of `letters` lost letters, with `first` before the first of them.
+/// Writes which groups of `letters` lost letters. `first` stands before the first of them.
 ///
 /// `before` says whether the group before `letters` lost letters, too.
 pub(crate) fn draw_lost_groups<W: Sink>(
@@ -49,7 +49,7 @@ pub(crate) fn draw_lost_groups<W: Sink>(
     }
 }
 
-/// How many groups at the front of `letters` have lost letters.
+/// How many groups at the start of `letters` have lost letters, before the first group without one.
 fn run_length(letters: &[Option<Letter>]) -> usize
     ensures groups { result ≡ run_length (pieces 5 letters.now) }
     ensures few { result ≤ length letters.now }
@@ -65,7 +65,7 @@ fn run_length(letters: &[Option<Letter>]) -> usize
     }
 }
 
-/// Writes the words for a group and the `more` groups after it.
+/// Writes the words for the group `number` and the `more` groups after it.
 fn draw_range<W: Sink>(sink: &mut W, language: Language, number: usize, more: usize)
     requires { number + more ≤ 1000 }
     ensures { Draws W.taken W.has_failed sink.old sink.new (range_words language number more) }

@@ -1,4 +1,4 @@
-//! Laws of the rows of a page, of whole messages, and of templates.
+//! Laws about the rows of a page, whole messages, and templates.
 ghost use Rattle.kd_message.specs.Checked.{TemplatesTakeTheirValues};
 ghost use Rattle.kd_message.specs.Laws.{FormsReadAreWhole, NothingReadIsHidden, RowsAreDeciphered, RowsAreEnciphered};
 ghost use Rattle.kd_message.specs.Laws.{RepetitionsHaveTheLetters, WholeMessagesAreOnThePage, WholeMessagesAreRead};
@@ -9,8 +9,8 @@ pub fn rows_are_enciphered()
     ensures { RowsAreEnciphered }
 {}
 
-/// The letters below the line are what the machine makes of the received ones, whatever keys are pressed for lost
-/// letters.
+/// The letters below the line are what the machine makes of the received letters above it. For lost letters, any keys
+/// may be pressed.
 pub fn rows_are_deciphered()
     ensures { RowsAreDeciphered }
 {}
@@ -20,30 +20,30 @@ pub fn templates_take_their_values()
     ensures { TemplatesTakeTheirValues }
 {}
 
-/// A form that `desk receive` reads is shown whole, with the same text.
+/// A form that `desk receive` reads is shown as one whole message, with the same text.
 pub fn forms_read_are_whole()
     ensures { FormsReadAreWhole }
 {}
 
-/// No part that can be read is hidden by a part with the same number of which less can be read.
+/// For each part that can be read, the page shows a text with all its letters, under the same number.
 pub fn nothing_read_is_hidden()
     ensures { NothingReadIsHidden }
 {}
 
-/// In a whole message, all headings give the same number of parts, and parts with the same number have the same
-/// letters.
+/// In a whole message, all headings give the same number of parts. Parts with the same number have the same letters,
+/// except where one was lost.
 pub fn whole_messages_agree()
     ensures total { WholeMessagesHaveOneTotal }
     ensures repetitions { RepetitionsHaveTheLetters }
 {}
 
-/// The page of a whole message has the text of each part, with no lost letter.
+/// The page of a whole message has the text of each part, without a lost letter.
 pub fn whole_messages_are_on_the_page()
     ensures { WholeMessagesAreOnThePage }
 {}
 
-/// `desk receive` reads the parts of a whole message, once they are sorted, and gets the same text, if nothing in the
-/// form was lost, a small letter, a tab, or respaced.
+/// `desk receive` reads the parts of a whole message, once they are sorted, and gets the same text. The form has no
+/// lost letter, no small letter, no tab, and no heading with needless blanks.
 pub fn whole_messages_are_read()
     ensures { WholeMessagesAreRead }
 {}

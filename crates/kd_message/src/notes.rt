@@ -74,7 +74,7 @@ fn draw_other_day<W: Sink>(sink: &mut W, language: Language, name: PartName)
     draw_in(sink, language, NOTE_OTHER_DAY);
 }
 
-/// Writes the number of a part, with which its line begins.
+/// Writes the number of a part, with which its note begins.
 fn draw_note_name<W: Sink>(sink: &mut W, language: Language, name: PartName)
     ensures { Draws W.taken W.has_failed sink.old sink.new
         (note_name language name) }
@@ -123,7 +123,7 @@ fn draw_lost_line<W: Sink>(
     draw(sink, NOTE_END);
 }
 
-/// Writes the note on the count of a part that is read by count.
+/// Writes the notes on a part that is read by count: the count is wrong or damaged, and what else is wrong.
 fn draw_counted_note<W: Sink>(
     sink: &mut W,
     language: Language,
@@ -144,7 +144,7 @@ fn draw_counted_note<W: Sink>(
     draw_read_note(sink, language, name, shown);
 }
 
-/// Writes the note on why a part isn't read.
+/// Writes the note that says why a part isn't read.
 fn draw_unread_note<W: Sink>(
     sink: &mut W,
     language: Language,
@@ -173,8 +173,8 @@ pub(crate) fn draw_missing_note<W: Sink>(sink: &mut W, language: Language, name:
     draw(sink, NOTE_END);
 }
 
-/// Writes the note on why a part without a number isn't read. `after` is the number of the last numbered part before
-/// it.
+/// Writes the note that says why a part without a number isn't read. `after` is the number of the last numbered part
+/// before it.
 pub(crate) fn draw_lone_note<W: Sink>(
     sink: &mut W,
     language: Language,

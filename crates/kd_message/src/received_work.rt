@@ -1,4 +1,4 @@
-//! What the operator presses and finds for a received part.
+//! The letters that the operator presses and finds for a received part.
 ghost use Rattle.std.specs.Prelude.{◌≡◌};
 ghost use Rattle.kd_state.specs.EngineKey.{IsWindow};
 ghost use Rattle.kd_state.specs.OwnKeys.{sheet_key};

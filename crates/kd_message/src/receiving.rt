@@ -45,18 +45,17 @@ use std::alloc::Global;
 pub enum ReceivePageFault {
     /// There was no memory for what is read of the parts.
     NoMemory,
-    /// The form would have more than 255 parts.
+    /// The form has more than 255 parts.
     TooManyParts,
     /// A write to the sink failed.
     Device,
 }
 
-/// Writes the page in `language` that shows how to decipher `form` by hand on a machine on the day's key, with the
-/// form's text.
+/// Writes the page in `language` that shows how to decipher `form` by hand, with the form's text. The machine is on the
+/// day's key.
 ///
 /// Writes to `notes` what is wrong with the form, and what to ask for. Returns whether the form is one whole message of
-/// the day, and all of its text was read. For `Device`, a prefix of the page is written. For other faults, nothing is
-/// written.
+/// the day, with all of its text. For `Device`, a prefix of the page is written. For other faults, nothing is written.
 pub fn write_receive_page<W: Sink, E: Sink>(
     alloc: Global,
     language: Language,
@@ -152,7 +151,7 @@ fn draw_notes<E: Sink>(notes: &mut E, language: Language, day: &SheetDay, parts:
     draw_section(notes, Section::Noted, language, day, parts);
 }
 
-/// Writes a section: the parts by number or, if they aren't of one message, in the order of arrival.
+/// Writes a section: the parts by their numbers or, if they aren't of one message, in the order of arrival.
 fn draw_section<W: Sink>(
     sink: &mut W,
     section: Section,
@@ -172,7 +171,7 @@ fn draw_section<W: Sink>(
     }
 }
 
-/// Writes the words of a section on the unnumbered parts at the beginning, then on each number.
+/// Writes the words of a section on the unnumbered parts at the beginning, then on the part with each number.
 fn draw_by_number<W: Sink>(
     sink: &mut W,
     section: Section,
@@ -196,7 +195,7 @@ fn draw_by_number<W: Sink>(
     );
 }
 
-/// Writes the words of a section on the `count` numbers from `number` on.
+/// Writes the words of a section on the parts with the `count` numbers from `number` on.
 fn draw_numbers<W: Sink>(
     sink: &mut W,
     section: Section,
@@ -217,7 +216,7 @@ fn draw_numbers<W: Sink>(
     }
 }
 
-/// Writes the words of a section on `number`, then on the unnumbered parts after it.
+/// Writes the words of a section on the part with `number`, then on the unnumbered parts after it.
 fn draw_number<W: Sink>(
     sink: &mut W,
     section: Section,
@@ -235,7 +234,7 @@ fn draw_number<W: Sink>(
     draw_lone_after(sink, section, language, day, number as u8, 0, parts);
 }
 
-/// Writes the words of a section on the part that is shown under `number`.
+/// Writes the words of a section on the part that is shown under `number`; if there is none, that it didn't come.
 fn draw_shown<W: Sink>(
     sink: &mut W,
     section: Section,
@@ -260,8 +259,8 @@ fn draw_shown<W: Sink>(
     }
 }
 
-/// Writes the words of a section on the unnumbered parts between the part with number `after` and the next numbered
-/// part.
+/// Writes the words of a section on unnumbered parts. These stand between the part with number `after` and the next
+/// numbered part.
 ///
 /// `before` is the last number before `parts`.
 fn draw_lone_after<W: Sink>(
@@ -284,7 +283,7 @@ fn draw_lone_after<W: Sink>(
     }
 }
 
-/// Whether a part has no number, and the last number before it, `before`, is `after`.
+/// Whether a part has no number, and `before`, the last part number before it, is `after`.
 fn is_lone_after(after: u8, before: u8, numbers: &Option<PartNumbers>) -> bool
     ensures { result ≡ (is_none numbers.now && before == after) }
 {
@@ -304,7 +303,7 @@ fn number_or(before: u8, numbers: &Option<PartNumbers>) -> u8
     }
 }
 
-/// Writes the words of a section on a part, if it has no number, and the last number before it, `before`, is `after`.
+/// Writes the words of a section on a part without a number, if `before`, the last part number before it, is `after`.
 fn draw_lone_if<W: Sink>(
     sink: &mut W,
     is_there: bool,
@@ -344,8 +343,8 @@ fn draw_lone<W: Sink>(
     }
 }
 
-/// Writes the words of a section on the parts from `place` on, in the order of arrival. `before` is the last number
-/// before them.
+/// Writes the words of a section on the parts from `place` on, in the order of arrival. `before` is the last part
+/// number before them.
 fn draw_as_they_came<W: Sink>(
     sink: &mut W,
     section: Section,
@@ -367,7 +366,7 @@ fn draw_as_they_came<W: Sink>(
     }
 }
 
-/// Writes the words of a section on the part at `place`. `before` is the last number before it.
+/// Writes the words of a section on the part at `place`. `before` is the last part number before it.
 fn draw_part_at<W: Sink>(
     sink: &mut W,
     section: Section,
@@ -502,7 +501,7 @@ fn sheet_to_receive(model: Model) -> Sheet
     }
 }
 
-/// Writes the section on a part's text: its head, how often it came, and its text or why it isn't read.
+/// Writes the section on a part's text. It has its head, how often it came, and its text or why it isn't read.
 fn draw_part_text<W: Sink>(
     sink: &mut W,
     language: Language,

@@ -40,7 +40,7 @@ use std::alloc::Global;
 /// Why the page of an order isn't written.
 #[derive(Clone, Copy, Debug, PartialEq, Eq)]
 pub enum SendPageFault {
-    /// The fault that `send` also returns: one of the machine or of the order, or too little memory.
+    /// A fault that `send` also returns: one of the machine or of the order, or too little memory.
     Order(FormFault),
     /// A write to the sink failed.
     Device,
@@ -57,8 +57,8 @@ impl From<FormFault> for SendPageFault {
     }
 }
 
-/// Writes the page in `language` that shows how to encipher `order` by hand on `machine`, which must be on the day's
-/// key.
+/// Writes the page in `language` that shows how to encipher `order` by hand on `machine`. The machine must be on the
+/// day's key.
 ///
 /// For a fault of `send`, nothing is written. For `Device`, a prefix of the page is written.
 pub fn write_send_page<W: Sink>(
@@ -221,7 +221,7 @@ fn draw_part_sheets<W: Sink>(
     }
 }
 
-/// The warnings of a part to send: none.
+/// No warnings, as for each part to send.
 const NO_WARNINGS: Warnings = Warnings {
     letters_lost: false,
     copies_lost: false,

@@ -45,7 +45,7 @@ pub(crate) fn draw_text_sheet_head<W: Sink>(sink: &mut W, language: Language, da
     );
 }
 
-/// Writes that some of the form was passed over, or read as what it means, if so.
+/// Writes that some of the form was passed over, or that some signs were read as other signs, if so.
 pub(crate) fn draw_passed<W: Sink>(sink: &mut W, language: Language, parts: &[DamagedPart])
     ensures { Draws W.taken W.has_failed sink.old sink.new (passed_text language parts.now) }
 {
@@ -76,7 +76,8 @@ fn is_any_smoothed(parts: &[DamagedPart]) -> bool
     }
 }
 
-/// Writes that the parts aren't of one message; if they are, the order in which they came, unless their numbers rise.
+/// Writes that the parts aren't of one message. If they are, writes in which order they came, unless their numbers
+/// rise.
 pub(crate) fn draw_order<W: Sink>(sink: &mut W, language: Language, parts: &[DamagedPart])
     ensures { Draws W.taken W.has_failed sink.old sink.new (order_text language parts.now) }
 {
@@ -98,7 +99,8 @@ fn draw_several_words<W: Sink>(sink: &mut W, language: Language, parts: &[Damage
     draw_in(sink, language, SEVERAL_END);
 }
 
-/// Writes the numbers in the undamaged headings, with `first` before the first and commas before the others.
+/// Writes the numbers in the undamaged headings. `first` stands before the first heading's numbers, commas before the
+/// others'.
 fn draw_headings<W: Sink>(sink: &mut W, first: &str, parts: &[DamagedPart])
     ensures { Draws W.taken W.has_failed sink.old sink.new
         (headings_after first.now parts.now) }
@@ -152,7 +154,7 @@ fn draw_order_words<W: Sink>(sink: &mut W, language: Language, parts: &[DamagedP
     draw_in(sink, language, ORDER_END);
 }
 
-/// Writes the numbers of the parts that have one, with `first` before the first and commas before the others.
+/// Writes the numbers of the parts that have one. `first` stands before the first number, commas before the others.
 fn draw_numbers<W: Sink>(sink: &mut W, first: &str, parts: &[DamagedPart])
     ensures { Draws W.taken W.has_failed sink.old sink.new
         (numbers_after first.now (numbers_of parts.now)) }
@@ -204,7 +206,7 @@ pub(crate) fn draw_read_text<W: Sink>(
     draw_ask_for_lost(sink, language, name, shown.letters.as_slice());
 }
 
-/// The start of a text: letters between which lines may break anywhere or, on a Converter, words.
+/// The start of a text. It says where lines may break: between any letters or, on a Converter, between words.
 fn text_begin(model: Model) -> &'static str
     ensures { result.now ≡ text_begin model }
 {
@@ -215,7 +217,7 @@ fn text_begin(model: Model) -> &'static str
     }
 }
 
-/// Writes letters of a text: `?` for each lost one, a space for each letter `for_space`.
+/// Writes letters of a text, with `?` for each lost letter, and a space for each letter `for_space`.
 fn draw_letters_shown<W: Sink>(sink: &mut W, for_space: &Option<Letter>, letters: &[Option<Letter>])
     ensures { Draws W.taken W.has_failed sink.old sink.new
         (map (shown_byte for_space.now) letters.now) }
@@ -249,7 +251,7 @@ pub(crate) fn warnings_of(shown: &DamagedText) -> Warnings
     }
 }
 
-/// Whether a letter of the indicators is lost in one of their copies.
+/// Whether a letter is lost in some copy of the indicators.
 fn is_copy_lost(copies: &Option<LostCopies>) -> bool
     ensures { result ≡ is_copy_lost copies.now }
 {
@@ -268,7 +270,7 @@ pub(crate) fn is_wrong_day(group: GroupTest) -> bool
     }
 }
 
-/// Whether the day isn't tested, since a letter of the group is lost, or a list letter in both copies.
+/// Whether the day couldn't be tested: a letter of the group, or a list letter in both copies, is lost.
 fn is_not_tested(group: GroupTest) -> bool
     ensures { result ≡ is_not_tested group }
 {

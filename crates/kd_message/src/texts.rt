@@ -7,7 +7,7 @@ pub const TITLE_TO_SEND: Text = ("~, day ~: send", "~, Tag ~: Verschlüsseln");
 
 pub const TITLE_TO_RECEIVE: Text = ("~, day ~: receive", "~, Tag ~: Entschlüsseln");
 
-/// The start of the list of the sheets, for one part, and for several.
+/// The start of the list of the sheets, for one part and for several parts.
 pub const LIST_OF_ONE: Text = (
     "<nav aria-label=\"Sheets\">\n<ul>\n",
     "<nav aria-label=\"Blätter\">\n<ul>\n",
@@ -42,13 +42,13 @@ pub const LONE_FIRST: Text = (
     "Ein Teil ohne Nummer, am Anfang",
 );
 
-/// The line for a part without a number in the list of the sheets: what stands before and after its words.
+/// A part without a number, in the list of the sheets: the signs before its words, and after them.
 pub const LISTED_LONE: &str = "<li><a href=\"#text\">";
 
 pub const LISTED_LONE_END: Text = ("</a>, not read\n", "</a>, nicht lesbar\n");
 
-/// The head of a part without a number on the sheet with the text: what stands before and after its words. The values
-/// are the model and the day.
+/// The head of a part without a number, on the sheet with the text: the signs before its words, and after them. The
+/// values are the model and the day.
 pub const LONE_HEAD: &str = "<section>\n<h2>";
 
 pub const LONE_HEAD_END: Text = (
@@ -62,7 +62,7 @@ pub const LONE_ASK: Text = (
     "<label><input type=checkbox> diesen Teil wiederholen lassen: <b>",
 );
 
-/// The end of the list of the sheets, with a link to the form, and with one to the text.
+/// The end of the list of the sheets: a link to the form, or to the text.
 pub const LIST_END_WITH_FORM: Text = (
     "<li><a href=\"#form\">Form</a>\n</ul>\n</nav>\n",
     "<li><a href=\"#form\">Funkspruch</a>\n</ul>\n</nav>\n",
@@ -73,8 +73,8 @@ pub const LIST_END_WITH_TEXT: Text = (
     "<li><a href=\"#text\">Klartext</a>\n</ul>\n</nav>\n",
 );
 
-/// The head of the sheet with the text, and of each part on it. The values are the model and the day; a part's number
-/// and the number of parts come first.
+/// The head of the sheet with the text, and the head of each part on it. The sheet's values are the model and the day.
+/// A part's values are its number, the number of parts, the model, and the day.
 pub const TEXT_SHEET: Text = (
     "<article id=text class=form>\n<header>\n<h1>~, day ~: text</h1>\n<p class=fields><span>From</span><span>Time</span><span>Read by</span></p>\n</header>\n",
     "<article id=text class=form>\n<header>\n<h1>~, Tag ~: Klartext</h1>\n<p class=fields><span>Von</span><span>Uhrzeit</span><span>Entschlüsselt durch</span></p>\n</header>\n",
@@ -85,20 +85,20 @@ pub const TEXT_PART: Text = (
     "<section>\n<h2>Teil ~ von ~<span>~, Tag ~: Klartext</span></h2>\n",
 );
 
-/// The text of a part: letters between which lines may break anywhere, or words; then its end.
+/// The start of a text: its lines may break between any letters, or between words. Then the end of a text.
 pub const TEXT_LETTERS: &str = "<p class=\"text letters\">";
 
 pub const TEXT_WORDS: &str = "<p class=\"text words\">";
 
 pub const TEXT_END: &str = "</p>\n";
 
-/// The sentence that some of the form was passed over, or read as what it means.
+/// The sentence that some of the form was passed over, or that some signs were read as other signs.
 pub const PASSED_OVER: Text = (
     "<p>Some of the form was passed over, or read as what it means: lines before the first heading, blanks in a heading, tabs, small letters.</p>\n",
     "<p>Einiges im Spruch ist übergangen oder gelesen, wie es gemeint ist: Zeilen vor dem ersten Spruchkopf, Leerzeichen in einem Spruchkopf, Tabulatoren, Kleinbuchstaben.</p>\n",
 );
 
-/// The order in which the parts came: the words before and after the parts' numbers.
+/// The order in which the parts came: the words before the parts' numbers, and after them.
 pub const ORDER: Text = (
     "<p>The parts came in this order: ",
     "<p>Die Teile kamen in dieser Reihenfolge: ",
@@ -106,7 +106,7 @@ pub const ORDER: Text = (
 
 pub const ORDER_END: Text = (".</p>\n", ".</p>\n");
 
-/// The parts aren't of one message: the words before and after the numbers in the headings.
+/// The parts aren't of one message: the words before the numbers in the headings, and after them.
 pub const SEVERAL: Text = (
     "<p class=reason><b>Not one message.</b> The headings give different numbers of parts, or parts with one number differ or can’t be put together: ",
     "<p class=reason><b>Teile verschiedener Sprüche.</b> Die Spruchköpfe nennen verschiedene Zahlen von Teilen, oder Teile mit einer Nummer weichen voneinander ab oder passen nicht zusammen: ",
@@ -120,7 +120,7 @@ pub const SEVERAL_END: Text = (
 /// The sign between a part's number and the number of parts.
 pub const OF_PARTS: &str = "/";
 
-/// How often a part came: the words before and after the number.
+/// How often a part came: the words before the number, and after it.
 pub const CAME: Text = ("<p>This part came ", "<p>Dieser Teil kam ");
 
 pub const CAME_END: Text = (
@@ -137,7 +137,7 @@ pub const ASK: Text = (
 /// The word before a group's number.
 pub const GROUP: Text = ("group ", "Gruppe ");
 
-/// Several groups in a row: the words before the number of the first, and before the number of the last.
+/// Several groups in a row: the words before the number of the first group, and before the number of the last.
 pub const GROUPS: Text = ("groups ", "Gruppen ");
 
 pub const TO_GROUP: Text = (" to ", " bis ");
@@ -149,7 +149,7 @@ pub const ITS_KEYS: Text = (
     "Grundstellung und Schlüssel des Spruchkopfs",
 );
 
-/// What to ask for: the count in a heading; or also the lines of the body, once the count is confirmed.
+/// What to ask for: the count in a heading. Or the count and, once it is confirmed, the lines of the body.
 pub const ITS_COUNT: Text = ("its count", "Buchstabenzahl");
 
 pub const ITS_COUNT_OR_LINES: Text = (
@@ -162,7 +162,7 @@ pub const ALL_OF_IT: Text = ("all of it", "alles");
 /// The end of the checkbox.
 pub const ASK_END: &str = "</b></label>\n";
 
-/// A part that isn't read: the words before and after the reason.
+/// A part that isn't read: the words before the reason, and after it.
 pub const UNREAD: Text = (
     "<p class=reason><b>Not read.</b> ",
     "<p class=reason><b>Nicht lesbar.</b> ",
@@ -173,7 +173,7 @@ pub const REASON_END: &str = "</p>\n";
 /// The word before a line's number.
 pub const LINE: Text = ("Line ", "Zeile ");
 
-/// The reasons why a part isn't read, from here to `NO_INTERNAL_KEY`; some stand in pieces around their values.
+/// From here to `NO_INTERNAL_KEY`: the reasons why a part isn't read. Reasons with values are cut into several texts.
 pub const HEADING_DAMAGED: Text = (
     ": the heading is damaged.",
     ": Der Spruchkopf ist verstümmelt.",
@@ -210,8 +210,8 @@ pub const BAD_BYTE: Text = (
     "Ein Zeichen des Spruchs ist kein Buchstabe.",
 );
 
-/// A wrong sign: the words before its place in its line, and before the sign; the word for a sign that isn't a digit;
-/// and the words after the sign.
+/// A wrong sign: the words before its place in its line, and before the sign. Then the word for a sign that isn't a
+/// digit, and the words after the sign.
 pub const LETTER_OF_LINE: Text = (", letter ", ", Buchstabe ");
 
 pub const COLON: &str = ": ";
@@ -226,8 +226,8 @@ pub const COUNT_CAME: Text = (", but ", ", eingegangen: ");
 
 pub const COUNT_END: Text = (" came.", ".");
 
-/// A part that is read by count: the words before what is wrong with its count. Then the words for a damaged count,
-/// before and after the number of letters that came.
+/// A part that is read by count: the words before what is wrong with its count. Then the words before and after the
+/// number of letters that came, if the count is damaged.
 pub const BY_COUNT: Text = (
     "<p class=reason><b>Read by the letters that came.</b> ",
     "<p class=reason><b>Gelesen nach den eingegangenen Buchstaben.</b> ",
@@ -240,12 +240,12 @@ pub const COUNT_DAMAGED: Text = (
 
 pub const COUNT_DAMAGED_END: Text = (" letters came.", " Buchstaben.");
 
-/// A group that doesn't have five letters: the words before and after its number.
+/// A group that doesn't have five letters: the words before its number, and after it.
 pub const SHORT_GROUP: Text = (" Group ", " Gruppe ");
 
 pub const SHORT_GROUP_END: Text = (" hasn’t five letters.", " hat nicht fünf Buchstaben.");
 
-/// Each group has five letters: the words before and after the number of letters that came.
+/// Each group has five letters: the words before the number of letters that came, and after it.
 pub const FULL_GROUPS: Text = (
     " Each group but the last has five letters, so ",
     " Jede Gruppe bis auf die letzte hat fünf Buchstaben, also kann ",
@@ -253,7 +253,7 @@ pub const FULL_GROUPS: Text = (
 
 pub const FULL_GROUPS_END: Text = (" may be right.", " stimmen.");
 
-/// A short line: the words before the line, before the number of its letters, and after it.
+/// A short line: the words before the line, before the number of its letters, and after this number.
 pub const GAP: &str = " ";
 
 pub const LINE_HAS: Text = (" has ", " hat ");
@@ -289,8 +289,8 @@ pub const FORM: Text = (
     "<article id=form class=form>\n<header>\n<h1>~, Tag ~: Funkspruch</h1>\n<p class=fields><span>An</span><span>Von</span><span>Uhrzeit</span><span>Befördert durch</span></p>\n</header>\n",
 );
 
-/// The head of a part of the form. The values are its number, the number of parts, the model, the day, its number, the
-/// number of parts, and the number of letters.
+/// The head of a part of the form. The values are its number, the number of parts, the model, and the day. Then come
+/// its number, the number of parts, and the number of letters.
 pub const FORM_PART: Text = (
     "<section>\n<h2>Part ~ of ~<span>~, day ~: form for the radio</span></h2>\n<p class=heading><span>part <b>PART ~/~</b></span><span>letters <b>~</b></span>",
     "<section>\n<h2>Teil ~ von ~<span>~, Tag ~: Funkspruch</span></h2>\n<p class=heading><span>Teil <b>PART ~/~</b></span><span>Buchstaben <b>~</b></span>",
@@ -304,7 +304,7 @@ pub const FORM_KEY: Text = (
     "</b></span><span>Schlüssel, verschlüsselt <b>",
 );
 
-/// The end of the heading of a rotor machine's part; the start of the groups; the start and the end of a group.
+/// The end of a rotor machine's heading, the start of the groups, and the start and the end of a group.
 pub const FORM_KEY_END: &str = "</b></span>";
 
 pub const FORM_GROUPS: &str = "</p>\n<div class=groups>";
@@ -313,7 +313,7 @@ pub const FORM_GROUP: &str = "<span>";
 
 pub const FORM_GROUP_END: &str = "</span>";
 
-/// The note below a part that says which of its groups are fillers or indicators.
+/// The note below a part. It says which groups of the part are fillers or indicators.
 pub const FORM_ROTOR_NOTE: Text = (
     "</div>\n<p class=note>Group 1: two fillers, then the group of the day.</p>\n</section>\n",
     "</div>\n<p class=note>Gruppe 1: zwei Füllbuchstaben, dann die Kenngruppe des Tages.</p>\n</section>\n",
@@ -329,8 +329,8 @@ pub const ARTICLE_END: &str = "</article>\n";
 
 // ---- What is told on standard error.
 
-/// A line about a part. The values are its number and the number of parts. Then the words before what to ask for, and
-/// the line's end.
+/// A note about a part. The values are its number and the number of parts. Then the words before what to ask for, and
+/// the ends of the note.
 pub const NOTE_PART: Text = ("Part ~ of ~: ", "Teil ~ von ~: ");
 
 pub const NOTE_ASK: Text = (" Ask for ", " Wiederholen lassen: ");

@@ -113,7 +113,7 @@ pub(crate) fn draw_heading_fault<W: Sink>(
     draw(sink, fault);
 }
 
-/// Writes the words for line `number` of a part that begins on line `line` of the form.
+/// Writes the words for a line of the form. It is line `number` of a part that begins on line `line` of the form.
 pub(crate) fn draw_line_words<W: Sink>(sink: &mut W, language: Language, line: usize, number: usize)
     ensures { Draws W.taken W.has_failed sink.old sink.new (line_words language line number) }
 {
@@ -121,14 +121,14 @@ pub(crate) fn draw_line_words<W: Sink>(sink: &mut W, language: Language, line: u
     draw(sink, Buffer::new().format(line_of_form(line, number)));
 }
 
-/// The number in the form of line `number` of a part that begins on line `line` of the form.
+/// The number of a line in the form. It is line `number` of a part that begins on line `line` of the form.
 fn line_of_form(line: usize, number: usize) -> u128
     ensures { result ≡ line + number - 1 }
 {
     (line as u128 + number as u128).saturating_sub(1)
 }
 
-/// Writes what is wrong with a sign of a part that begins on line `line` of the form.
+/// Writes that a sign of the body is wrong, with its place. The part begins on line `line` of the form.
 fn draw_bad_byte<W: Sink>(sink: &mut W, language: Language, line: usize, sign: &Option<WrongSign>)
     ensures { Draws W.taken W.has_failed sink.old sink.new
         (bad_byte_text language line sign.now) }
@@ -200,7 +200,8 @@ fn draw_short<W: Sink>(sink: &mut W, language: Language, line: usize, short: Opt
     }
 }
 
-/// Writes how many letters the line `short` has of the 50 that a full line has.
+/// Writes how many letters the line `short` has, and that a full line has 50. The part begins on line `line` of the
+/// form.
 fn draw_short_words<W: Sink>(sink: &mut W, language: Language, line: usize, short: ShortLine)
     ensures { Draws W.taken W.has_failed sink.old sink.new (short_words language line short) }
 {
@@ -211,8 +212,8 @@ fn draw_short_words<W: Sink>(sink: &mut W, language: Language, line: usize, shor
     draw_in(sink, language, FULL_LINE);
 }
 
-/// Writes what to ask for if the count is wrong: the ten groups of the short line that explains the count, if there is
-/// one.
+/// Writes what to ask for if the count is wrong, and the part isn't read. If a short line explains the count, these are
+/// its ten groups.
 fn draw_short_groups<W: Sink>(
     sink: &mut W,
     language: Language,
@@ -230,7 +231,8 @@ fn draw_short_groups<W: Sink>(
     }
 }
 
-/// Writes what to ask for if the count is wrong or damaged. `group` is the first group that doesn't have five letters.
+/// Writes what to ask for if the count is wrong or damaged. `group` is the number of the first group that doesn't have
+/// five letters.
 pub(crate) fn draw_count_asked<W: Sink>(
     sink: &mut W,
     language: Language,
@@ -304,7 +306,7 @@ pub(crate) fn draw_asked<W: Sink>(
     }
 }
 
-/// Writes the words for the two groups with a key letter, in a body of `came` letters.
+/// Writes the words for the two groups with key letter `number`, in a body of `came` letters.
 fn draw_key_letter_groups<W: Sink>(sink: &mut W, language: Language, came: usize, number: u8)
     ensures { Draws W.taken W.has_failed sink.old sink.new
         (key_letter_groups language came number) }
@@ -315,7 +317,7 @@ fn draw_key_letter_groups<W: Sink>(sink: &mut W, language: Language, came: usize
     draw_group_words(sink, language, (came / 5).saturating_sub(2) + group);
 }
 
-/// Writes the words for the groups with the indicators: the first two and the last two, in a body of `came` letters.
+/// Writes the words for the groups with the indicators, in a body of `came` letters: the first two and the last two.
 fn draw_indicator_groups<W: Sink>(sink: &mut W, language: Language, came: usize)
     ensures { Draws W.taken W.has_failed sink.old sink.new
         (indicator_groups language came) }
