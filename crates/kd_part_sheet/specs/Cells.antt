@@ -1,4 +1,4 @@
--- The cells of a row, one for each letter: the sign above the line to write on, and the sign below it.
+-- The cells of a row, one for each letter. A cell has a sign above the line to write on, and a sign below the line.
 use Rattle.std.specs.Prelude.{decimal, ℕ, ◌+◌, ◌==◌, true, false, is_some, if◌then◌else◌, List, [], ◌∷◌, Option, None, Some}
 use Rattle.kd_tables.specs.Rings.{place_on, ring_of}
 use Rattle.kd_pictures.specs.Template.{letter_text}
@@ -21,7 +21,7 @@ abbrev pub copied : ℕ → Cell
 copied letter =
     record { above = signs.Nothing; below = signs.Letter letter; is_pressed = false; mark = marks.NoMark }
 
--- the cell of a letter that is pressed, with the letter of the lamp that has to light up for it
+-- the cell of a letter that is pressed, with the letter of the lamp that has to light up
 abbrev pub pressed : ℕ → ℕ → Cell
 pressed key lamp =
     record { above = signs.Letter key; below = signs.Letter lamp; is_pressed = true; mark = marks.NoMark }
@@ -42,13 +42,13 @@ sign_of (Some letter) = signs.Letter letter
 abbrev pub skipped : Option ℕ → Cell
 skipped letter = record { above = sign_of letter; below = signs.Nothing; is_pressed = false; mark = marks.NoMark }
 
--- the sign of a letter of the text; nothing for the letter `for_space`, which was sent for a space
+-- the sign of a letter of the text; no sign for the letter `for_space`, which was sent for a space
 abbrev pub text_sign : Option ℕ → Option ℕ → Sign
 text_sign for_space None = signs.Lost
 text_sign None (Some letter) = signs.Letter letter
 text_sign (Some space) (Some letter) = if letter == space then signs.Nothing else signs.Letter letter
 
--- the cells of letters that came with the form and are pressed, with the letters of the text below them
+-- the cells of letters that came with the form and are pressed; the letters of the text stand below them
 abbrev pub received_cells : Option ℕ → List (Option ℕ) → List (Option ℕ) → List Cell
 received_cells for_space (key ∷ keys) (letter ∷ text) =
     record { above = sign_of key; below = text_sign for_space letter; is_pressed = true; mark = marks.NoMark }
@@ -58,22 +58,22 @@ received_cells for_space (key ∷ keys) [] = []
 
 -- ---- The internal key of a Converter: wheels 1 to 6 each take the next letter that they have.
 
--- the mark of a printed letter: the next wheel after wheel `taken` takes the letter if it has it; otherwise the letter
--- is struck out. After wheel 6, no letter is needed.
+-- The mark of a printed letter. Wheel `taken` was the last to take a letter. If the next wheel has the printed letter,
+-- it takes it; otherwise the letter is struck out. After wheel 6, no letter is needed.
 abbrev pub mark_of : ℕ → ℕ → Mark
 mark_of taken letter =
     if taken == 6 then marks.NotNeeded
     else if is_some (place_on (ring_of (taken + 1)) letter) then marks.Taken (taken + 1) else marks.StruckOut
 
--- the last wheel that has taken a letter, after a letter with this mark; `taken` is the last one before it
+-- The last wheel that has taken a letter, after a letter with this mark. Before this letter, it was wheel `taken`.
 abbrev pub taken_after : ℕ → Mark → ℕ
 taken_after taken marks.NoMark = taken
 taken_after taken marks.NotNeeded = taken
 taken_after taken marks.StruckOut = taken
 taken_after taken (marks.Taken wheel) = wheel
 
--- the cells with which the internal key is found: the chosen letter above, a letter printed for it below, and the mark
--- of the printed letter. `taken` is the last wheel that has taken a letter.
+-- The cells with which the internal key is found. Each has the chosen letter above, a letter printed for it below, and
+-- the printed letter's mark. Wheel `taken` was the last to take a letter.
 abbrev pub choice_cells : ℕ → ℕ → List ℕ → List Cell
 choice_cells taken chosen [] = []
 choice_cells taken chosen (letter ∷ printed) =
@@ -86,7 +86,7 @@ mark_text marks.NotNeeded = no_letter
 mark_text marks.StruckOut = struck_out
 mark_text (marks.Taken wheel) = decimal wheel
 
--- the sign or the mark that a line of a group has for a cell
+-- the text of a cell in a line of a group: a sign, or a mark
 abbrev pub place_text : Line → Cell → List ℕ
 place_text lines.Above cell = sign_text cell.above
 place_text lines.Below cell = sign_text cell.below

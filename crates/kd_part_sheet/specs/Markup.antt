@@ -7,7 +7,7 @@ use Rattle.std.specs.Prelude.{codes, ℕ, List, [], ◌∷◌, ◌++◌}
 abbrev pub wide_space : List ℕ
 wide_space = 194 ∷ 160 ∷ []
 
--- the sign for no letter, for a lost letter, and for the mark of a letter that is struck out
+-- the signs for no letter, for a lost letter, and for a letter that is struck out
 abbrev pub no_letter : List ℕ
 no_letter = wide_space
 
@@ -17,7 +17,7 @@ lost_letter = codes "?"
 abbrev pub struck_out : List ℕ
 struck_out = codes "-"
 
--- the separators of letters, of numbers, and of values
+-- the separators: between letters, between numbers, and between values
 abbrev pub space : List ℕ
 space = codes " "
 
@@ -27,7 +27,8 @@ two_spaces = wide_space ++ wide_space
 abbrev pub comma : List ℕ
 comma = codes ", "
 
--- the markup of a group: its start, and the end of the signs above the line; small letters; marks; its end
+-- The markup of a group: its start, and the end of the signs above the line. Then the markup of small letters and of
+-- marks, and the end of the group.
 abbrev pub group_start : List ℕ
 group_start = codes "<span><b>"
 

@@ -25,7 +25,7 @@ use Rattle.kd_part_sheet.specs.Words.{cables_text, rings_after, wheels_after}
 abbrev pub text_if : Bool → List ℕ → List ℕ
 text_if is_there text = if is_there then text else []
 
--- the values that the head of each step repeats: the model, the day, the part, and the number of parts
+-- the values in the head of each step: the model, the day, the part, and the number of parts
 abbrev pub name_values : PartName → List (List ℕ)
 name_values name = model_name name.model ∷ decimal name.day ∷ decimal name.part ∷ decimal name.parts ∷ []
 
@@ -76,7 +76,7 @@ text_rows l sheet s name start body =
     rows_after s start beginning (pieces 50 first)
     ++ next_sheet l sheet s name start (progress_after beginning first) (drop (first_sheet name.model) body)
 
--- the warnings on the copies of the indicators, and on the day
+-- the warnings about the copies of the indicators, and about the day
 abbrev pub warnings_text : Language → Sheet → Warnings → List ℕ
 warnings_text l sheet warnings =
     text_if warnings.copies_lost (text_in l texts.COPIES_LOST)
@@ -89,7 +89,7 @@ text_step l sheet s name warnings work =
     text_head l sheet name (length work.body) ++ windows_text l (is_converter name.model) work.start
     ++ warnings_text l sheet warnings ++ text_rows l sheet s name work.start work.body
 
--- the note on which letters stand for spaces and punctuation
+-- the note that says which letters stand for spaces and punctuation
 abbrev pub note : Language → Sheet → Model → List ℕ
 note l sheet EnigmaI = sheet_text l sheet texts.NOTE
 note l sheet M3 = sheet_text l sheet texts.NOTE

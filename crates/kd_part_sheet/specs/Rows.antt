@@ -1,5 +1,5 @@
--- The rows of a step: ten groups of five letters; then the number of letters so far and, if the row has pressed
--- letters, the windows after them.
+-- The rows of a step. A row has ten groups of five letters, and the number of letters so far. If letters of the row are
+-- pressed, it also has the windows after them.
 use Rattle.std.specs.Prelude.{decimal, ℕ, ◌+◌, ◌==◌, Bool, true, false, not, if◌then◌else◌}
 use Rattle.std.specs.Prelude.{List, [], ◌∷◌, ◌++◌, flat_map, length}
 use Rattle.std.specs.Int.{div_ceil}
@@ -23,7 +23,7 @@ use Rattle.kd_part_sheet.specs.Markup.{above_end, cell_marks, group_end, group_s
 use Rattle.kd_part_sheet.specs.Markup.{space, two_spaces}
 use Rattle.kd_part_sheet.specs.Words.{letter_words}
 
--- a list cut into pieces of `size` items; the last piece may be shorter
+-- the list, cut into pieces of `size` items; the last piece may be shorter
 abbrev pub pieces : {X : Type 0} → ℕ → List X → List (List X)
 pieces size items = first_chunks size (div_ceil (length items) size) items
 
@@ -34,7 +34,8 @@ is_nothing signs.Nothing = true
 is_nothing signs.Lost = false
 is_nothing (signs.Letter letter) = false
 
--- whether the group came with the form and isn't pressed; either all letters of a group are pressed, or none
+-- Whether the group came with the form, and isn't pressed. Its first letter decides, as a group is pressed whole or not
+-- at all.
 abbrev pub is_skipped : List Cell → Bool
 is_skipped [] = false
 is_skipped (cell ∷ cells) = if cell.is_pressed then false else not (is_nothing cell.above)
@@ -56,7 +57,7 @@ is_mark marks.NotNeeded = true
 is_mark marks.StruckOut = true
 is_mark (marks.Taken wheel) = true
 
--- whether the group has marks; either all of its cells have one, or none
+-- whether the group has marks; its first cell decides, as all cells have a mark, or none
 abbrev pub has_marks : List Cell → Bool
 has_marks [] = false
 has_marks (cell ∷ cells) = is_mark cell.mark
@@ -78,7 +79,7 @@ group_text cells =
 abbrev pub pressed_count : List Cell → ℕ
 pressed_count cells = count_by (λ cell. cell.is_pressed) cells
 
--- the progress of a step after one more row
+-- the progress of a step after the next row
 abbrev pub progress_after : Progress → List Cell → Progress
 progress_after progress row =
     record { letters = progress.letters + length row; presses = progress.presses + pressed_count row }
@@ -90,7 +91,7 @@ shown_after is_converter letters =
     else letter_words false markup.ROW_LETTERS.now two_spaces letters
     ++ letter_words true markup.ROW_NUMBERS.now space letters
 
--- the windows after `presses` letters were pressed; nothing if no letter of the row is pressed
+-- The windows after `presses` key presses. If no letter of the row is pressed, nothing.
 abbrev pub windows_after : Day → List ℕ → ℕ → Bool → List ℕ
 windows_after s start presses is_idle =
     if is_idle then [] else shown_after (is_converter (day_model s)) (letters_after s start presses)
@@ -101,7 +102,7 @@ row_text s start progress row =
     markup.ROW.now ++ flat_map group_text (pieces 5 row) ++ filled markup.ROW_BOX.now (decimal progress.letters ∷ [])
     ++ windows_after s start progress.presses (pressed_count row == 0) ++ markup.ROW_END.now
 
--- the rows that follow rows with this progress. At the start of the step, the machine shows `start`.
+-- The rows after those that led to this progress. At the start of the step, the machine showed `start`.
 abbrev pub rows_after : Day → List ℕ → Progress → List (List Cell) → List ℕ
 rows_after s start progress [] = []
 rows_after s start progress (row ∷ rows) =

@@ -1,4 +1,4 @@
--- The texts of a part's sheet: each has a version for each of the four sheets, in both languages.
+-- The texts of a part's sheet. Each text has a version for each of the four sheets, in both languages.
 use Rattle.std.specs.Prelude.{ℕ, List}
 use Rattle.kd_pictures.specs.declared.language.Language.{Language}
 use Rattle.kd_pictures.specs.Language.{text_in}
@@ -9,7 +9,8 @@ use Rattle.kd_part_sheet.specs.declared.sheet.Sheet.TheVariants.{PinReceive, Pin
 abbrev pub Text : Type 0
 Text = record { now : List ℕ } × record { now : List ℕ }
 
--- the versions of a text: for a sent part on a rotor machine and on a Converter; for a received part on both
+-- The four versions of a text. The first two are for a sent part: on a rotor machine, and on a Converter. The other two
+-- are for a received part.
 abbrev pub SheetText : Type 0
 SheetText = (Text × Text) × (Text × Text)
 

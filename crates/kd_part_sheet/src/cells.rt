@@ -1,4 +1,4 @@
-//! The cells of a row, one for each letter: the sign above the line to write on, and the sign below it.
+//! The cells of a row, one for each letter. A cell has a sign above the line to write on, and a sign below the line.
 ghost use Rattle.std.specs.Prelude.{◌≡◌, ◌+◌, ◌≤◌, ◌++◌, length, map};
 ghost use Rattle.kd_pictures.specs.Drawing.{Draws};
 ghost use Rattle.kd_part_sheet.specs.Cells.{choice_cells, copied, mark_of, mark_text, place_text, pressed_cells};
@@ -31,7 +31,7 @@ pub struct Cell {
     pub mark: Mark,
 }
 
-/// What a Converter's wheels do with a letter that is printed to find the internal key.
+/// The mark of a letter that is printed to find a Converter's internal key.
 #[derive(Clone, Copy)]
 pub enum Mark {
     /// No mark: the cell isn't for the internal key.
@@ -43,7 +43,7 @@ pub enum Mark {
     Taken(u8),
 }
 
-/// A placeholder: an `ArrayVec` of cells needs a value for its unused places.
+/// An `ArrayVec` of cells needs a value for its unused places.
 impl Default for Cell {
     fn default() -> Self {
         Cell {
@@ -70,7 +70,7 @@ pub(crate) fn push_copied<const N: usize>(cells: &mut ArrayVec<Cell, N>, letters
     }
 }
 
-/// Appends the cells of letters that are pressed, with the letters of their lamps.
+/// Appends the cells of letters that are pressed, with the letters of the lamps that have to light up.
 pub fn push_pressed<const N: usize>(
     cells: &mut ArrayVec<Cell, N>,
     keys: &[Letter],
@@ -117,7 +117,7 @@ fn sign_of(letter: Option<Letter>) -> Sign
     }
 }
 
-/// Appends the cells of letters that came with the form and are pressed, with the letters of the text below them. The
+/// Appends the cells of letters that came with the form and are pressed. The letters of the text stand below them. The
 /// letter `for_space` is shown as a space.
 pub fn push_received<const N: usize>(
     cells: &mut ArrayVec<Cell, N>,
@@ -142,7 +142,7 @@ pub fn push_received<const N: usize>(
     }
 }
 
-/// The sign of a letter of the text; nothing for the letter `for_space`, which was sent for a space.
+/// The sign of a letter of the text; no sign for the letter `for_space`, which was sent for a space.
 fn text_sign(for_space: &Option<Letter>, letter: Option<Letter>) -> Sign
     ensures { result ≡ text_sign for_space.now letter }
 {
@@ -152,10 +152,10 @@ fn text_sign(for_space: &Option<Letter>, letter: Option<Letter>) -> Sign
     }
 }
 
-/// Appends the cells with which the internal key is found: `chosen` above, each letter printed for it below, and the
-/// mark of the printed letter.
+/// Appends the cells with which the internal key is found. Each has `chosen` above, a letter printed for it below, and
+/// the printed letter's mark.
 ///
-/// `taken` is the last wheel that has taken a letter.
+/// Wheel `taken` was the last to take a letter.
 pub fn push_choice<const N: usize>(
     cells: &mut ArrayVec<Cell, N>,
     taken: u8,
@@ -178,8 +178,8 @@ pub fn push_choice<const N: usize>(
     }
 }
 
-/// The mark of a printed letter: the next wheel after wheel `taken` takes the letter if it has it; otherwise the letter
-/// is struck out. After wheel 6, no letter is needed.
+/// The mark of a printed letter. Wheel `taken` was the last to take a letter. If the next wheel has the printed letter,
+/// it takes it; otherwise the letter is struck out. After wheel 6, no letter is needed.
 fn mark_of(taken: u8, letter: Letter) -> Mark
     requires { taken ≤ 6 }
     ensures { result ≡ mark_of taken letter }
@@ -193,7 +193,7 @@ fn mark_of(taken: u8, letter: Letter) -> Mark
     }
 }
 
-/// The last wheel that has taken a letter, after a letter with this mark; `taken` is the last one before it.
+/// The last wheel that has taken a letter, after a letter with this mark. Before this letter, it was wheel `taken`.
 fn taken_after(taken: u8, mark: Mark) -> u8
     ensures { result ≡ taken_after taken mark }
 {
@@ -203,7 +203,7 @@ fn taken_after(taken: u8, mark: Mark) -> u8
     }
 }
 
-/// A line of a group: the signs above the line to write on, the signs below it, or the marks under them.
+/// A line of a group: the signs above the line to write on, the signs below it, or the marks.
 #[derive(Clone, Copy)]
 pub(crate) enum Line {
     Above,
@@ -211,7 +211,7 @@ pub(crate) enum Line {
     Marks,
 }
 
-/// Writes the sign or the mark that a line of a group has for a cell.
+/// Writes the text of a cell in a line of a group: a sign, or a mark.
 pub(crate) fn draw_place<W: Sink>(sink: &mut W, line: Line, cell: &Cell)
     ensures { Draws W.taken W.has_failed sink.old sink.new (place_text line cell.now) }
 {

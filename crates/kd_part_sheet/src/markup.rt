@@ -6,14 +6,14 @@ pub const NO_LETTER: &str = "\u{a0}";
 /// The sign for a lost letter.
 pub const LOST_LETTER: &str = "?";
 
-/// The markup of a row: the start of its groups; its checkbox, with the number of letters so far; its end.
+/// The markup of a row: the start of its groups, its checkbox with the number of letters so far, and its end.
 pub const ROW: &str = "<div class=row><div class=groups>";
 
 pub const ROW_BOX: &str = "</div>\n<label><input type=checkbox><b>~</b>";
 
 pub const ROW_END: &str = "</label></div>\n";
 
-/// The windows after a row: what stands before their letters, and before their numbers.
+/// The windows after a row: the markup before their letters, and before their numbers.
 pub const ROW_LETTERS: &str = "<br>";
 
 pub const ROW_NUMBERS: &str = "<br>";
@@ -30,7 +30,7 @@ pub const SMALL: &str = "<small>";
 
 pub const SMALL_END: &str = "</small>";
 
-/// The marks for a Converter's internal key: the start of a group's marks, their end, and the mark of a letter that is
+/// The marks for a Converter's internal key. The start of a group's marks, their end, and the mark of a letter that is
 /// struck out.
 pub const MARKS: &str = "<i>";
 
@@ -38,8 +38,8 @@ pub const MARKS_END: &str = "</i>";
 
 pub const STRUCK_OUT: &str = "-";
 
-/// A window in the title of the picture: the slot, the letter, and its number. On a Converter: the wheel, and the
-/// letter.
+/// A window in the title of the picture: the slot, the letter, and the letter's number. On a Converter, the wheel and
+/// the letter.
 pub const WINDOW_WORDS: &str = "~: ~ ~";
 
 pub const WHEEL_WORDS: &str = "~: ~";
@@ -48,12 +48,12 @@ pub const WHEEL_WORDS: &str = "~: ~";
 pub const WHEEL: &str =
     "<text x=\"~\" y=\"16\" font-size=\"18\">~</text>\n<rect class=\"set\" x=\"~\" y=\"24\" width=\"40\" height=\"40\"/>\n<text class=\"bold\" x=\"~\" y=\"53\" font-size=\"26\">~</text>\n";
 
-/// The end of the picture's title, and of the picture.
+/// The end of the picture's title, and the end of the picture.
 pub const WINDOWS_TITLE_END: &str = ".</title>\n";
 
 pub const WINDOWS_END: &str = "</svg>\n</figure>\n";
 
-/// The separators of values, letters and numbers.
+/// The separators: between values, between letters, and between numbers.
 pub const COMMA: &str = ", ";
 
 pub const SPACE: &str = " ";
@@ -68,7 +68,7 @@ pub const RING: &str = "~\u{a0}~";
 /// The end of the sentence with a rotor machine's key of the day.
 pub const KEY_END: &str = "</b>.";
 
-/// The end of a section, and of a part's sheet.
+/// The end of a section, and the end of a part's sheet.
 pub const SECTION_END: &str = "</section>\n";
 
 pub const SHEET_END: &str = "</section>\n</article>\n";

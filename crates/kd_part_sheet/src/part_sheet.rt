@@ -27,15 +27,15 @@ use kd_pictures::{Language, draw, draw_in};
 use kd_state::{Entry, RotorEntry, SheetDay};
 use kd_tables::{Letter, Model, Sink};
 
-/// The values that the head of each step repeats, since sheets of paper come apart.
+/// The values in the head of each step. Each step has them, since sheets of paper come apart.
 #[derive(Clone, Copy)]
 pub struct PartName {
     /// The machine's model.
     pub model: Model,
     /// The day's number.
     pub day: u8,
-    /// The number of the part's sheet, to which links lead. It is the part's number, unless each part has its own sheet
-    /// though their numbers are equal.
+    /// The number of the part's sheet, to which links lead. It is the part's number, if the parts are of one message.
+    /// Otherwise it is the place at which the part came.
     pub sheet: u8,
     /// The part's number, counted from 1.
     pub part: u8,
@@ -87,7 +87,7 @@ pub fn draw_if<W: Sink>(sink: &mut W, is_there: bool, text: &str)
 pub struct Warnings {
     /// A letter of the body is lost.
     pub letters_lost: bool,
-    /// A letter of one of the two copies of the indicators is lost.
+    /// A letter is lost in a copy of the indicators, and no list letter is lost in both copies.
     pub copies_lost: bool,
     /// The group or the list letters aren't the day's.
     pub wrong_day: bool,
@@ -95,7 +95,7 @@ pub struct Warnings {
     pub not_tested: bool,
 }
 
-/// Writes the warnings on the copies of the indicators, and on the day.
+/// Writes the warnings about the copies of the indicators, and about the day.
 pub fn draw_warnings<W: Sink>(sink: &mut W, language: Language, sheet: Sheet, warnings: Warnings)
     ensures { Draws W.taken W.has_failed sink.old sink.new
         (warnings_text language sheet warnings) }
@@ -253,7 +253,7 @@ fn draw_text_head<W: Sink>(
     );
 }
 
-/// Writes the rows of the text. Rows that don't fit on the first sheet of paper go onto a second one.
+/// Writes the rows of the text. Rows that don't fit on the first sheet of paper go onto a second sheet.
 fn draw_text_rows<W: Sink>(
     sink: &mut W,
     language: Language,
@@ -314,7 +314,7 @@ fn draw_next_sheet<W: Sink>(
     }
 }
 
-/// The note on which letters stand for spaces and punctuation.
+/// The note that says which letters stand for spaces and punctuation.
 pub fn note(language: Language, sheet: Sheet, model: Model) -> &'static str
     ensures { result.now ≡ note language sheet model }
 {

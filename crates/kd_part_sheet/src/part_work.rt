@@ -43,7 +43,7 @@ impl Model for PartWork {
     } };
 }
 
-/// The letters that are pressed and found when `text` is enciphered with `keys`.
+/// The windows to set, and the letters to press and to find, when `text` is enciphered with `keys`.
 pub fn work_of(day: &SheetDay, part: u8, keys: &Keys, text: &[Letter]) -> PartWork
     requires keys { AreKeys day.now keys.now }
     requires suits { IsKeysAnswer day.now part keys.now (Ok tt) }
@@ -57,7 +57,7 @@ pub fn work_of(day: &SheetDay, part: u8, keys: &Keys, text: &[Letter]) -> PartWo
     }
 }
 
-/// The letters that are pressed and found on a rotor machine.
+/// The windows to set, and the letters to press and to find, on a rotor machine.
 fn rotor_work(day: &SheetDay, keys: &RotorKeys, text: &[Letter]) -> PartWork
     requires keys { AreKeys day.now (Keys.Rotor keys.now) }
     requires few { length text.now ≤ 245 }
@@ -82,7 +82,7 @@ fn rotor_work(day: &SheetDay, keys: &RotorKeys, text: &[Letter]) -> PartWork
     }
 }
 
-/// The letters that are enciphered and printed on a Converter.
+/// The letters to set, to encipher and to find, on a Converter.
 fn pin_work(day: &SheetDay, keys: &PinKeys, text: &[Letter]) -> PartWork
     requires keys { AreKeys day.now (Keys.Pin keys.now) }
     requires window { IsWindow (sheet_key day.now) keys.now.external }
@@ -97,7 +97,7 @@ fn pin_work(day: &SheetDay, keys: &PinKeys, text: &[Letter]) -> PartWork
     pin_work_from(day, keys, internal.as_slice(), text)
 }
 
-/// The letters that are enciphered and printed on a Converter with the internal key `internal`.
+/// The letters to set, to encipher and to find, on a Converter with the internal key `internal`.
 fn pin_work_from(day: &SheetDay, keys: &PinKeys, internal: &[Letter], text: &[Letter]) -> PartWork
     requires keys { AreKeys day.now (Keys.Pin keys.now) }
     requires window { IsWindow (sheet_key day.now) keys.now.external }

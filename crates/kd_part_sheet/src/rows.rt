@@ -1,5 +1,5 @@
-//! The rows of a step: ten groups of five letters; then the number of letters so far and, if the row has pressed
-//! letters, the windows after them.
+//! The rows of a step. A row has ten groups of five letters, and the number of letters so far. If letters of the row
+//! are pressed, it also has the windows after them.
 ghost use Rattle.std.specs.Prelude.{◌≡◌, ◌+◌, ◌≤◌, ◌∷◌, flat_map, length};
 ghost use Rattle.kd_state.specs.EngineKey.{IsWindow};
 ghost use Rattle.kd_state.specs.OwnKeys.{sheet_key};
@@ -29,7 +29,8 @@ pub(crate) struct Progress {
     pub(crate) presses: usize,
 }
 
-/// Writes `cells` in rows that follow rows with this progress. At the start of the step, the machine shows `start`.
+/// Writes `cells` in rows, after the rows that led to this progress. At the start of the step, the machine showed
+/// `start`.
 pub(crate) fn draw_rows<W: Sink>(
     sink: &mut W,
     language: Language,
@@ -52,7 +53,7 @@ pub(crate) fn draw_rows<W: Sink>(
     }
 }
 
-/// The progress of a step after one more row.
+/// The progress of a step after the next row.
 pub(crate) fn progress_after(progress: Progress, row: &[Cell]) -> Progress
     requires presses { progress.presses ≤ progress.letters }
     requires few { progress.letters + length row.now ≤ 520 }
@@ -73,7 +74,7 @@ fn pressed_count(row: &[Cell]) -> usize
     row.iter().filter(|cell| cell.is_pressed).count()
 }
 
-/// Writes a row. `progress` includes this row.
+/// Writes a row. `progress` counts the letters of this row, too.
 fn draw_row<W: Sink>(
     sink: &mut W,
     language: Language,
@@ -100,7 +101,7 @@ fn draw_row<W: Sink>(
     draw(sink, ROW_END);
 }
 
-/// Writes the windows after `presses` letters were pressed; nothing if no letter of the row is pressed.
+/// Writes the windows after `presses` key presses. If no letter of the row is pressed, writes nothing.
 fn draw_windows_after<W: Sink>(
     sink: &mut W,
     day: &SheetDay,
@@ -157,8 +158,8 @@ fn draw_group<W: Sink>(sink: &mut W, group: &[Cell])
     draw(sink, GROUP_END);
 }
 
-/// Whether the group came with the form and isn't pressed. Its first letter tells, as all letters of a group are alike
-/// in this.
+/// Whether the group came with the form, and isn't pressed. Its first letter decides, as a group is pressed whole or
+/// not at all.
 fn is_skipped(group: &[Cell]) -> bool
     ensures { result ≡ is_skipped group.now }
 {
@@ -191,7 +192,7 @@ fn has_below(group: &[Cell]) -> bool
     }
 }
 
-/// Whether the group has marks. Its first cell tells, as all cells have marks, or none.
+/// Whether the group has marks. Its first cell decides, as all cells have a mark, or none.
 fn has_marks(group: &[Cell]) -> bool
     ensures { result ≡ has_marks group.now }
 {

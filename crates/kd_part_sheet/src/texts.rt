@@ -3,8 +3,8 @@
 use crate::markup::SECTION_END;
 use kd_pictures::texts::Text;
 
-/// A text of a part's sheet in four versions: for a sent part on a rotor machine and on a Converter; for a received
-/// part on both.
+/// A text of a part's sheet, in four versions. The first two are for a sent part: on a rotor machine, and on a
+/// Converter. The other two are for a received part.
 pub type SheetText = ((Text, Text), (Text, Text));
 
 /// The head of the sheet. The values are the sheet's number, the model, the day, the part, and the number of parts.
@@ -69,7 +69,7 @@ pub const KEY_STEP: SheetText = (
     ),
 );
 
-/// What to press to find the key.
+/// The words that say what to press to find the key.
 pub const KEY_WORDS: SheetText = (
     (
         (
@@ -151,7 +151,7 @@ pub const NEXT_STEP: SheetText = (
     ),
 );
 
-/// What to do at a lost letter.
+/// The words that say what to do at a lost letter.
 pub const LOST_LETTER: SheetText = (
     (ROTOR_LOST_LETTER, PIN_LOST_LETTER),
     (ROTOR_LOST_LETTER, PIN_LOST_LETTER),
@@ -167,7 +167,7 @@ const PIN_LOST_LETTER: Text = (
     "<br>? ist ein verlorener Buchstabe: dafür einen beliebigen eingeben und ? schreiben.",
 );
 
-/// Two warnings: that the form is of another day or network; and that this can't be tested, as letters are lost.
+/// Two warnings: the form is of another day or network; or this can't be tested, as letters are lost.
 pub const WRONG_DAY: SheetText = (
     (ROTOR_WRONG_DAY, PIN_WRONG_DAY),
     (ROTOR_WRONG_DAY, PIN_WRONG_DAY),
@@ -198,7 +198,7 @@ const PIN_NOT_TESTED: Text = (
     "<p>Der Tag ist nicht geprüft: Ein Listenbuchstabe fehlt beide Male.</p>\n",
 );
 
-/// The note on which letters stand for spaces and punctuation, except on the M4, which has `NAVAL_NOTE`.
+/// The note that says which letters stand for spaces and punctuation. The M4 has `NAVAL_NOTE` instead.
 pub const NOTE: SheetText = ((ENIGMA_NOTE, SENT_NOTE), (ENIGMA_NOTE, RECEIVED_NOTE));
 
 const ENIGMA_NOTE: Text = (
@@ -221,14 +221,14 @@ pub const NAVAL_NOTE: Text = (
     "<p class=note>Zwischenräume werden nicht gesendet. X steht oft für einen Punkt, Y für ein Komma. Die letzte Gruppe kann kürzer sein.</p>\n",
 );
 
-/// The warning that a copy of a Converter's indicators has letters that the other one lost.
+/// The warning that one copy of a Converter's indicators has letters that the other copy lost.
 pub const COPIES_LOST: Text = (
     "<p>The first and the last indicators complete each other.</p>\n",
     "<p>Die ersten und die letzten Kennbuchstaben ergänzen einander.</p>\n",
 );
 
-/// The key of the day, on which a rotor machine has to be: its reflector; then the words before the wheels, rings and
-/// cables.
+/// The key of the day, on which a rotor machine has to be. Its reflector comes first, then the words before its wheels,
+/// rings and cables.
 pub const REFLECTOR: Text = (
     "<p>The machine has to be on the key of the day. Reflector: <b>~</b>. Wheels: <b>",
     "<p>Die Maschine muss auf dem Tagesschlüssel stehen. Umkehrwalze: <b>~</b>. Walzenlage: <b>",

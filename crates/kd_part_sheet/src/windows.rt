@@ -38,7 +38,8 @@ fn windows_title(language: Language, is_converter: bool) -> &'static str
     }
 }
 
-/// Writes the words for windows from number `number` on, with `first` before the first and commas before the others.
+/// Writes the words for windows, from number `number` on. `first` stands before the first window, commas before the
+/// others.
 fn draw_all_words<W: Sink>(
     sink: &mut W,
     language: Language,
@@ -86,7 +87,7 @@ fn draw_words<W: Sink>(
     }
 }
 
-/// Writes the windows of the picture from number `number` on.
+/// Writes the windows of the picture, from number `number` on.
 fn draw_items<W: Sink>(
     sink: &mut W,
     language: Language,
