@@ -1,15 +1,15 @@
--- The path of the current around a core, wheel by wheel. No public contract cites this file.
+-- The path of the current around the core, wheel by wheel. No public contract cites this file.
 use Rattle.std.specs.Prelude.{ℕ, List, ◌∷◌}
 use Rattle.kd_tables.specs.Permutation.{followed_by, inverse}
 use Rattle.kd_enigma.specs.Rotor.{rotor}
 use Rattle.kd_state.specs.declared.sheet_day.rotor_entry.SheetWheel.{SheetWheel}
 
--- the path in through a wheel, through `core`, and back through the wheel, with `letter` in the wheel's window
+-- The path in through a wheel, through `core`, and back through the wheel. The wheel's window shows `letter`.
 unfoldable pub around_one : List ℕ → SheetWheel → ℕ → List ℕ
 around_one core w letter =
     let turns = rotor w.wheel w.ring letter in followed_by turns (followed_by core (inverse turns))
 
--- the path in through wheels, through `core`, and back; the first of the wheels is next to `core`
+-- The path in through wheels, through `core`, and back. The first of the wheels is next to `core`.
 abbrev pub around_all : List ℕ → List SheetWheel → List ℕ → List ℕ
 around_all core (w ∷ wheels) (letter ∷ window) = around_all (around_one core w letter) wheels window
 around_all core _ _ = core

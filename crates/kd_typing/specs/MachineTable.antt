@@ -1,4 +1,4 @@
--- The table of a machine of any model; typing on it looks letters up.
+-- The table of a machine of any model, in which typing looks letters up.
 use Rattle.std.specs.Prelude.{◌≡◌, ◌<◌, List, ℕ, All}
 use Rattle.kd_state.specs.EngineKey.{EngineKey, IsWindow}
 use Rattle.kd_state.specs.EngineKey as keys
@@ -35,7 +35,7 @@ abbrev pub shown_letters : EngineKey → List ℕ
 shown_letters (keys.Rotor key) = key.window
 shown_letters (keys.Pin key) = key.letters
 
--- the table that the script of a page reads in `text`; the key says whether it is a rotor machine's or a Converter's
+-- the table that the script of a page reads in `text`; the key says whether the machine is a Converter
 abbrev pub table_in : EngineKey → List ℕ → MachineTable
 table_in (keys.Rotor key) text = Rotor (rotor_table_in text)
 table_in (keys.Pin key) text = Pin (pin_table_in text)
@@ -44,8 +44,8 @@ table_in (keys.Pin key) text = Pin (pin_table_in text)
 abbrev pub machine_table_text : Parts → List ℕ
 machine_table_text machine = table_text (table_of_key (physical_key machine))
 
--- Typing on the text of the machine's table, from any letters `window` that the machine can show, gives the ciphertext
--- of the machine with these letters.
+-- Typing on the text of the machine's table gives the machine's own ciphertext, from any letters `window` that the
+-- machine can show.
 abbrev pub TypesAsMachine : Parts → Type 0
 TypesAsMachine machine =
     (turned : Parts) (window text : List ℕ) → IsWindow (physical_key machine) window → IsTurnedTo machine window turned

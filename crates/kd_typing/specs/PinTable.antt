@@ -1,4 +1,4 @@
--- The table of a Converter M-209; typing on it looks letters up. Wheels are numbered from 1 to 6.
+-- The table of a Converter M-209, in which typing looks letters up. Wheels are numbered from 1 to 6.
 -- Source: War Department TM 11-380
 use Rattle.std.specs.Prelude.{ℕ, ◌+◌, ◌-◌, ◌*◌, ◌/◌, ◌%◌, ◌^◌, nat_eq, nat_le, Bool, false, ◌&&◌, ◌||◌, List, [], ◌∷◌}
 use Rattle.std.specs.Prelude.{length, map, slice_index, slice_index_or}
@@ -10,10 +10,10 @@ use Rattle.kd_pins.specs.PinWheel.{is_effective}
 use Rattle.kd_pins.specs.PinWheels.{acting_offset, pin_wheels, pins_on}
 use Rattle.kd_drum.specs.Converter.{PinKey, shown_place}
 
--- The table of a Converter. `pins` has a list for each wheel: it says for each letter of the wheel, in the wheel's own
--- order, whether the acting pin is effective while the wheel shows this letter. `rows` has a row for each set of wheels
--- whose acting pins are effective: the letters that are printed for A to Z. A set has a number, with a binary digit for
--- each wheel, wheel 1 first.
+-- The table of a Converter. `pins` has a list for each wheel, with an item for each letter, in the wheel's own order.
+-- The item says whether the acting pin is effective while the wheel shows this letter. `rows` has a row for each set of
+-- wheels. In the row are the letters that are printed for A to Z if just these wheels have an effective acting pin. A
+-- set has a number, with a binary digit for each wheel, wheel 1 first.
 pub record PinTable : Type 0 where
   pub rows : List (List ℕ)
   pub pins : List (List Bool)
@@ -35,13 +35,14 @@ abbrev pub printed_by : PinTable → List ℕ → ℕ → ℕ
 printed_by table letters letter =
     slice_index (slice_index_or table.rows (binary (map (acts_by table letters) pin_wheels)) []) letter
 
--- the next letter of wheel `wheel` after the one that it shows, in its own order; the first comes after the last
+-- The letter that follows the shown letter of wheel `wheel`, in the wheel's own order. The wheel's first letter follows
+-- its last.
 abbrev pub next_on_wheel : List ℕ → ℕ → ℕ
 next_on_wheel letters wheel =
     slice_index (ring_of wheel) ((shown_place letters wheel + 1) % length (ring_of wheel))
 
--- The letters that are printed for `text`, one after the other, if the wheels show `letters` at first. After each
--- printed letter, every wheel moves to its next letter.
+-- The letters that are printed for `text`, one after another, if the wheels show `letters` at first. After each printed
+-- letter, every wheel moves to its next letter.
 abbrev pub printed_text : PinTable → List ℕ → List ℕ → List ℕ
 printed_text table letters [] = []
 printed_text table letters (letter ∷ text) =
@@ -57,11 +58,11 @@ is_in_row number wheel = (nat_le 1 wheel && nat_le wheel 6) && nat_eq (number / 
 abbrev pub bars_met_in_row : List (ℕ × ℕ) → ℕ → ℕ
 bars_met_in_row bars number = count_by (λ bar. is_in_row number bar.0 || is_in_row number bar.1) bars
 
--- the letters that are printed for A to Z while the wheels with an effective acting pin are the set `number`
+-- The letters that are printed for A to Z while just the wheels of the set `number` have an effective acting pin.
 unfoldable pub pin_row : PinKey → ℕ → List ℕ
 pin_row key number = map (λ letter. (25 + bars_met_in_row key.bars number - letter) % 26) alphabet
 
--- whether the acting pin of a wheel is effective while the wheel shows a letter, for each of its letters
+-- for each letter of a wheel, whether the acting pin is effective while the wheel shows this letter
 unfoldable pub acting_pins : PinKey → ℕ → List Bool
 acting_pins key wheel =
     map (λ place. is_effective (pins_on key.pins wheel) ((place + acting_offset wheel) % length (ring_of wheel)))

@@ -1,6 +1,6 @@
--- The table of a rotor machine; typing on it looks letters up. The right wheel moves at each key, the other wheels
--- seldom. So the path of the current has two parts: in through the plugboard and the right wheel; and through the core,
--- which is all that lies to the left of the right wheel.
+-- The table of a rotor machine, in which typing looks letters up. The right wheel moves at each key, the other wheels
+-- seldom. So the path of the current is cut into two parts. One leads in through the plugboard and the right wheel. The
+-- other leads through the core: all that lies to the left of the right wheel.
 -- Source: the published accounts of the current's path and of the stepping.
 use Rattle.std.specs.Prelude.{◌≡◌, ℕ, zero, suc, ◌+◌, ◌-◌, ◌*◌, ◌/◌, ◌%◌, ◌^◌, ◌<◌, ◌≤◌, ◌==◌, Bool, false, List, [], ◌∷◌}
 use Rattle.std.specs.Prelude.{length, map, take, drop, slice_get, slice_index, slice_index_or, All, if◌then◌else◌}
@@ -12,10 +12,10 @@ use Rattle.kd_tables.specs.declared.wheel.Wheel.{Wheel}
 use Rattle.kd_step.specs.Stepper.{with_last_moved}
 use Rattle.kd_enigma.specs.Cipher.{RotorKey, IsPlugboard, path, product, rotors}
 
--- The table of a rotor machine. `into` has a row for each letter in the right window: the places that the current of
--- each key reaches, in through the plugboard and the right wheel. `core` has a row for all letters in the other
--- windows: the places at which the current comes out of the core. `steps` says how many wheels move at the next key,
--- for each letter in the middle window with each in the right window.
+-- The table of a rotor machine. `into` has a row for each letter in the right window. In the row are the places that
+-- the current of each key reaches, in through the plugboard and the right wheel. `core` has a row for all letters in
+-- the other windows: the places at which the current comes out of the core. `steps` has a number for each letter in the
+-- middle window, and each letter in the right window. It says how many wheels move at the next key.
 pub record RotorTable : Type 0 where
   pub into : List (List ℕ)
   pub core : List (List ℕ)
@@ -23,18 +23,18 @@ pub record RotorTable : Type 0 where
 
 -- ---- Typing on a table.
 
--- the items of all slots except the right one; then the item of the right slot alone
+-- the items of all slots except the right slot; then the item of the right slot alone
 abbrev pub core_slots : {X : Type 0} → List X → List X
 core_slots slots = take (length slots - 1) slots
 
 abbrev pub right_slot : {X : Type 0} → List X → List X
 right_slot slots = drop (length slots - 1) slots
 
--- the letter in a window; windows are counted from the right, from 0
+-- The letter in a window. Windows are counted from the right, from 0.
 abbrev pub letter_in : List ℕ → ℕ → ℕ
 letter_in window from_right = slice_index window (length window - (from_right + 1))
 
--- the number of the row of `core` for these window letters: each letter is a digit from 0 to 25
+-- the number of the row of `core` for these window letters, each of which is a digit from 0 to 25
 abbrev pub row_number : List ℕ → ℕ
 row_number [] = 0
 row_number (letter ∷ letters) = letter * 26 ^ length letters + row_number letters
@@ -44,15 +44,15 @@ abbrev pub window_by : RotorTable → List ℕ → List ℕ
 window_by table window =
     with_last_moved (slice_index table.steps (26 * letter_in window 1 + letter_in window 0)) window
 
--- The letter that lights up for `key` while the windows show `window`. The current comes out of the core at the place
--- to which this letter's own key would lead.
+-- The letter that lights up for `key` while the windows show `window`. The current comes out of the core at a place.
+-- The current of the letter's own key would reach this place through the right wheel.
 abbrev pub lamp_by : RotorTable → List ℕ → ℕ → ℕ
 lamp_by table window key =
     let into = slice_index_or table.into (letter_in window 0) [] in
     let core = slice_index_or table.core (row_number (core_slots window)) [] in
     position_or_len (λ letter. letter == slice_index core (slice_index into key)) into
 
--- The letters that light up for the keys of `text`, one after the other, if the windows show `window` at first. At each
+-- The letters that light up for the keys of `text`, one after another, if the windows show `window` at first. At each
 -- key, wheels move before the lamp lights up.
 abbrev pub typed_by : RotorTable → List ℕ → List ℕ → List ℕ
 typed_by table window [] = []
@@ -61,8 +61,8 @@ typed_by table window (key ∷ text) =
 
 -- ---- The table of a key.
 
--- the places that the current of each key reaches, through the plugboard and the right wheel, with `letter` in the
--- right window
+-- The places that the current of each key reaches, through the plugboard and the right wheel. The right window shows
+-- `letter`.
 unfoldable pub into_row : RotorKey → ℕ → List ℕ
 into_row key letter = product (key.plugs ∷ rotors (right_slot key.wheels) (right_slot key.rings) (letter ∷ []))
 
@@ -76,22 +76,22 @@ core_key key = record {
   plugs = exchange [];
 }
 
--- the places at which the current comes out of the core, for each place at which it enters, with `window` in the core's
--- windows
+-- The places at which the current comes out of the core, for each place at which it enters. The core's windows show
+-- `window`.
 unfoldable pub core_row : RotorKey → List ℕ → List ℕ
 core_row key window = path (core_key key) window
 
--- the letters of `count` windows with this number: its last `count` digits from 0 to 25
+-- The letters of `count` windows with this number: the number's last `count` digits, from 0 to 25.
 abbrev pub letters_with_number : ℕ → ℕ → List ℕ
 letters_with_number zero number = []
 letters_with_number (suc count) number = number / 26 ^ count % 26 ∷ letters_with_number count number
 
--- whether a wheel is at a notch while its window shows `letter`; wheels are counted from the right, from 0
+-- Whether a wheel is at a notch while its window shows `letter`. Wheels are counted from the right, from 0.
 abbrev pub is_at_notch : List Wheel → ℕ → ℕ → Bool
 is_at_notch wheels from_right letter =
     option_map_or (λ wheel. is_notch wheel letter) (slice_get wheels (length wheels - (from_right + 1))) false
 
--- how many wheels move at the next key, with these letters in the middle and the right window
+-- how many wheels move at the next key, if the middle and the right window show these letters
 unfoldable pub wheels_moved : List Wheel → ℕ → ℕ → ℕ
 wheels_moved wheels middle right =
     if is_at_notch wheels 1 middle then 3 else (if is_at_notch wheels 0 right then 2 else 1)

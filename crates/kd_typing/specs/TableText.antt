@@ -18,7 +18,7 @@ lines_text (line ∷ lines) = line ++ flat_map (λ other. 10 ∷ other) lines
 abbrev pub digits_text : List ℕ → List ℕ
 digits_text numbers = map (λ number. 48 + number) numbers
 
--- the lines of a rotor machine's table: `steps` as one line of digits, then the rows of `into`, then the rows of `core`
+-- The lines of a rotor machine's table: `steps` as one line of digits, the rows of `into`, and the rows of `core`.
 abbrev pub rotor_lines : RotorTable → List (List ℕ)
 rotor_lines table = digits_text table.steps ∷ map letters_text table.into ++ map letters_text table.core
 
@@ -36,7 +36,7 @@ pin_lines table = map pins_text table.pins ++ map letters_text table.rows
 abbrev pub lines_of : List ℕ → List (List ℕ)
 lines_of text = slice_split (λ byte. byte == 10) text
 
--- the table in a text: its first line has `steps`, the next 26 lines have `into`, and all further lines have `core`
+-- The table in a text. The first line has `steps`, the next 26 lines have `into`, and all later lines have `core`.
 unfoldable pub rotor_table_in : List ℕ → RotorTable
 rotor_table_in text =
     let lines = lines_of text in
@@ -46,7 +46,7 @@ rotor_table_in text =
       core = map letters_of (drop 27 lines);
     }
 
--- the table in a text: its first six lines have `pins`, and all further lines have `rows`
+-- The table in a text. The first six lines have `pins`, and all later lines have `rows`.
 unfoldable pub pin_table_in : List ℕ → PinTable
 pin_table_in text =
     let lines = lines_of text in
@@ -54,7 +54,7 @@ pin_table_in text =
 
 -- ---- Lines in parts. No public contract cites these definitions.
 
--- the line of a wheel with these pins. The acting pin is `offset` places after the pin of the shown letter.
+-- The line of a wheel with these pins. The acting pin is `offset` places after the shown letter's pin.
 unfoldable pub acting_text : List Bool → ℕ → List ℕ
 acting_text pins offset =
     pins_text (map (λ place. is_effective pins ((place + offset) % length pins)) (range_with_len 0 (length pins)))

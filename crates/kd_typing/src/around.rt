@@ -9,8 +9,8 @@ use kd_enigma::Plugs;
 use kd_state::SheetWheel;
 use kd_tables::{Letter, unwiring, wiring};
 
-/// The places that the current of each key reaches, through the plugboard and a wheel, with `letter` in the wheel's
-/// window.
+/// The places that the current of each key reaches, through the plugboard and a wheel. The wheel's window shows
+/// `letter`.
 pub(crate) fn inward(plugs: Plugs, seated: SheetWheel, letter: Letter) -> [Letter; 26]
     requires { IsPlugboard plugs }
     ensures { result ≡ followed_by plugs (rotor seated.wheel seated.ring letter) }
@@ -41,7 +41,7 @@ pub(crate) fn around_all(
     }
 }
 
-/// The path in through a wheel, through `core`, and back through the wheel, with `letter` in the wheel's window.
+/// The path in through a wheel, through `core`, and back through the wheel. The wheel's window shows `letter`.
 fn around_one(core: &[Letter; 26], seated: SheetWheel, letter: Letter) -> [Letter; 26]
     ensures { result ≡ around_one core.now seated letter }
 {

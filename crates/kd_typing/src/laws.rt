@@ -1,13 +1,15 @@
-//! Laws of tables: they follow from the definitions of ciphers and tables, whatever the code does.
+//! Laws about tables. They follow from the definitions of ciphers and tables, whatever the code does.
 ghost use Rattle.kd_typing.specs.Laws.{PinTablesAreRead, RotorTablesAreRead, TypingOnPinTable, TypingOnRotorTable};
 
-/// Typing on the table of a rotor machine, from any window letters on, gives the machine's own ciphertext.
+/// Typing on the table of a rotor machine gives the machine's own ciphertext, whatever letters the windows show at the
+/// start.
 #[tactic(auto, using(crate::proofs::RotorTyping::typing_on_rotor_table))]
 pub fn tables_type_as_rotor_machines()
     ensures { TypingOnRotorTable }
 {}
 
-/// Typing on the table of a Converter, from any wheel letters on, gives the Converter's own ciphertext.
+/// Typing on the table of a Converter gives the Converter's own ciphertext, whatever letters the wheels show at the
+/// start.
 #[tactic(auto, using(crate::proofs::PinTyping::typing_on_pin_table))]
 pub fn tables_type_as_converters()
     ensures { TypingOnPinTable }

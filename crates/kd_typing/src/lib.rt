@@ -1,4 +1,4 @@
-//! Tables of machines, on which a text can be typed by looking letters up instead of pressing keys.
+//! Tables of machines. To type a text on a table, look its letters up instead of pressing keys.
 #![tactic(auto)]
 
 mod around;

@@ -36,7 +36,7 @@ impl PinRows {
         }
     }
 
-    /// The letters that are printed for A to Z while the wheels with an effective acting pin are the set `number`.
+    /// The letters that are printed for A to Z while just the wheels of the set `number` have an effective acting pin.
     ///
     /// The number has a binary digit for each wheel, wheel 1 first.
     pub fn row_at(&self, number: usize) -> [Letter; 26]
@@ -88,7 +88,7 @@ fn is_met(bar: Reading, number: usize) -> bool
     is_in_row(number, smaller) || is_in_row(number, larger)
 }
 
-/// Whether `wheel` is from 1 to 6 and in the set `number`.
+/// Whether `wheel` is from 1 to 6, and is in the set `number`.
 fn is_in_row(number: usize, wheel: u8) -> bool
     ensures { result ≡ is_in_row number wheel }
 {

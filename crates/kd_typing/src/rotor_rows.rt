@@ -48,8 +48,8 @@ impl RotorRows {
         }
     }
 
-    /// The places that the current of each key reaches, through the plugboard and the right wheel, with `letter` in the
-    /// right window.
+    /// The places that the current of each key reaches, through the plugboard and the right wheel. The right window
+    /// shows `letter`.
     #[tactic(auto, using(crate::proofs::WaysAround::into_of_wheels))]
     pub fn into_at(&self, letter: Letter) -> [Letter; 26]
         ensures { result ≡ into_row self.now letter }
@@ -58,8 +58,8 @@ impl RotorRows {
         inward(self.plugs, wheels[wheels.len() - 1], letter)
     }
 
-    /// The places at which the current comes out of the core, for each place at which it enters, with `window` in the
-    /// core's windows. The core has the other wheels and the reflector.
+    /// The places at which the current comes out of the core, for each place at which it enters. The core's windows
+    /// show `window`. The core has the other wheels and the reflector.
     #[tactic(auto, using(crate::proofs::WaysAround::core_of_wheels))]
     pub fn core_at(&self, window: &[Letter]) -> [Letter; 26]
         requires { length window.now + 1 ≡ length self.now.wheels }
@@ -73,7 +73,7 @@ impl RotorRows {
         )
     }
 
-    /// How many wheels move at the next key, with these letters in the middle and the right window.
+    /// How many wheels move at the next key, if the middle and the right window show these letters.
     #[tactic(auto, unfolding(crate::specs::RotorTable::wheels_moved))]
     pub fn steps_at(&self, middle: Letter, right: Letter) -> u8
         ensures value { result ≡ wheels_moved self.now.wheels middle right }
