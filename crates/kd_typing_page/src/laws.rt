@@ -3,7 +3,7 @@ ghost use Rattle.kd_typing_page.specs.Plain.{TemplatesTakeTheirValues};
 
 /// Each template takes the values that the page fills into it, in both languages.
 ///
-/// The law `kd_pictures::laws::values_are_plain` says that the values have no markup.
+/// By the law `kd_pictures::laws::values_are_plain`, the values have no markup.
 #[tactic(auto, using(crate::proofs::TemplatesChecked::templates_take_their_values))]
 pub fn templates_take_their_values()
     ensures { TemplatesTakeTheirValues }

@@ -1,4 +1,4 @@
-//! The page with which to type on a machine: its keys, its lamps, and the table in which a script looks letters up.
+//! The page with which to type on a machine. It has keys, lamps, and a table in which a script looks letters up.
 #![tactic(auto)]
 
 pub mod laws;

@@ -27,7 +27,7 @@ use kd_typing::MachineRows;
 /// Writes the page with which to type on `machine`, in `language`. Typing on the page's table gives the machine's
 /// ciphertext.
 ///
-/// Returns `NotReady`, and writes nothing, if a slot is empty or a cable has exactly one letter.
+/// Returns `NotReady`, and writes nothing, if a slot is empty, or a cable has exactly one letter.
 pub fn draw_typing_page<W: Sink>(
     sink: &mut W,
     language: Language,
@@ -44,7 +44,7 @@ pub fn draw_typing_page<W: Sink>(
     Ok(())
 }
 
-/// Writes the page, with the table that has the rows `rows`.
+/// Writes the page. Its table has the rows `rows`.
 fn draw_page<W: Sink>(sink: &mut W, language: Language, machine: &Machine, rows: &MachineRows)
     requires { rows_key rows.now ≡ physical_key machine.now }
     ensures { Draws W.taken W.has_failed sink.old sink.new (typing_page language machine.now) }
@@ -58,8 +58,8 @@ fn draw_page<W: Sink>(sink: &mut W, language: Language, machine: &Machine, rows:
     draw_script(sink);
 }
 
-/// Writes the file up to its body: the title, the policy on which script and style sheet the page may use, and the
-/// style sheet.
+/// Writes the file up to its body: the title, a policy, and the style sheet. The policy says which script and style
+/// sheet the page may use.
 fn draw_page_head<W: Sink>(sink: &mut W, language: Language, model: Model)
     ensures { Draws W.taken W.has_failed sink.old sink.new (page_head language model) }
 {
@@ -70,7 +70,8 @@ fn draw_page_head<W: Sink>(sink: &mut W, language: Language, model: Model)
     draw(sink, BODY);
 }
 
-/// Writes the parts of the machine: windows and lamps, or pin wheels; keys and tape.
+/// Writes the parts of the machine. A rotor machine has windows and lamps, a Converter pin wheels, and both have keys
+/// and tape.
 fn draw_desk<W: Sink>(sink: &mut W, language: Language, machine: &Machine)
     ensures { Draws W.taken W.has_failed sink.old sink.new (desk_text language machine.now) }
 {
@@ -81,7 +82,7 @@ fn draw_desk<W: Sink>(sink: &mut W, language: Language, machine: &Machine)
     }
 }
 
-/// Writes the data that the script reads before the table: the letters that the machine shows, and the script's words.
+/// Writes the data that the script reads before the table: the letters that the machine shows, and words to show.
 fn draw_data<W: Sink>(sink: &mut W, language: Language, model: Model, rows: &MachineRows)
     ensures { Draws W.taken W.has_failed sink.old sink.new
         (data_text language model (shown_letters (rows_key rows.now))) }

@@ -1,10 +1,10 @@
-//! The fixed texts of a page with which to type on a machine; those with words are in English and in German. In a
+//! The fixed texts of a page with which to type on a machine. Texts with words are in English and in German. In a
 //! template, each sign `~` stands for a value. In the words of the script, values stand in place of `%s`.
 
 use kd_pictures::texts::Text;
 
-/// The file's title, with the model. Then the policy: the page may use only this script and this style sheet, known by
-/// their SHA-256.
+/// The file's title, with the model. Then the policy: the page may use only the script and the style sheet with these
+/// SHA-256. Then the start of the body.
 pub const TITLE: Text = ("~: typing", "~: Tippen");
 
 pub const POLICY: &str =
@@ -12,7 +12,8 @@ pub const POLICY: &str =
 
 pub const BODY: &str = "</style>\n<body>\n";
 
-/// The head of a rotor machine's page, and of a Converter's. The value is the model. The windows or wheels follow.
+/// The head of a rotor machine's page, and the head of a Converter's page. The value is the model. The windows or
+/// wheels follow.
 pub const ROTOR_HEAD: Text = (
     "<main class=enigma>\n<header><h1>~ <small>Press a key: a lamp shows the letter.</small></h1></header>\n<p id=off>This page needs JavaScript: without it no key works. If this is a preview, open the file in a browser.</p>\n<div>\n<div class=windows role=group aria-label=\"Windows\">\n",
     "<main class=enigma>\n<header><h1>~ <small>Taste drücken: Die Lampe zeigt den Buchstaben.</small></h1></header>\n<p id=off>Diese Seite braucht JavaScript: Ohne JavaScript wirkt keine Taste. Ist dies nur eine Vorschau, die Datei in einem Browser öffnen.</p>\n<div>\n<div class=windows role=group aria-label=\"Fenster\">\n",
@@ -23,8 +24,8 @@ pub const PIN_HEAD: Text = (
     "<main class=alphabet>\n<header><h1>~ <small>Buchstaben drücken: Die Maschine druckt einen.</small></h1></header>\n<p id=off>Diese Seite braucht JavaScript: Ohne JavaScript wirkt keine Taste. Ist dies nur eine Vorschau, die Datei in einem Browser öffnen.</p>\n<div>\n<div class=windows role=group aria-label=\"Räder\">\n",
 );
 
-/// The window of a slot: the text before its letters; the letters, which are the same for all slots; and the text after
-/// them.
+/// The window of a slot. First the text before its letters, then the letters, which are the same for all slots. Last
+/// the text after them.
 pub const WINDOW: Text = (
     "<div class=wheel><button type=button value=1 aria-label=\"slot ~: next letter\">▲</button><label><span>slot ~</span><select autocomplete=off aria-label=\"slot ~: window\">",
     "<div class=wheel><button type=button value=1 aria-label=\"Platz ~: nächster Buchstabe\">▲</button><label><span>Platz ~</span><select autocomplete=off aria-label=\"Platz ~: Fenster\">",
@@ -38,7 +39,7 @@ pub const WINDOW_END: Text = (
     "</select><small></small></label><button type=button value=-1 aria-label=\"Platz ~: voriger Buchstabe\">▼</button></div>\n",
 );
 
-/// A pin wheel: the text before its letters; a letter; and the text after them.
+/// A pin wheel: the text before its letters, the text for a letter, and the text after the letters.
 pub const WHEEL: Text = (
     "<div class=wheel><button type=button value=1 aria-label=\"wheel ~: next letter\">▲</button><label><span>wheel ~</span><select autocomplete=off aria-label=\"wheel ~: letter\">",
     "<div class=wheel><button type=button value=1 aria-label=\"Rad ~: nächster Buchstabe\">▲</button><label><span>Rad ~</span><select autocomplete=off aria-label=\"Rad ~: Buchstabe\">",
@@ -55,13 +56,13 @@ pub const WHEEL_END: Text = (
 pub const LAMPS: &str =
     "</div>\n<div id=lamps aria-hidden=true>\n<div class=row><b data-lamp=Q><span>Q</span></b><b data-lamp=W><span>W</span></b><b data-lamp=E><span>E</span></b><b data-lamp=R><span>R</span></b><b data-lamp=T><span>T</span></b><b data-lamp=Z><span>Z</span></b><b data-lamp=U><span>U</span></b><b data-lamp=I><span>I</span></b><b data-lamp=O><span>O</span></b></div>\n<div class=row><b data-lamp=A><span>A</span></b><b data-lamp=S><span>S</span></b><b data-lamp=D><span>D</span></b><b data-lamp=F><span>F</span></b><b data-lamp=G><span>G</span></b><b data-lamp=H><span>H</span></b><b data-lamp=J><span>J</span></b><b data-lamp=K><span>K</span></b></div>\n<div class=row><b data-lamp=P><span>P</span></b><b data-lamp=Y><span>Y</span></b><b data-lamp=X><span>X</span></b><b data-lamp=C><span>C</span></b><b data-lamp=V><span>V</span></b><b data-lamp=B><span>B</span></b><b data-lamp=N><span>N</span></b><b data-lamp=M><span>M</span></b><b data-lamp=L><span>L</span></b></div>\n</div>\n";
 
-/// The end of the pin wheels; the knob; and the end of the printed tape.
+/// The end of the pin wheels, the knob, and the field with the end of the printed tape.
 pub const KNOB: Text = (
     "</div>\n<fieldset class=knob><legend>Knob</legend><label><input type=radio name=knob value=C autocomplete=off checked><span><b>C</b> encipher</span></label><label><input type=radio name=knob value=D autocomplete=off><span><b>D</b> decipher</span></label></fieldset>\n<div id=strip class=strip aria-hidden=true></div>\n",
     "</div>\n<fieldset class=knob><legend>Knopf</legend><label><input type=radio name=knob value=C autocomplete=off checked><span><b>C</b> verschlüsseln</span></label><label><input type=radio name=knob value=D autocomplete=off><span><b>D</b> entschlüsseln</span></label></fieldset>\n<div id=strip class=strip aria-hidden=true></div>\n",
 );
 
-/// The line for reports; then the keys of a rotor machine, and of a Converter.
+/// The line for reports. Then the keys of a rotor machine, and the keys of a Converter.
 pub const KEYS: Text = (
     "<p id=told role=status></p>\n<div id=keys role=group aria-label=\"Keys\">\n",
     "<p id=told role=status></p>\n<div id=keys role=group aria-label=\"Tasten\">\n",
@@ -92,8 +93,8 @@ pub const ROTOR_SETTING: Text = (
 
 pub const CABLES: Text = (".<br>Cables: ", ".<br>Steckerverbindungen: ");
 
-/// The setting of a Converter: the words before the letters of its wheels, before the effective pins, before those of
-/// each wheel, and before its bars; a bar; and the end.
+/// The setting of a Converter. First the words before the letters of its wheels. Then the words before the effective
+/// pins, before the pins of each wheel, and before the bars. Last the text for a bar, and the end.
 pub const PIN_SETTING: Text = (
     "<details><summary>How the machine is set</summary><p>Letters at the start: ",
     "<details><summary>Wie die Maschine eingestellt ist</summary><p>Buchstaben am Anfang: ",
@@ -109,8 +110,8 @@ pub const BAR: &str = " <b>~-~</b>";
 
 pub const SETTING_END: &str = ".</p></details>\n</section>\n</main>\n";
 
-/// The data for the script: the text before the letters that the machine shows; then the script's words for a rotor
-/// machine, and for a Converter. The table follows.
+/// The data for the script. First the text before the letters that the machine shows. Then the script's words for a
+/// rotor machine, and for a Converter. The table follows.
 pub const START: &str = "<script type=\"application/json\" id=data>{\"start\": \"";
 
 pub const ROTOR_WORDS: Text = (
@@ -123,7 +124,7 @@ pub const PIN_WORDS: Text = (
     "\", \"words\": {\"lit\": \"Buchstabe %s, gedruckt: %s\", \"blank\": \"Zwischenraum\", \"nokey\": \"Die Maschine hat keine Taste „%s“: nichts getippt.\", \"space\": \"Bei D fällt ein Zwischenraum weg.\", \"bad\": \"Nichts getippt: Zeichen %s ist „%s“. Ä als AE, ß als SS, Zahlen in Worten schreiben.\", \"long\": \"Nichts getippt: Der Text hat mehr als 5000 Buchstaben.\", \"empty\": \"Es ist kein Buchstabe zu tippen.\", \"typed\": \"Getastete Buchstaben: %s.\", \"undone\": \"Zurückgenommen: %s. Die Fenster zeigen %s.\", \"nothing\": \"Auf dem Streifen steht kein Buchstabe.\", \"back\": \"Die Fenster zeigen %s, wie in der Datei.\", \"cleared\": \"Der Streifen ist leer.\", \"copied\": \"Kopierte Buchstaben: %s.\", \"byhand\": \"Der Browser kann nicht kopieren. Die Buchstaben sind unten markiert.\"}}</script>\n<script type=\"text/plain\" id=table>",
 );
 
-/// The end of the table; then the end of the script and of the file.
+/// The end of the table. Then the end of the script and of the file.
 pub const SCRIPT_HEAD: &str = "</script>\n<script>";
 
 pub const FOOT: &str = "</script>\n";
