@@ -1,4 +1,4 @@
--- A key sheet's days as a CSV table for a spreadsheet: a row for each day, from the first day on.
+-- The days of a key sheet as a CSV table for a spreadsheet. Each day has a row, and the first day comes first.
 use Rattle.std.specs.Prelude.{decimal, ℕ, Bool, if◌then◌else◌, List, [], ◌++◌, flat_map, zip}
 use Rattle.std.specs.Prelude.{Option, Some, None}
 use Rattle.std.specs.List.{list_any}
@@ -41,7 +41,7 @@ rotor_line has_lists day = day_cells day ++ key_cells day ++ list_cells has_list
 
 -- ---- The row of a Converter's day.
 
--- the letter of a pin; nothing if the pin isn't effective
+-- the letter of a pin; empty if the pin isn't effective
 abbrev pub effective_letter : ℕ × Bool → List ℕ
 effective_letter pin = if pin.1 then letter_text pin.0 else []
 
@@ -70,7 +70,7 @@ day_line has_lists (Some (Pin values)) = pin_line values
 unfoldable pub has_lists : List (Option Day) → Bool
 has_lists month = list_any (has_day_of M209 month) DAYS
 
--- the names of the columns, with those of key lists only if the month has a Converter's day
+-- The names of the columns. The columns of key lists are there only if the month has a Converter's day.
 abbrev pub head_line : Bool → List ℕ
 head_line has_lists =
     texts.COLUMN_NAMES.now ++ (if has_lists then texts.LIST_COLUMN_NAMES.now else []) ++ texts.ROW_END.now

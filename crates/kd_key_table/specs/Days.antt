@@ -8,11 +8,11 @@ use Rattle.kd_state.specs.SheetDay.{Day, day_model}
 use Rattle.kd_sheet.specs.Sheet.{day_of}
 use Rattle.kd_key_table.specs.declared.days.TheConstants.{DAYS, LAST_DAY_FIRST}
 
--- whether two models are the same, by their derived `==`
+-- whether two models are the same, as the derived `==` of models says
 abbrev pub same_model : Model → Model → Bool
 same_model = (model_eq.ghosts).eq
 
--- whether the month has day `number`, and this day is of the model
+-- whether the month has the day `number`, and this day is of the model
 unfoldable pub has_day_of : Model → List (Option Day) → ℕ → Bool
 has_day_of model month number = option_map_or (λ s. same_model (day_model s) model) (day_of month number) false
 
@@ -20,7 +20,7 @@ has_day_of model month number = option_map_or (λ s. same_model (day_model s) mo
 abbrev pub days_of : Model → List (Option Day) → List ℕ
 days_of model month = filter (has_day_of model month) LAST_DAY_FIRST
 
--- the first of some days: `last` is the last of them, and the list has the others in falling order
+-- The first of some days. `last` is the last of them, and the list has the other days in falling order.
 abbrev pub first_of : ℕ → List ℕ → ℕ
 first_of last [] = last
 first_of last (day ∷ earlier) = first_of day earlier

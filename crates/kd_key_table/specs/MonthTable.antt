@@ -1,5 +1,5 @@
--- The table of a rotor machine's model: a row for each day, the last day on top, so that used days are cut off at the
--- bottom. Words are in language `l`.
+-- The table of a rotor machine's model. Each day has a row, and the last day comes first, so that used days are cut off
+-- at the bottom. Words are in language `l`.
 use Rattle.std.specs.Prelude.{decimal, ℕ, Bool, true, false, List, [], ◌∷◌, ◌++◌, flat_map, Option, Some, None}
 use Rattle.kd_tables.specs.declared.model.Model.{Model}
 use Rattle.kd_tables.specs.declared.model.Model.TheVariants.{EnigmaI, M3, M4, M209}
@@ -20,7 +20,7 @@ use Rattle.kd_key_table.specs.Words.{ground_text, group_text, name_text, pair_te
 abbrev pub wheel_cell : SheetWheel → List ℕ
 wheel_cell wheel = filled texts.WHEEL.now (name_text wheel ∷ [])
 
--- whether the model's key sheets give rings as numbers, not as letters
+-- whether the model's key sheets have numbers for rings, instead of letters
 abbrev pub has_numbered_rings : Model → Bool
 has_numbered_rings EnigmaI = true
 has_numbered_rings M3 = false
@@ -45,7 +45,7 @@ word_cells day =
 unfoldable pub row_text : RotorDay → List ℕ
 row_text day = setting_cells day ++ word_cells day
 
--- the row of a rotor machine's day; nothing for another day
+-- the row of a rotor machine's day; empty for no day, or a Converter's
 abbrev pub row_of : Option Day → List ℕ
 row_of None = []
 row_of (Some (Rotor values)) = row_text values
@@ -53,7 +53,7 @@ row_of (Some (Pin values)) = []
 
 -- ---- The table.
 
--- the words for the days of a table: one day, or the first day and the last
+-- the words for the days of a table: one day, or the first day and the last day
 abbrev pub span_text : Language → ℕ → List ℕ → List ℕ
 span_text l last [] = filled (text_in l texts.ONE_DAY) (decimal last ∷ [])
 span_text l last (day ∷ earlier) =
@@ -72,11 +72,11 @@ table_text l model month last earlier =
     month_head l model last earlier ++ flat_map (λ number. row_of (day_of month number)) (last ∷ earlier)
     ++ texts.MONTH_END.now
 
--- the table of a model's days, which are in falling order; nothing if there are none
+-- the table of a model's days, which are in falling order; empty if there are no days
 abbrev pub table_of_days : Language → Model → List (Option Day) → List ℕ → List ℕ
 table_of_days l model month [] = []
 table_of_days l model month (last ∷ earlier) = table_text l model month last earlier
 
--- the table of all the month's days of the model
+-- the table of all days of the month that are of the model
 unfoldable pub month_table : Language → Model → List (Option Day) → List ℕ
 month_table l model month = table_of_days l model month (days_of model month)

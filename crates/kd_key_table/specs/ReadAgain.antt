@@ -1,4 +1,4 @@
--- What the command `curator sheet` reads in a table that `curator table` wrote.
+-- What the command `curator sheet` reads in a table that the command `curator table` wrote.
 use Rattle.std.specs.Prelude.{◌≡◌, ℕ, List, Option, Ok}
 use Rattle.std.specs.Bool.{MatchBool}
 use Rattle.kd_state.specs.SheetDay.{Day}
@@ -15,8 +15,8 @@ pub record MeansMonth (options : OptionTexts) (table : List ℕ) (month : List (
   pub means : TableMeans options table days
   pub same_month : month_of days ≡ month
 
--- The CSV table of a key sheet means exactly the days of the sheet, whatever the options are. The table of a sheet
--- without days is refused.
+-- The CSV table of a key sheet means exactly the days of the sheet, whatever the options are. If the sheet has no days,
+-- its table is refused.
 abbrev pub TablesAreReadBack : Type 0
 TablesAreReadBack = (options : OptionTexts) (sheet : List ℕ) (month : List (Option Day)) → sheet_of sheet ≡ Ok month
     → MatchBool (has_days month) (MeansMonth options (csv_text month) month) (IsRefusedTable options (csv_text month))

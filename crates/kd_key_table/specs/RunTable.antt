@@ -1,4 +1,4 @@
--- What `run_table` writes and answers.
+-- What the call `run_table` writes and returns.
 use Rattle.std.specs.Prelude.{◌≡◌, ◌⊎◌, ℕ, Bool, true, false, List, Result, Ok, Err, MatchResult}
 use Rattle.kd_tables.specs.Ports.{Port}
 use Rattle.kd_host.specs.Writing.{WritesText}
@@ -10,14 +10,14 @@ use Rattle.kd_key_table.specs.declared.fault.TableFault.TheVariants.{Device, She
 use Rattle.kd_key_table.specs.TableFile.{file_text}
 use Rattle.kd_key_table.specs.declared.table_file.TableForm.{TableForm}
 
--- whether the answer is that the sink failed
+-- whether the answer is the fault that the sink failed
 abbrev pub is_device : Result (Unit {0}) TableFault → Bool
 is_device (Ok done) = false
 is_device (Err Device) = true
 is_device (Err (Sheet fault)) = false
 
--- The tables of the sheet's month were written in this form and language, or a prefix of them if the sink failed; or
--- the answer is the sheet's first fault; or it is that memory ran out, which no clause excludes.
+-- Either the tables of the sheet's month were written in this form and language; if the sink failed, only a prefix of
+-- them was. Or the answer is the sheet's first fault. Or the answer is that memory ran out, which may always happen.
 abbrev pub IsTableAnswer : Language → TableForm → List ℕ → Port → Result (Unit {0}) TableFault → Type 0
 IsTableAnswer l form sheet sink answer =
     MatchResult (sheet_of sheet) (λ month. WritesText Device (file_text l form month) sink answer)

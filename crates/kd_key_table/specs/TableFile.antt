@@ -16,11 +16,11 @@ use Rattle.kd_key_table.specs.Days.{has_days}
 use Rattle.kd_key_table.specs.KeyList.{key_list_of}
 use Rattle.kd_key_table.specs.MonthTable.{month_table}
 
--- the sentence for a month without days; nothing if it has days
+-- the sentence for a month without days; empty if the month has days
 abbrev pub no_days : Language → Bool → List ℕ
 no_days l has_days = if has_days then [] else text_in l NO_DAYS
 
--- a table for each rotor machine's model that has days, and a key list for each day of a Converter
+-- a table for each model of rotor machine that has days, and a key list for each day of a Converter
 unfoldable pub tables_of : Language → List (Option Day) → List ℕ
 tables_of l month =
     month_table l EnigmaI month ++ month_table l M3 month ++ month_table l M4 month
@@ -32,7 +32,7 @@ page_text l month =
     file_head l ++ text_in l TITLE ++ STYLE.now ++ MORE_STYLE.now ++ WIDE_BODY.now ++ no_days l (has_days month)
     ++ tables_of l month ++ FOOT.now
 
--- the file in this form; a page is in language `l`, a CSV table is the same in all languages
+-- The file in this form. A page is in language `l`; a CSV table is the same in all languages.
 abbrev pub file_text : Language → TableForm → List (Option Day) → List ℕ
 file_text l Page month = page_text l month
 file_text l Csv month = csv_text month

@@ -30,7 +30,7 @@ ring_text is_number wheel = if is_number then ordinal_text wheel.ring else lette
 abbrev pub spaced : {X : Type 0} → (X → List ℕ) → X → List ℕ
 spaced text word = SPACE.now ++ text word
 
--- words with spaces between them; a hyphen if there are none
+-- the words with spaces between them; if there are no words, a hyphen
 abbrev pub words_text : {X : Type 0} → (X → List ℕ) → List X → List ℕ
 words_text text [] = NOTHING.now
 words_text text (word ∷ words) = text word ++ flat_map (spaced text) words

@@ -1,4 +1,4 @@
-//! A key sheet's days as a CSV table for a spreadsheet: a row for each day, from the first day on.
+//! The days of a key sheet as a CSV table for a spreadsheet. Each day has a row, and the first day comes first.
 ghost use Rattle.std.specs.Prelude.{◌≡◌, ◌++◌, flat_map, option_copied, Some, zip};
 ghost use Rattle.std.specs.List.{list_any};
 ghost use Rattle.kd_pictures.specs.Drawing.{Draws};

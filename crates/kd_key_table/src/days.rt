@@ -30,7 +30,7 @@ pub(crate) fn days_of(model: Model, sheet: &Sheet) -> ArrayVec<u8, 31>
     days
 }
 
-/// Adds those days of `numbers` that the sheet has for the model.
+/// Adds the days in `numbers` that the sheet has for the model.
 fn add_days(days: &mut ArrayVec<u8, 31>, model: Model, sheet: &Sheet, numbers: &[u8])
     requires { array_vec_len days.old + length numbers.now ≤ 31 }
     ensures { days.new.items ≡ days.old.items ++ filter (has_day_of model sheet.now) numbers.now }
@@ -52,7 +52,7 @@ fn add_if(days: &mut ArrayVec<u8, 31>, number: u8, is_wanted: bool)
     }
 }
 
-/// Whether the sheet has day `number`, and this day is of the model.
+/// Whether the sheet has the day `number`, and this day is of the model.
 #[tactic(auto, unfolding(crate::specs::Days::has_day_of))]
 pub(crate) fn has_day_of(model: Model, sheet: &Sheet, number: u8) -> bool
     ensures { result ≡ has_day_of model sheet.now number }
@@ -63,7 +63,7 @@ pub(crate) fn has_day_of(model: Model, sheet: &Sheet, number: u8) -> bool
     }
 }
 
-/// The first of some days: `last` is the last of them, and `earlier` has the others in falling order.
+/// The first of some days. `last` is the last of them, and `earlier` has the other days in falling order.
 pub(crate) fn first_of(last: u8, earlier: &[u8]) -> u8
     ensures { result ≡ first_of last earlier.now }
 {

@@ -21,7 +21,7 @@ use kd_sheet::Sheet;
 use kd_state::{Entry, PinEntry, SheetDay, own_engine};
 use kd_tables::{Letter, Model, Reading, Sink, ring1, ring2, ring3, ring4, ring5, ring6};
 
-/// Writes the key lists of those days of `numbers` that are a Converter's.
+/// Writes a key list for each day in `numbers` that is a Converter's.
 pub(crate) fn draw_key_lists<W: Sink>(
     sink: &mut W,
     language: Language,
@@ -57,7 +57,7 @@ fn draw_list_of<W: Sink>(sink: &mut W, language: Language, day: &SheetDay)
     }
 }
 
-/// Writes the key list of the day `entry`, with the check `check`.
+/// Writes the key list of the day `entry`, with the 26-letter check `check`.
 fn draw_list<W: Sink>(sink: &mut W, language: Language, entry: &PinEntry, check: &[Letter; 26])
     requires { check.now ≡ check_of (pin_values entry.now) }
     ensures { Draws W.taken W.has_failed sink.old sink.new (key_list language (pin_values entry.now)) }
@@ -146,7 +146,7 @@ fn draw_letter_cell<W: Sink>(sink: &mut W, language: Language, letter: Letter, e
     }
 }
 
-/// The 26-letter check: the cipher of 26 times A, with the day's pins and lugs, and A on each wheel.
+/// The 26-letter check: 26 times A is enciphered with the day's pins and lugs, and with A on each wheel.
 fn check_of(day: &SheetDay, entry: &PinEntry) -> [Letter; 26]
     requires { day.now ≡ Pin (pin_values entry.now) }
     ensures { result ≡ check_of (pin_values entry.now) }

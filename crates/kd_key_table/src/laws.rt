@@ -1,14 +1,13 @@
-//! Laws of a table's words and templates, and of the days of a month.
+//! Laws about a table's words and templates, and about the days of a month.
 ghost use Rattle.std.specs.Prelude.{◌≡◌, reverse};
 ghost use Rattle.std.specs.List.{range_with_len};
 ghost use Rattle.kd_key_table.specs.Plain.{TemplatesTakeTheirValues, WordsArePlain};
 ghost use Rattle.kd_key_table.specs.ReadAgain.{TablesAreReadBack};
 ghost use Rattle.kd_key_table.specs.declared.days.TheConstants.{DAYS, LAST_DAY_FIRST};
 
-/// Nothing that a table takes from a sheet has markup.
+/// The words that a table takes from a sheet consist of letters, and have no markup.
 ///
-/// This law says so of words, which consist of letters; `kd_pictures::laws::values_are_plain` says so of the values of
-/// templates.
+/// By the law `kd_pictures::laws::values_are_plain`, the values of templates have no markup, either.
 #[tactic(auto, using(crate::proofs::PlainWords::words_are_plain))]
 pub fn words_are_plain()
     ensures { WordsArePlain }
@@ -21,7 +20,7 @@ pub fn templates_take_their_values()
 
 /// A month has the days 1 to 31.
 ///
-/// The month tables on a page list them in falling order; CSV tables and key lists, in rising order.
+/// The month tables on a page list them in falling order. CSV tables and key lists are in rising order.
 pub fn days_are_a_months()
     ensures days { DAYS ≡ range_with_len 1 31 }
     ensures last_first { LAST_DAY_FIRST ≡ reverse (range_with_len 1 31) }
@@ -29,7 +28,7 @@ pub fn days_are_a_months()
 
 /// The CSV table of a sheet is read back as exactly the sheet's days.
 ///
-/// The table of a sheet without days is refused.
+/// If the sheet has no days, its table is refused.
 #[tactic(auto, using(crate::proofs::ReadAgain::tables_are_read_back))]
 pub fn tables_are_read_back()
     ensures { TablesAreReadBack }

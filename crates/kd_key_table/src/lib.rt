@@ -1,4 +1,5 @@
-//! Key sheets as printed tables: a table for each rotor machine's model, and a key list for each day of a Converter.
+//! Key sheets as printed tables. There is a table for each model of rotor machine, and a key list for each day of a
+//! Converter.
 #![tactic(auto)]
 
 mod csv_table;

@@ -1,4 +1,4 @@
-//! The table of a rotor machine's model: a row for each day, the last day on top.
+//! The table of a rotor machine's model. Each day has a row, and the last day comes first.
 ghost use Rattle.std.specs.Prelude.{◌≡◌, flat_map, option_copied, Some};
 ghost use Rattle.kd_pictures.specs.Drawing.{Draws};
 ghost use Rattle.kd_sheet.specs.Sheet.{day_of};
@@ -18,7 +18,7 @@ use kd_sheet::Sheet;
 use kd_state::{Entry, RotorEntry, SheetDay, SheetWheel};
 use kd_tables::{Letter, Model, Sink};
 
-/// Writes the table of the sheet's days of `model`; nothing if there are none.
+/// Writes the table of the sheet's days of `model`. If there are none, writes nothing.
 #[tactic(auto, unfolding(crate::specs::MonthTable::month_table))]
 pub(crate) fn draw_month<W: Sink>(sink: &mut W, language: Language, model: Model, sheet: &Sheet)
     ensures { Draws W.taken W.has_failed sink.old sink.new (month_table language model sheet.now) }
@@ -83,7 +83,7 @@ fn draw_month_head<W: Sink>(
     );
 }
 
-/// Writes the words for the days of a table: one day, or the first day and the last.
+/// Writes the words for the days of a table: one day, or the first day and the last day.
 fn draw_span<W: Sink>(sink: &mut W, language: Language, last: u8, earlier: &[u8])
     ensures { Draws W.taken W.has_failed sink.old sink.new (span_text language last earlier.now) }
 {
@@ -170,7 +170,7 @@ fn draw_wheels<W: Sink>(sink: &mut W, language: Language, wheels: &[SheetWheel])
     }
 }
 
-/// Whether the model's key sheets give rings as numbers, not as letters.
+/// Whether the model's key sheets have numbers for rings, instead of letters.
 pub(crate) fn has_numbered_rings(model: Model) -> bool
     ensures { result ≡ has_numbered_rings model }
 {

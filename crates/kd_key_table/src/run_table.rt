@@ -11,10 +11,11 @@ use kd_sheet::read_sheet;
 use kd_tables::Sink;
 use std::alloc::Global;
 
-/// Writes the tables of the key sheet `sheet` in `form`, a page also in `language`.
+/// Writes the tables of the key sheet `sheet` in `form`. A page is in `language`.
 ///
-/// A page has a table for each rotor machine's model, with the last day on top, and a key list for each day of a
-/// Converter. A CSV table has a row for each day, from the first day on, and is the same in all languages.
+/// A page has a table for each model of rotor machine, in which the last day comes first. It also has a key list for
+/// each day of a Converter. A CSV table has a row for each day, from the first day on, and is the same in all
+/// languages.
 ///
 /// For a fault of the sheet, nothing is written. For `Device`, only a prefix of the file is written.
 pub fn run_table<W: Sink>(

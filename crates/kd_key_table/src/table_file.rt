@@ -63,7 +63,7 @@ fn draw_page<W: Sink>(sink: &mut W, language: Language, sheet: &Sheet)
     draw(sink, FOOT);
 }
 
-/// Writes that the sheet has no days, if it hasn't any.
+/// Writes that the sheet has no days, if it has none.
 fn draw_no_days<W: Sink>(sink: &mut W, language: Language, sheet: &Sheet)
     ensures { Draws W.taken W.has_failed sink.old sink.new (no_days language (has_days sheet.now)) }
 {
@@ -74,7 +74,7 @@ fn draw_no_days<W: Sink>(sink: &mut W, language: Language, sheet: &Sheet)
     }
 }
 
-/// Writes a table for each rotor machine's model that has days, and a key list for each day of a Converter.
+/// Writes a table for each model of rotor machine that has days, and a key list for each day of a Converter.
 fn draw_tables<W: Sink>(sink: &mut W, language: Language, sheet: &Sheet)
     ensures { Draws W.taken W.has_failed sink.old sink.new (tables_of language sheet.now) }
 {

@@ -1,4 +1,4 @@
-//! The fixed texts of a key table; those with words are in English and in German. In a template, each sign `~` stands
+//! The fixed texts of a key table. Texts with words are in English and in German. In a template, each sign `~` stands
 //! for a value.
 
 use kd_pictures::texts::Text;
@@ -6,7 +6,7 @@ use kd_pictures::texts::Text;
 /// The file's title.
 pub const TITLE: Text = ("Key table", "Schlüsseltafel");
 
-/// The end of the style sheet, and the beginning of the body, which is wider than a page's.
+/// The end of the style sheet, and the beginning of the body. This body is wider than the body of other pages.
 pub const WIDE_BODY: &str = "</style>\n<body>\n<main class=wide>\n";
 
 /// The sentence for a sheet without days.
@@ -31,8 +31,8 @@ pub const COLUMNS: Text = (
     "</small></h1>\n<p class=fields><span>Schlüsselkreis</span><span>Monat</span><span>Prüfnummer</span></p>\n</header>\n<p class=note>Nach Gebrauch den untersten Tag abschneiden. A\u{a0}01, B\u{a0}02, C\u{a0}03, D\u{a0}04, E\u{a0}05, F\u{a0}06, G\u{a0}07, H\u{a0}08, I\u{a0}09, J\u{a0}10, K\u{a0}11, L\u{a0}12, M\u{a0}13, N\u{a0}14, O\u{a0}15, P\u{a0}16, Q\u{a0}17, R\u{a0}18, S\u{a0}19, T\u{a0}20, U\u{a0}21, V\u{a0}22, W\u{a0}23, X\u{a0}24, Y\u{a0}25, Z\u{a0}26.</p>\n<table class=month>\n<colgroup><colgroup><colgroup span=~><colgroup span=~><colgroup><colgroup><colgroup>\n<thead>\n<tr><th scope=col>Tag<th scope=col>Umkehrwalze<th scope=col colspan=~>Walzenlage<th scope=col colspan=~>Ringstellung<th scope=col>Steckerverbindungen<th scope=col>Grundstellung<th scope=col>Kenngruppen\n<tbody>\n",
 );
 
-/// The row of a day: its number and its reflector; a wheel; a ring; and the start of a cell for cables, ground setting
-/// or groups.
+/// The row of a day: its number and its reflector, a wheel, and a ring. Then the start of a cell for cables, ground
+/// setting or groups.
 pub const ROW: &str = "<tr><th scope=row>~<td>~";
 
 pub const WHEEL: &str = "<td>~";
@@ -51,8 +51,8 @@ pub const NOTHING: &str = "-";
 /// The separator of two words in a cell.
 pub const SPACE: &str = " ";
 
-/// The head of a Converter's key list, up to the letters of the list. The values are the model and the day. Then the
-/// columns.
+/// The head of a Converter's key list, up to its two letters. The values are the model and the day. Then the columns of
+/// the list.
 pub const KEY_LIST: Text = (
     "<article class=list>\n<header>\n<h1>~, day ~: key list ",
     "<article class=list>\n<header>\n<h1>~, Tag ~: Schlüsselliste ",
@@ -68,14 +68,14 @@ pub const BAR_BELOW_TEN: &str = "<tr><th scope=row>0~<td>~-~";
 
 pub const BAR: &str = "<tr><th scope=row>~<td>~-~";
 
-/// The cell of a pin: effective, with its letter; not effective; or none, as the wheel has fewer pins.
+/// The cell of a pin. It has the letter of an effective pin, or a hyphen, or nothing if the wheel has fewer pins.
 pub const EFFECTIVE: &str = "<td>~";
 
 pub const INEFFECTIVE: &str = "<td>-";
 
 pub const NO_PIN: &str = "<td>";
 
-/// The words before the 26-letter check; then the words after it, up to the letters of the day.
+/// The words before the 26-letter check. Then the words after it, up to the wheels' letters on this day.
 pub const CHECK: Text = (
     "</table>\n<h2>26-letter check</h2>\n<pre><b>",
     "</table>\n<h2>26-Buchstaben-Probe</h2>\n<pre><b>",
@@ -88,12 +88,12 @@ pub const CHECK_END: Text = (
 
 pub const KEY_LIST_END: &str = ".</p>\n</article>\n";
 
-/// The names of the columns of a CSV table; then those of the columns for key lists.
+/// The names of the columns of a CSV table. Then the names of the columns for key lists.
 pub const COLUMN_NAMES: &str = "day,model,reflector,wheels,rings,plugs,window,groups";
 
 pub const LIST_COLUMN_NAMES: &str = ",list,pins 1,pins 2,pins 3,pins 4,pins 5,pins 6,bars";
 
-/// The end of a cell in a CSV table; then the empty cells for a key list in the row of a rotor machine's day.
+/// The end of a cell in a CSV table. Then the empty cells for a key list, in the row of a rotor machine's day.
 pub const COMMA: &str = ",";
 
 pub const NO_LIST: &str = ",,,,,,,,";

@@ -9,7 +9,7 @@ use kd_pictures::template::{draw_letter, draw_letters, draw_ordinal};
 use kd_state::SheetWheel;
 use kd_tables::{Letter, Reading, Sink};
 
-/// A value of which a word stands in a cell. `Kind` says which of its words.
+/// A value that has words for a cell. `Kind` says which of its words is written.
 pub(crate) trait CellWord<Kind> {
     /// The word.
     ghost text: { Self → List ℕ };
@@ -111,7 +111,7 @@ impl CellWord<RingNumber> for SheetWheel {
     }
 }
 
-/// Writes words with spaces between them; a hyphen if there are none.
+/// Writes the words with spaces between them. If there are no words, writes a hyphen.
 pub(crate) fn draw_words<Kind, W: Sink, T: CellWord<Kind>>(sink: &mut W, words: &[T])
     ensures { Draws W.taken W.has_failed sink.old sink.new (words_text T.text words.now) }
 {
