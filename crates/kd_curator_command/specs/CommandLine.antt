@@ -1,5 +1,5 @@
--- The grammar of the command line: the commands `page`, `list`, `send`, `receive`, `type`, `table`, `sheet` and `look`,
--- with their arguments, and help.
+-- The grammar of the command line. It has help, and the commands `page`, `list`, `send`, `receive`, `type`, `table`,
+-- `sheet` and `look`, with their arguments.
 -- Code: `grammar` builds the grammar by calls of the library `clap`.
 -- Test: tests/cases/curator-words.toml
 use Rattle.std.specs.Prelude.{codes, decimal, ◌≡◌, ◌≢◌, ℕ, Bool, true, false, List, [], ◌∷◌, ◌++◌, Option, Some, None}
@@ -49,7 +49,7 @@ command_shape name last = record (new_shape name) {
 abbrev pub option_rule : List ℕ → Rule
 option_rule name = record (new_rule name) { long = Some name; value_names = 1 }
 
--- the option `--in`, for the language of the output
+-- the option `--in`, which takes the language of the output
 abbrev pub language_option : Rule
 language_option = option_rule (codes "in")
 
@@ -57,11 +57,11 @@ language_option = option_rule (codes "in")
 abbrev pub lettered : List ℕ → ℕ → Rule
 lettered name letter = record (new_rule name) { short = Some letter; value_names = 1 }
 
--- the option `-o` (byte 111), for the output file
+-- the option `-o` (byte 111), which takes the name of the output file
 abbrev pub output_option : Rule
 output_option = lettered (codes "output") 111
 
--- a command with one more argument
+-- the command with one more argument
 abbrev pub with_rule : Shape → Rule → Shape
 with_rule shape rule = record shape { rules = shape.rules ++ rule ∷ [] }
 
@@ -139,7 +139,7 @@ curator_grammar = record {
 abbrev pub NamedCommand : Type 0
 NamedCommand = Command (List ℕ) (List ℕ)
 
--- the command, with texts in place of borrowed texts
+-- the command, with plain texts in place of borrowed texts
 abbrev pub unborrowed_command : Command (Bor (List ℕ)) (Bor (List ℕ)) → NamedCommand
 unborrowed_command (commands.OnMachine machine sheet task) = commands.OnMachine machine.now sheet.now task
 unborrowed_command (commands.Message machine sheet message task) =
@@ -154,17 +154,17 @@ unborrowed_command (commands.EmptySheet model days) = commands.EmptySheet model 
 abbrev pub ReadCommand : Type 0
 ReadCommand = Command (List ℕ) (List ℕ)
 
--- The argument DAYS names these days; `None` if it isn't given.
+-- The argument DAYS names these days. `None` means that it isn't given.
 abbrev pub HasDays : List Row → Option (List ℕ) → Type 0
 HasDays rows None = first_of (codes "DAYS") rows ≡ None
 HasDays rows (Some days) =
     (word : List ℕ) × (first_of (codes "DAYS") rows ≡ Some word) × AreDays word days
 
--- The argument DAY is the number of this day.
+-- The argument DAY is this day's number.
 abbrev pub HasDay : List Row → ℕ → Type 0
 HasDay rows day = (first_of (codes "DAY") rows ≡ Some (decimal day)) × IsDayNumber day
 
--- The option `--in` has the code of this language; `None` if it isn't used.
+-- The option `--in` has this language's code. `None` means that it isn't used.
 abbrev pub HasLanguage : List Row → Option Language → Type 0
 HasLanguage rows language = first_of (codes "in") rows ≡ option_map language_code language
 
@@ -177,23 +177,23 @@ abbrev pub HasArguments : List Row → Task → Type 0
 HasArguments rows (tasks.Page days language) = HasDays rows days × HasLanguage rows language
 HasArguments rows (tasks.List day) = HasDay rows day
 
--- The command's name and the values of its arguments, `said`, mean the task `task`.
+-- `said` means the task `task`. It has the command's name, and the values of its arguments.
 pub record IsTaskOf (said : List ℕ × List Row) (task : Task) : Type 0 where
   pub name : said.0 ≡ task_name task
   pub arguments : HasArguments said.1 task
 
--- The command's name and the values of its arguments, `said`, mean the task `its_task` with these files.
+-- `said` means the task `its_task` with these files. It has the command's name, and the values of its arguments.
 pub record IsTaskWith (said : List ℕ × List Row) (machine_file key_sheet : List ℕ) (its_task : Task) : Type 0 where
   pub machine : first_of (codes "MACHINE") said.1 ≡ Some machine_file
   pub sheet : first_of (codes "SHEET") said.1 ≡ Some key_sheet
   pub task : IsTaskOf said its_task
 
--- The arguments in `rows` ask for tables in this form: CSV with the option `--csv`, a page without it.
+-- The arguments in `rows` ask for tables in this form. With the option `--csv` it is CSV; without it, a page.
 abbrev pub HasForm : List Row → TableForm → Type 0
 HasForm rows forms.Csv = first_of (codes "csv") rows ≡ Some (codes "true")
 HasForm rows forms.Page = first_of (codes "csv") rows ≢ Some (codes "true")
 
--- the name of the command for a kind of message; then the name of the argument for its file
+-- the name of the command for a kind of message; then the name of the command's argument for the message
 abbrev pub message_name : MessageKind → List ℕ
 message_name kinds.Order = codes "send"
 message_name kinds.Form = codes "receive"
@@ -212,14 +212,14 @@ pub record IsMessageOf (said : List ℕ × List Row) (machine_file key_sheet its
   pub day : HasDay said.1 its_task.day
   pub language : HasLanguage said.1 its_task.language
 
--- `said` means the command `type`, with this file and this language.
+-- `said` means the command `type`, with this machine file and this language.
 pub record IsTypingPageOf (said : List ℕ × List Row) (machine_file : List ℕ) (its_language : Option Language)
     : Type 0 where
   pub name : said.0 ≡ codes "type"
   pub machine : first_of (codes "MACHINE") said.1 ≡ Some machine_file
   pub language : HasLanguage said.1 its_language
 
--- `said` means the command `table`, with this file, this form and this language.
+-- `said` means the command `table`, with this key sheet, this form and this language.
 pub record IsTableOf (said : List ℕ × List Row) (key_sheet : List ℕ) (its_form : TableForm)
     (its_language : Option Language) : Type 0 where
   pub name : said.0 ≡ codes "table"
@@ -251,14 +251,14 @@ pub record IsSheetOf (said : List ℕ × List Row) (its_table : List ℕ) (its_o
   pub table : first_of (codes "TABLE") said.1 ≡ Some its_table
   pub options : its_options ≡ option_texts said.1
 
--- The words are the name of a model, and a number of days from 1 to 31.
+-- The words are the name of this model and this number of days, from 1 to 31.
 pub record IsMonthNamed (model_word days_word : List ℕ) (model : Model) (days : ℕ) : Type 0 where
   pub named : model_text model ≡ model_word
   pub numbered : decimal days ≡ days_word
   pub within : IsDayNumber days
 
--- `said` means the command `sheet --empty`, with this model and this number of days, and without other options of
--- `sheet`.
+-- `said` means the command `sheet --empty`, with this model and this number of days. Other options of `sheet` aren't
+-- used.
 pub record IsEmptySheetOf (said : List ℕ × List Row) (model : Model) (days : ℕ) : Type 0 where
   pub name : said.0 ≡ codes "sheet"
   pub model_word : List ℕ
@@ -276,7 +276,7 @@ pub record IsLookOf (said : List ℕ × List Row) (names files : UpToThree (List
   pub third : first_of (codes "FILE3") said.1 ≡ names.third
   pub same : files ≡ names
 
--- `said`, a command's name and the values of its arguments, means the command `command`.
+-- `said` means the command `command`. It has the command's name, and the values of its arguments.
 abbrev pub IsCommandOf : List ℕ × List Row → NamedCommand → Type 0
 IsCommandOf said (commands.OnMachine machine sheet task) = IsTaskWith said machine sheet task
 IsCommandOf said (commands.Message machine sheet message task) = IsMessageOf said machine sheet message task
@@ -286,11 +286,11 @@ IsCommandOf said (commands.Sheet table options) = IsSheetOf said table options
 IsCommandOf said (commands.Look names files) = IsLookOf said names files
 IsCommandOf said (commands.EmptySheet model days) = IsEmptySheetOf said model days
 
--- `said` is there, and means the command `command`.
+-- There is `said`, and it means the command `command`.
 abbrev pub IsMeant : Option (List ℕ × List Row) → NamedCommand → Type 0
 IsMeant said command = IsSomeAnd said (λ x. IsCommandOf x command)
 
--- The command line `words` fits the grammar and means `command`. Its first word is the program's own name.
+-- The command line `words` fits the grammar, and means `command`. Its first word is the program's own name.
 pub record IsCommandLineOf (words : List (List ℕ)) (command : NamedCommand) : Type 0 where
   pub taken : fault_of curator_grammar words ≡ []
   pub said : IsMeant (subcommand_of curator_grammar words) command
@@ -299,7 +299,7 @@ pub record IsCommandLineOf (words : List (List ℕ)) (command : NamedCommand) : 
 abbrev pub output_said : Option (List ℕ × List Row) → Option (List ℕ)
 output_said said = option_and_then (λ x. first_of (codes "output") x.1) said
 
--- the output file in the command line `words`; `None` if it names none
+-- the name of the output file in the command line `words`; `None` if there is none
 abbrev pub output_of : List (List ℕ) → Option (List ℕ)
 output_of words = output_said (subcommand_of curator_grammar words)
 
@@ -324,7 +324,8 @@ is_help _ = false
 abbrev pub AsksForHelp : List (List ℕ) → Type 0
 AsksForHelp words = (kind : ErrorKind) × (fault_of curator_grammar words ≡ kind ∷ []) × IsTrue (is_help kind)
 
--- Why there is no command. `Asked`: a word asks for help or for the version. `Usage`: the words don't mean a command.
+-- Why there is no command. `Asked` means that a word asks for help or for the version. `Usage` means that the words
+-- don't mean a command.
 abbrev pub HasNoCommand : List (List ℕ) → NoCommand → Type 0
 HasNoCommand words (Asked text) =
     (kind : ErrorKind) × IsAmong kind (fault_of curator_grammar words) × IsTrue (is_help kind)
@@ -344,11 +345,11 @@ rule_of_sort name sorts.Flag = flag name
 abbrev pub rule_of_argument : Argument → Rule
 rule_of_argument argument = rule_of_sort argument.name.now argument.sort
 
--- the grammar of a command: a rule for each of its arguments
+-- the grammar of a command; it has a rule for each of the command's arguments
 abbrev pub shape_of : CommandWords → Shape
 shape_of words = record (new_shape words.name.now) { rules = map rule_of_argument words.arguments.now }
 
--- the grammar `app` with these commands added
+-- the grammar `app`, with these commands added
 abbrev pub with_commands : App → List CommandWords → App
 with_commands app commands = fold (λ a words. with_subcommand a (shape_of words)) app commands
 
@@ -363,18 +364,18 @@ pub record IsMessageTask (rows : List Row) (kind : MessageKind) (task : MessageT
   pub day : HasDay rows task.day
   pub language : HasLanguage rows task.language
 
--- An error of `clap` of this kind leads to this reason for having no command.
+-- If `clap` returns an error of this kind, this is why there is no command.
 abbrev pub IsToldAs : ErrorKind → NoCommand → Type 0
 IsToldAs kind (Asked text) = IsTrue (is_help kind)
 IsToldAs kind (Usage text) = (is_help kind ≡ false) × (kind ≢ OutOfMemory)
 IsToldAs kind NoMemory = Unit {0}
 
--- The value `word` of the option `--csv` asks for tables in this form: `true` for CSV.
+-- The option `--csv` with the value `word` asks for tables in this form. The value `true` asks for CSV.
 abbrev pub IsFormNamed : List ℕ → TableForm → Type 0
 IsFormNamed word forms.Csv = word ≡ codes "true"
 IsFormNamed word forms.Page = word ≢ codes "true"
 
--- the command, with texts in place of its options' borrowed texts
+-- the command, with plain texts in place of the borrowed texts of its options
 abbrev pub with_texts : Command (List ℕ) (Bor (List ℕ)) → ReadCommand
 with_texts (commands.OnMachine machine sheet task) = commands.OnMachine machine sheet task
 with_texts (commands.Message machine sheet message task) = commands.Message machine sheet message task

@@ -1,4 +1,4 @@
--- The days that the argument DAYS names, such as `2`, `1-31` or `1,4,2`.
+-- The days that the argument DAYS names, for example `2`, `1-31` or `1,4,2`.
 -- Code: `days_of_word` adds the days of one range after another to an array of at most 31.
 -- Test: tests/cases/curator-pages.toml, tests/cases/curator-words.toml
 use Rattle.std.specs.Prelude.{decimal, ◌≡◌, ℕ, ◌+◌, ◌-◌, ◌<◌, ◌≤◌, ◌==◌, nat_lt, nat_le, ◌||◌, Bool, false, List, [], ◌∷◌, ◌++◌}
@@ -23,7 +23,7 @@ abbrev pub days_between : Option ℕ → Option ℕ → Option (List ℕ)
 days_between (Some first) (Some last) = if nat_le first last then Some (days_from first last) else None
 days_between _ _ = None
 
--- the days of a range: `3` is one day; `3-7` are all days from 3 to 7
+-- The days of a range. `3` is one day; `3-7` are all days from 3 to 7.
 unfoldable pub range_named : List ℕ → Option (List ℕ)
 range_named text =
     if nat_lt (position_or_len is_hyphen text) (length text)
@@ -38,7 +38,7 @@ abbrev pub ranges_named : List (List ℕ) → Option (List ℕ)
 ranges_named [] = Some []
 ranges_named (range ∷ ranges) = both (range_named range) (ranges_named ranges)
 
--- the days of a word, which is a list of ranges joined by commas
+-- the days of a word, which is a list of ranges with commas between them
 unfoldable pub days_named : List ℕ → Option (List ℕ)
 days_named word = ranges_named (slice_split is_comma word)
 
@@ -47,14 +47,14 @@ abbrev pub has_twice : List ℕ → Bool
 has_twice [] = false
 has_twice (day ∷ days) = list_any (λ other. other == day) days || has_twice days
 
--- The word names these days, in this order; there are at most 31 of them, and none comes twice.
+-- The word names these days, in this order. There are at most 31 of them, and none comes twice.
 pub record AreDays (word : List ℕ) (days : List ℕ) : Type 0 where
   pub named : days_named word ≡ Some days
   pub few : length days ≤ 31
   pub once : has_twice days ≡ false
 
--- `new` is `old` followed by the days `more`. The answer `None` means that `more` are `None`, or too many for 31 in
--- all.
+-- Adding the days `more` to `old` gives `new`. `None` is returned if `more` are `None`, or if there would be more than
+-- 31 days.
 abbrev pub AddsDays : Option (List ℕ) → List ℕ → List ℕ → Option (Unit {0}) → Type 0
 AddsDays more old new (Some done) = (option_map (λ days. old ++ days) more ≡ Some new) × (length new ≤ 31)
 AddsDays more old new None = IfSome more (λ days. 31 < length (old ++ days))

@@ -3,7 +3,7 @@ use Rattle.std.specs.Prelude.{◌≡◌, ℕ, List, [], ◌∷◌, ◌++◌, Opt
 use Rattle.std.specs.Borrow.{Bor}
 use Rattle.kd_curator_command.specs.declared.up_to_three.UpToThree.{UpToThree}
 
--- texts in place of borrowed texts
+-- the texts, in place of borrowed texts
 abbrev pub unborrowed_three : UpToThree (Bor (List ℕ)) → UpToThree (List ℕ)
 unborrowed_three texts = record {
   first = texts.first.now;
@@ -19,7 +19,7 @@ list_of_option (Some x) = x ∷ []
 abbrev pub list_of_three : {A : Type 0} → UpToThree A → List A
 list_of_three things = things.first ∷ (list_of_option things.second ++ list_of_option things.third)
 
--- Both have equally many things.
+-- There are equally many things in both.
 pub record AreAsMany {A B : Type 0} (these : UpToThree A) (those : UpToThree B) : Type 0 where
   pub second : is_some those.second ≡ is_some these.second
   pub third : is_some those.third ≡ is_some these.third

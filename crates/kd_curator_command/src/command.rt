@@ -23,23 +23,23 @@ use kd_tables::Model;
 use std::alloc::{AllocError, Global};
 use std::convert::AsStr;
 
-/// The error for `sheet --empty` without the name of a model or a number of days.
+/// The error for a wrong use of `sheet --empty`.
 const NO_MONTH: &str =
     "--empty needs Enigma I, M3, M4 or M-209, then a number of days from 1 to 31, and no other option but -o";
 
-/// The hint for a model's name without quotes.
+/// The hint for the name of a model that was typed without quotes.
 const IN_QUOTES: &str = "Write \"Enigma I\" in quotes.\n";
 
 /// The error for an argument DAY that isn't the number of a day.
 const NO_DAY: &str = "the day is a number from 1 to 31";
 
-/// The error for an option `--in` with another value than a language's code.
+/// The error for an option `--in` whose value isn't a language's code.
 const NO_LANGUAGE: &str = "--in takes de or en";
 
 /// The error for an argument DAYS that doesn't name days.
 const NO_DAYS: &str = "days are numbers from 1 to 31, each once, such as 2, 1-31 or 1,4,2";
 
-/// A command. `F` are its files, or their names; `T` are the texts of its options.
+/// A command. It has its files, or their names, as `F`, and the texts of its options as `T`.
 #[derive(Drop)]
 pub enum Command<F, T> {
     /// Writes how to set a machine to days of a key sheet.
@@ -48,7 +48,7 @@ pub enum Command<F, T> {
         machine: F,
         /// The key sheet.
         sheet: F,
-        /// What to write: pages, or a list.
+        /// What to write: pages, or a list of settings.
         task: Task,
     },
     /// Writes how to encipher or decipher a message by hand.
@@ -59,14 +59,14 @@ pub enum Command<F, T> {
         sheet: F,
         /// The order or the form.
         message: F,
-        /// Which message, and of which day.
+        /// The kind of the message, its day, and the language of the page.
         task: MessageTask,
     },
     /// Writes a page with which to type on a machine.
     TypingPage {
         /// The machine file.
         machine: F,
-        /// The language of the page; `None` if the words don't say.
+        /// The language of the page; `None` if the words name none.
         language: Option<Language>,
     },
     /// Writes a key sheet as printed tables.
@@ -75,17 +75,17 @@ pub enum Command<F, T> {
         sheet: F,
         /// The form of the tables.
         form: TableForm,
-        /// The language of the tables; `None` if the words don't say.
+        /// The language of the tables; `None` if the words name none.
         language: Option<Language>,
     },
     /// Makes a key sheet from a spreadsheet's table.
     Sheet {
         /// The table.
         table: F,
-        /// Texts for cells that are blank or missing in the table.
+        /// The texts for cells that are blank or missing in the table.
         options: TableOptions<T>,
     },
-    /// Puts machine files and key sheets into words, or names their faults.
+    /// Says in words what machine files and key sheets say, or what their faults are.
     Look {
         /// The names of the files.
         names: UpToThree<T>,
@@ -100,27 +100,27 @@ pub enum Command<F, T> {
     },
 }
 
-/// What to write of a machine and of days.
+/// What to write for a machine and days of a key sheet.
 #[derive(Drop)]
 pub enum Task {
     /// A page for each day.
     Page {
         /// The days; `None` for all days that the sheet has for the machine's model.
         days: Option<Days>,
-        /// The language of the pages; `None` if the words don't say.
+        /// The language of the pages; `None` if the words name none.
         language: Option<Language>,
     },
-    /// The settings of this day's page, as a list for `desk apply`.
+    /// A list of the settings on this day's page, for `desk apply`.
     List(u8),
 }
 
-/// What to write of a message.
+/// What to write for a message.
 #[derive(Clone, Copy)]
 pub struct MessageTask {
     pub kind: MessageKind,
-    /// The day of the sheet whose key is used.
+    /// The day of the key sheet, whose key is used.
     pub day: u8,
-    /// The language of the page; `None` if the words don't say.
+    /// The language of the page; `None` if the words name none.
     pub language: Option<Language>,
 }
 
@@ -136,7 +136,7 @@ pub enum MessageKind {
 /// A command with the names of its files, before any file is read.
 pub type NamedCommand<'a> = Command<&'a str, &'a str>;
 
-/// A command, and where its output goes.
+/// A command, and the file for its output.
 #[derive(Drop)]
 pub struct CommandLine<'a> {
     pub command: NamedCommand<'a>,
@@ -147,9 +147,9 @@ pub struct CommandLine<'a> {
 /// Why a command line doesn't mean a command.
 #[derive(Drop)]
 pub enum NoCommand {
-    /// The words ask for help, or for the version: this text.
+    /// The words ask for help, or for the version. The text is the one to show.
     Asked(String),
-    /// The words aren't a command. The text says why.
+    /// The words don't mean a command. The text says why.
     Usage(String),
     /// Memory ran out.
     NoMemory,
@@ -204,7 +204,7 @@ fn output_said<'a>(matches: &ArgMatches<'a>) -> Option<&'a str>
     words.get_str("output")
 }
 
-/// What is wrong with words that clap accepts, but that don't mean a command.
+/// Why words don't mean a command, though clap accepts them.
 fn why_not(matches: &ArgMatches<'_>) -> &'static str {
     match matches.subcommand() {
         Some(("sheet", _)) => NO_MONTH,
@@ -215,7 +215,7 @@ fn why_not(matches: &ArgMatches<'_>) -> &'static str {
     }
 }
 
-/// Why there is no command: clap accepts the words, but a word doesn't name days, a model or a language.
+/// The error for words that clap accepts, of which one doesn't name days, a model or a language. `why` is its text.
 fn no_days(alloc: Global, grammar: &mut Grammar<'_>, why: &str) -> NoCommand
     ensures { IsToldAs ErrorKind.InvalidValue result }
 {
@@ -225,7 +225,7 @@ fn no_days(alloc: Global, grammar: &mut Grammar<'_>, why: &str) -> NoCommand
     }
 }
 
-/// The hint for a model's name that was typed without quotes; an empty text if none was.
+/// The hint for the name of a model that was typed without quotes; empty if none was.
 fn quotes_hint<S: AsStr>(words: &[S]) -> &'static str {
     let mut is_begun = false;
     for word in words {
@@ -238,7 +238,7 @@ fn quotes_hint<S: AsStr>(words: &[S]) -> &'static str {
     ""
 }
 
-/// Why there is no command: clap's error, and `hint`, which is added to it.
+/// The reason why there is no command: clap's error, and `hint` after it.
 fn no_command(alloc: Global, error: &Error, hint: &str) -> NoCommand
     ensures { IsToldAs (kind_of error.now) result }
 {
@@ -263,7 +263,7 @@ impl From<AllocError> for NoCommand {
     }
 }
 
-/// The command that `matches` mean; `None` if the value of an argument is wrong.
+/// The command that `matches` mean. `None` if an argument has a wrong value.
 fn meant_command<'a>(matches: &ArgMatches<'a>) -> Option<NamedCommand<'a>>
     ensures said { IfSome result (λ command.
         IsMeant (subcommand_rows_of matches.now) (unborrowed_command command)) }
@@ -274,7 +274,7 @@ fn meant_command<'a>(matches: &ArgMatches<'a>) -> Option<NamedCommand<'a>>
     command_of(name, words)
 }
 
-/// The command `name` with the arguments in `words`; `None` if the value of an argument is wrong.
+/// The command `name` with the arguments in `words`. `None` if an argument has a wrong value.
 fn command_of<'a>(name: &str, words: &ArgMatches<'a>) -> Option<NamedCommand<'a>>
     ensures said { IfSome result (λ command.
         IsCommandOf (name.now, rows_of (found_of words.now)) (unborrowed_command command)) }
@@ -292,7 +292,7 @@ fn command_of<'a>(name: &str, words: &ArgMatches<'a>) -> Option<NamedCommand<'a>
     }
 }
 
-/// The command for a message of this kind, with the arguments in `words`; `None` if the value of an argument is wrong.
+/// The command for a message of this kind, with the arguments in `words`. `None` if an argument has a wrong value.
 fn message_of<'a>(words: &ArgMatches<'a>, kind: MessageKind) -> Option<NamedCommand<'a>>
     ensures said { IfSome result (λ command.
         IsCommandOf (message_name kind, rows_of (found_of words.now)) (unborrowed_command command)) }
@@ -321,7 +321,7 @@ fn message_argument(kind: MessageKind) -> &'static str
     }
 }
 
-/// The task for a message of this kind; `None` if the value of an argument is wrong.
+/// The task for a message of this kind. `None` if an argument has a wrong value.
 fn message_task(words: &ArgMatches<'_>, kind: MessageKind) -> Option<MessageTask>
     ensures said { IfSome result (IsMessageTask (rows_of (found_of words.now)) kind) }
     ensures none { result ≡ None → (task : MessageTask)
@@ -336,7 +336,7 @@ fn message_task(words: &ArgMatches<'_>, kind: MessageKind) -> Option<MessageTask
     })
 }
 
-/// The command `type` with the arguments in `words`; `None` if the value of an argument is wrong.
+/// The command `type` with the arguments in `words`. `None` if an argument has a wrong value.
 fn typing_page_of<'a>(words: &ArgMatches<'a>) -> Option<NamedCommand<'a>>
     ensures said { IfSome result (λ command.
         IsCommandOf (codes "type", rows_of (found_of words.now)) (unborrowed_command command)) }
@@ -348,7 +348,7 @@ fn typing_page_of<'a>(words: &ArgMatches<'a>) -> Option<NamedCommand<'a>>
     Some(Command::TypingPage { machine, language })
 }
 
-/// The command `table` with the arguments in `words`; `None` if the value of an argument is wrong.
+/// The command `table` with the arguments in `words`. `None` if an argument has a wrong value.
 fn table_of<'a>(words: &ArgMatches<'a>) -> Option<NamedCommand<'a>>
     ensures said { IfSome result (λ command.
         IsCommandOf (codes "table", rows_of (found_of words.now)) (unborrowed_command command)) }
@@ -375,7 +375,7 @@ fn form_of(words: &ArgMatches<'_>) -> TableForm
     }
 }
 
-/// The form of tables for the value `word` of the option `--csv`, which is `true` if the option is used.
+/// The form of tables if the option `--csv` has the value `word`. The value is `true` if the option is used.
 fn form_named(word: &str) -> TableForm
     ensures { IsFormNamed word.now result }
 {
@@ -410,7 +410,7 @@ fn look_of<'a>(words: &ArgMatches<'a>) -> Option<NamedCommand<'a>>
     })
 }
 
-/// The command `sheet` with the arguments in `words`; `None` if they use `--empty`, but don't fit it.
+/// The command `sheet` with the arguments in `words`. `None` if it has `--empty`, and other arguments don't fit.
 fn sheet_of<'a>(words: &ArgMatches<'a>) -> Option<NamedCommand<'a>>
     ensures said { IfSome result (λ command.
         IsCommandOf (codes "sheet", rows_of (found_of words.now)) (unborrowed_command command)) }
@@ -454,7 +454,7 @@ fn are_blank(options: &TableOptions<&str>) -> bool
     options.model.is_empty() && options.reflector.is_empty() && options.window.is_empty()
 }
 
-/// The model and the number of days with these names; `None` if one of them is wrong.
+/// The model and the number of days with these names. `None` if one of the two names is wrong.
 fn month_named(model: &str, days: &str) -> Option<(Model, u8)>
     ensures said { IfSome result (λ month. IsMonthNamed model.now days.now month.0 month.1) }
     ensures none { result ≡ None → (month : Model × ℕ)
@@ -465,8 +465,7 @@ fn month_named(model: &str, days: &str) -> Option<(Model, u8)>
     Some((model, days))
 }
 
-/// The command `page` or `list`, named `name`, with the arguments in `words`; `None` if the value of an argument is
-/// wrong.
+/// The command named `name`, `page` or `list`, with the arguments in `words`. `None` if an argument has a wrong value.
 fn task_with_files<'a>(name: &str, words: &ArgMatches<'a>) -> Option<NamedCommand<'a>>
     requires table { name.now ≢ codes "table" }
     requires sheet { name.now ≢ codes "sheet" }
@@ -502,7 +501,7 @@ fn task_of(name: &str, words: &ArgMatches<'_>) -> Option<Task>
     }
 }
 
-/// The task `page` with the arguments in `words`; `None` if the value of an argument is wrong.
+/// The task `page` with the arguments in `words`. `None` if an argument has a wrong value.
 fn page_of(words: &ArgMatches<'_>) -> Option<Task>
     ensures said { IfSome result (IsTaskOf (codes "page", rows_of (found_of words.now))) }
     ensures none { result ≡ None → (task : Task)
@@ -513,7 +512,7 @@ fn page_of(words: &ArgMatches<'_>) -> Option<Task>
     Some(Task::Page { days, language })
 }
 
-/// The task `list` with the day in the argument DAY; `None` if it doesn't name a day.
+/// The task `list` with the day in the argument DAY. `None` if the argument isn't the number of a day.
 fn list_of(words: &ArgMatches<'_>) -> Option<Task>
     ensures said { IfSome result (IsTaskOf (codes "list", rows_of (found_of words.now))) }
     ensures none { result ≡ None → (task : Task)
@@ -527,7 +526,7 @@ fn list_of(words: &ArgMatches<'_>) -> Option<Task>
 #[derive(Clone, Copy)]
 struct WrongValue;
 
-/// The days in the argument DAYS; `None` if it isn't given.
+/// The days in the argument DAYS. `None` if the argument isn't given.
 fn days_asked(words: &ArgMatches<'_>) -> Result<Option<Days>, WrongValue>
     ensures said { IfOk result (HasDays (rows_of (found_of words.now))) }
     ensures none { IsErr result → (days : Option (List ℕ))
@@ -542,7 +541,7 @@ fn days_asked(words: &ArgMatches<'_>) -> Result<Option<Days>, WrongValue>
     }
 }
 
-/// The day in the argument DAY; `None` if it isn't given, or doesn't name a day.
+/// The day in the argument DAY. `None` if the argument isn't given, or isn't the number of a day.
 fn day_asked(words: &ArgMatches<'_>) -> Option<u8>
     ensures said { IfSome result (HasDay (rows_of (found_of words.now))) }
     ensures none { result ≡ None → (day : ℕ) → ¬ (HasDay (rows_of (found_of words.now)) day) }
@@ -552,7 +551,7 @@ fn day_asked(words: &ArgMatches<'_>) -> Option<u8>
     Some(day)
 }
 
-/// The language in the option `--in`; `None` if it isn't used.
+/// The language in the option `--in`. `None` if the option isn't used.
 fn language_asked(words: &ArgMatches<'_>) -> Result<Option<Language>, WrongValue>
     ensures said { IfOk result (HasLanguage (rows_of (found_of words.now))) }
     ensures none { IsErr result → (language : Option Language)

@@ -64,7 +64,7 @@ impl Days {
     }
 }
 
-/// The days that `word` names, such as `2`, `1-31` or `1,4,2`. `None` for any other word, and if a day comes twice.
+/// The days that `word` names, for example `2`, `1-31` or `1,4,2`. `None` if it names no days, or a day twice.
 pub fn days_of_word(word: &str) -> Option<Days>
     ensures { MatchOption result
         ((days : List ℕ) → ¬ (AreDays word.now days))
@@ -88,7 +88,7 @@ fn has_twice(days: &[u8]) -> bool
     }
 }
 
-/// Adds the days of `text`, a list of ranges joined by commas.
+/// Adds the days of `text`, which is a list of ranges with commas between them.
 fn add_ranges(days: &mut Days, text: &str) -> Option<()>
     ensures { AddsDays (days_named text.now) days.old days.new result }
 {
@@ -101,7 +101,7 @@ fn add_ranges(days: &mut Days, text: &str) -> Option<()>
     }
 }
 
-/// Adds the days of a range: `3` is one day; `3-7` are all days from 3 to 7.
+/// Adds the days of a range. `3` is one day; `3-7` are all days from 3 to 7.
 #[tactic(auto, using(std::proofs::lemmas::Str::Pattern::split_once_first), unfolding(crate::specs::Days::range_named))]
 fn add_range(days: &mut Days, text: &str) -> Option<()>
     ensures { AddsDays (range_named text.now) days.old days.new result }

@@ -10,16 +10,16 @@ use std::alloc::{AllocError, Global};
 /// The version that `--version` shows.
 const VERSION: &str = "1.0";
 
-/// The sort of an argument: whether it has to be given, or is an option.
+/// The sort of an argument: how it is given on the command line.
 #[derive(Clone, Copy)]
 pub(crate) enum Sort<'a> {
     /// An argument that has to be given.
     Needed,
     /// An argument that may be left out.
     Optional,
-    /// An option with a value; help shows the value by this name.
+    /// An option with a value. Help calls the value by this name.
     Valued(&'a str),
-    /// An option of one letter with a value; help shows the value by this name.
+    /// An option of one letter, with a value. Help calls the value by this name.
     Lettered(char, &'a str),
     /// An option that takes no value.
     Flag,
@@ -30,7 +30,7 @@ pub(crate) enum Sort<'a> {
 pub(crate) struct Argument<'a> {
     pub(crate) name: &'a str,
     pub(crate) sort: Sort<'a>,
-    /// The text of help on the argument.
+    /// The words on the argument that help shows.
     pub(crate) help: &'a str,
 }
 
@@ -38,7 +38,7 @@ pub(crate) struct Argument<'a> {
 #[derive(Clone, Copy)]
 pub(crate) struct CommandWords<'a> {
     pub(crate) name: &'a str,
-    /// The text of help on the command.
+    /// The words on the command that help shows.
     pub(crate) about: &'a str,
     pub(crate) arguments: &'a [Argument<'a>],
 }
@@ -248,7 +248,7 @@ fn command_grammar<'a>(alloc: Global, words: &CommandWords<'a>) -> Result<Gramma
     Ok(command)
 }
 
-/// The argument in the form that clap needs.
+/// The argument, in the form that clap needs.
 fn argument_of<'a>(alloc: Global, argument: &Argument<'a>) -> Arg<'a>
     ensures rule { rule_of result ≡ rule_of_argument argument.now }
     ensures local { result.global ≡ false }
@@ -280,7 +280,7 @@ fn optional<'a>(alloc: Global, name: &'a str, help: &'a str) -> Arg<'a>
     Arg::new(alloc, name).help(help)
 }
 
-/// An option with a value; help shows the value by the name `value`.
+/// An option with a value. Help calls the value `value`.
 fn option<'a>(alloc: Global, name: &'a str, value: &'a str, help: &'a str) -> Arg<'a>
     ensures rule { rule_of result ≡ option_rule name.entry.now }
     ensures local { result.global ≡ false }
@@ -291,7 +291,7 @@ fn option<'a>(alloc: Global, name: &'a str, value: &'a str, help: &'a str) -> Ar
         .help(help)
 }
 
-/// An option of one letter with a value; help shows the value by the name `value`.
+/// An option of one letter, with a value. Help calls the value `value`.
 fn lettered<'a>(
     alloc: Global,
     name: &'a str,

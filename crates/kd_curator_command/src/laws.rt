@@ -1,4 +1,4 @@
-//! A law on command lines.
+//! A law about command lines.
 ghost use Rattle.kd_curator_command.specs.CommandLine.{CommandLinesMeanOneCommand};
 
 /// A command line means at most one command.

@@ -1,11 +1,11 @@
-//! The language that a computer is set to.
+//! The language to which a computer is set.
 ghost use Rattle.std.specs.Prelude.{◌≡◌, ◌≢◌, IfSome};
 ghost use Rattle.kd_curator_command.specs.Locale.{language_code, language_of};
 
 use kd_pictures::Language;
 
-/// The language for a locale, the value of the environment variable `LANG`: German if it begins with `de`, otherwise
-/// English.
+/// The language for a locale, which is the value of the environment variable `LANG`. It is German if the locale begins
+/// with `de`, otherwise English.
 #[tactic(auto, unfolding(crate::specs::Locale::language_of))]
 pub fn language_of(locale: &str) -> Language
     ensures { result ≡ language_of locale.now }
@@ -17,7 +17,7 @@ pub fn language_of(locale: &str) -> Language
     }
 }
 
-/// The language with this code: `en` for English, `de` for German; `None` for another code.
+/// The language with this code: `en` for English, `de` for German. `None` if no language has the code.
 pub fn language_of_code(code: &str) -> Option<Language>
     ensures said { IfSome result (λ language. language_code language ≡ code.now) }
     ensures none { result ≡ None → (language : Language) → language_code language ≢ code.now }

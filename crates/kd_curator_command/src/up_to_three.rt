@@ -1,4 +1,4 @@
-//! `UpToThree`: one, two or three things of a kind, such as the files of `look`.
+//! `UpToThree`: one, two or three things of a kind, for example the files of the command `look`.
 
 /// One, two or three things of a kind, in order.
 #[derive(Drop)]
