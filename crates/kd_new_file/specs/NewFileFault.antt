@@ -1,11 +1,11 @@
--- Why there is no new file, by the kind of the system's error.
+-- Why there is no new file. The kind of the system's error decides.
 -- Test: tests/new-files
 use Rattle.std.specs.declared.io.ErrorKind.{ErrorKind}
 use Rattle.std.specs.declared.io.ErrorKind.TheVariants.{AlreadyExists, OutOfMemory}
 use Rattle.kd_new_file.specs.declared.new_file_fault.NewFileFault.{NewFileFault}
 use Rattle.kd_new_file.specs.declared.new_file_fault.NewFileFault.TheVariants as faults
 
--- the fault for an error of this kind: a name that is taken, no memory, or otherwise a failed device
+-- The fault for an error of this kind. The name is taken, memory ran out, or anything else went wrong.
 abbrev pub fault_of_kind : ErrorKind → NewFileFault
 fault_of_kind AlreadyExists = faults.Taken
 fault_of_kind OutOfMemory = faults.NoMemory

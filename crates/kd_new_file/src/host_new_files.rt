@@ -7,7 +7,7 @@ use kd_host::WriterSink;
 use kd_tables::{Failed, Sink};
 use std::fs::{self, File};
 
-/// The folders of the system that the program runs on. Contracts don't say which files are in them.
+/// The folders of the system on which the program runs. Contracts don't say which files are in them.
 #[derive(Drop)]
 pub struct HostNewFiles<'h> {
     pub rt: &'h HostRuntime,

@@ -1,4 +1,4 @@
-//! A new file is written under another name, and gets its own name once it is whole.
+//! A new file is written under another name. Once it is whole, it is renamed to its own name.
 ghost use Rattle.std.specs.Prelude.{◌≡◌, ◌≢◌, ◌↔◌, ◌++◌, [], ℕ, codes, decimal, Option, Some, Err, IfErr, IfOk, IfSome, IsSome, OnErr, OnOk, false, string_bytes};
 ghost use Rattle.std.specs.Option.{option_map};
 ghost use Rattle.kd_new_file.specs.NewFiles.{AddsFile, FilesByName};
@@ -12,7 +12,7 @@ const NAMES: u8 = 100;
 
 /// Begins a new file under another name, in the folder of `name`. Returns this other name, and the empty file.
 ///
-/// The other name is `name`, then `.part` and the first number from 1 to 100 that no file has.
+/// The other name is `name`, then `.part`, then the first number from 1 to 100 that is free.
 pub fn begin<N: NewFiles>(
     alloc: Global,
     files: &mut N,
@@ -41,9 +41,9 @@ pub fn begin<N: NewFiles>(
     Err(NewFileFault::Device)
 }
 
-/// Renames the whole new file `file`, which was begun under the name `other`, to `name`.
+/// Renames the new file `file` to `name`. It was begun under the name `other`, and is whole.
 ///
-/// Returns `Taken` if there is a file called `name`. After a fault, the new file is gone from both names.
+/// Returns `Taken` if there already is a file called `name`. After a fault, no name has the new file.
 pub fn publish<N: NewFiles>(
     files: &mut N,
     file: N::Written,

@@ -11,12 +11,12 @@ pub trait NewFiles {
     /// A file that is being written.
     type Written: Sink + Drop;
 
-    /// The files, by their names. `None` if they aren't known, like the host's.
+    /// The files, by their names. `None` if they aren't known, as those of the host.
     ///
     /// A file that is still being written counts as empty.
     ghost held: { Self → Option FilesByName } = { λ _. None };
 
-    /// Makes an empty file called `name`. Returns `Taken` if there is a file with this name.
+    /// Makes an empty file called `name`. Returns `Taken` if there already is a file with this name.
     fn create(&mut self, name: &str) -> Result<Self::Written, NewFileFault>
         ensures added { IfOk result (λ _. AddsFile (held self.old) (held self.new) name.now (Some [])) }
         ensures empty { IfOk result
@@ -26,9 +26,10 @@ pub trait NewFiles {
             (λ files. (result ≡ Err NewFileFault.Taken) ↔ IsSome (files name.now)) }
         ensures refused { OnErr result (held self.new ≡ held self.old) };
 
-    /// Stores all bytes that `file` has taken, and gives this file, which was made as `other`, the second name `name`.
+    /// Stores all bytes that `file` has taken, and gives `file` a second name, `name`. It was made under the name
+    /// `other`.
     ///
-    /// Returns `Taken` if there is a file called `name`.
+    /// Returns `Taken` if there already is a file called `name`.
     fn link(&mut self, file: Self::Written, other: &str, name: &str) -> Result<(), NewFileFault>
         ensures added { IfOk result (λ _.
             AddsFile (held self.old) (held self.new) name.now (Self.Written.taken file)) }
