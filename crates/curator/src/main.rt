@@ -1,4 +1,4 @@
-//! The program `curator`: hands the host's command line, files and streams to `run_curator`.
+//! The program `curator`. It hands the host's command line, files and streams to `run_curator`.
 #![tactic(auto)]
 
 use kd_curator::{Language, Stop, end_program, language_of, run_curator};
@@ -19,7 +19,7 @@ fn main(rt: HostRuntime) -> ExitCode {
 
 /// Runs the program on the host's files, folders and standard output, and returns the exit status.
 ///
-/// A function apart from `main`: the kit can't prove a call whose type has a lifetime that `main` infers.
+/// This isn't part of `main`, as the kit can't prove a call whose type has a lifetime that `main` infers.
 fn run_on_host<E: Sink>(
     rt: &HostRuntime,
     language: Language,
@@ -48,7 +48,7 @@ fn words_and_language(rt: &HostRuntime) -> Result<(Vec<String>, Language), Stop>
     Ok((words, language))
 }
 
-/// The language of pages, from the environment variable `LANG`; English without it.
+/// The language of pages, from the environment variable `LANG`. It is English if `LANG` is missing, or isn't UTF-8.
 fn language(rt: &HostRuntime) -> Result<Language, Stop> {
     match env::var(rt, "LANG") {
         Ok(locale) => Ok(language_of(locale.as_str())),
