@@ -241,11 +241,11 @@ port_with_untaken bytes failed old new left = record {
   has_failed = failed new;
 }
 
--- the port of standard error from the call to the answer, when it had taken `told`
+-- standard error from the start of the call until the answer was known; by then it had taken `told`
 abbrev pub at_first : Port → Option (List ℕ) → Bool → Port
 at_first errors told failed = record errors { has = told; has_failed = failed }
 
--- the port of standard error from the answer, when it had taken `told`, to the end of the call
+-- standard error from then on until the end of the call
 abbrev pub at_last : Port → Option (List ℕ) → Bool → Port
 at_last errors told failed = record errors { had = told; had_failed = failed }
 

@@ -1,5 +1,5 @@
--- The line of a value: the first line such that the file up to its end is a document with this value. If the array
--- `day` is missing, the line is that of the file's first key.
+-- The line of a value: the first line up to whose end the file is a document with this value. If the array `day` is
+-- missing, it is the line of the file's first key.
 -- Code: the document is parsed up to the end of each line in turn, once for all faults.
 -- Test: tests/cases/curator-look.toml
 use Rattle.std.specs.Prelude.{ℕ, ◌+◌, ◌==◌, ◌||◌, ◌&&◌, nat_lt, Bool, true, false, List, find, length, take, count_by}
