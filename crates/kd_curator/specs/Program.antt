@@ -277,13 +277,13 @@ HasMonth (commands.Table sheet form language) = Unit {0}
 HasMonth (commands.Sheet table options) = Unit {0}
 HasMonth (commands.Look names files) = Unit {0}
 
--- The notes on a message of this kind: any for a form, none for an order.
+-- Any notes on a form may have been written to standard error; none on an order.
 abbrev pub TellsOfMessage : MessageKind → Port → Type 0
 TellsOfMessage kinds.Order errors = IsLeftAlone errors
 TellsOfMessage kinds.Form errors = Tells errors
 
--- The notes of a command on standard error, apart from the text of a refusal: any for `sheet`, on unread columns and
--- faults of the table; any for `receive`, on a form; none for other commands.
+-- Apart from a refusal's text, only two commands may have written to standard error: `sheet` on unread columns and
+-- faults of the table, `receive` on a form.
 abbrev pub HasTold : ReadCommand → Port → Type 0
 HasTold (commands.Sheet table options) errors = Tells errors
 HasTold (commands.OnMachine machine sheet task) errors = IsLeftAlone errors

@@ -90,7 +90,7 @@ unread_keys document = option_map_or
 
 -- ---- What inner functions answer. No public contract cites these definitions.
 
--- the view of an unread key that the code found
+-- the unread key that the code found, with its name as a list of bytes
 abbrev pub unread_key : Unread → UnreadKey
 unread_key found = record { entry = found.entry; day = found.day; name = found.name.now }
 

@@ -57,7 +57,7 @@ pin_cells page wheel letters =
 abbrev pub pin_lines : ℕ → ℕ → List ℕ
 pin_lines wheel count = if count == 0 then [] else filled texts.PIN_LINES.now (decimal wheel ∷ [])
 
--- the head of a wheel, `count` pins of which change
+-- the head of a wheel with `count` pins that change
 abbrev pub pin_head : Language → ℕ → ℕ → List ℕ
 pin_head l wheel count =
     filled (text_in l texts.PIN_WHEEL) (decimal wheel ∷ count_text l count ∷ []) ++ pin_lines wheel count
