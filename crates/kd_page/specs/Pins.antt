@@ -23,7 +23,7 @@ use Rattle.kd_pictures.specs.Words.{mark_text}
 abbrev pub pin_spot : ℕ → ℕ → Spot
 pin_spot wheel letter = record { step = Pins; row = Some wheel; cell = Some letter }
 
--- whether the pin was as effective before the settings as it is after them
+-- whether the pin was the same before the settings: effective, or ineffective
 abbrev pub is_same_pin : Bool → Option Bool → Bool
 is_same_pin effective was = option_map_or (λ old. if old then effective else not effective) was false
 
