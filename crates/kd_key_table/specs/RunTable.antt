@@ -17,7 +17,7 @@ is_device (Err Device) = true
 is_device (Err (Sheet fault)) = false
 
 -- The tables of the sheet's month were written in this form and language, or a prefix of them if the sink failed; or
--- the answer is the sheet's first fault; or it is that memory ran out, which no clause excludes.
+-- the answer is the sheet's first fault; or it is that memory ran out, which may always be.
 abbrev pub IsTableAnswer : Language → TableForm → List ℕ → Port → Result (Unit {0}) TableFault → Type 0
 IsTableAnswer l form sheet sink answer =
     MatchResult (sheet_of sheet) (λ month. WritesText Device (file_text l form month) sink answer)

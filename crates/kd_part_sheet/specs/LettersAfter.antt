@@ -12,7 +12,7 @@ abbrev pub letters_shown : EngineKey → List ℕ
 letters_shown (Rotor key) = key.window
 letters_shown (Pin key) = key.letters
 
--- The letters that a machine of this day shows after `presses` letters were pressed; before, it showed `start`.
+-- the letters that a machine of this day shows after `presses` letters were pressed; before, it showed `start`
 abbrev pub letters_after : Day → List ℕ → ℕ → List ℕ
 letters_after s start presses =
     letters_shown (engine_key_after (key_with_window (sheet_key s) start) presses)

@@ -1,5 +1,5 @@
--- The letters that are pressed for a part, and the letters of the lamps that have to light up, from the windows that
--- are set.
+-- What the sheet of a part shows: the windows to set, the letters to press, and those of the lamps that have to light
+-- up.
 use Rattle.std.specs.Prelude.{◌≡◌, ℕ, List, ◌++◌, map}
 use Rattle.kd_state.specs.SheetDay.{Day}
 use Rattle.kd_state.specs.EngineKey.{IsWindow}
@@ -13,8 +13,9 @@ use Rattle.kd_form.specs.PartMaking.{cipher_from, enciphered_choice, fill_last_g
 use Rattle.kd_part_sheet.specs.declared.cells.Cell.{Cell}
 use Rattle.kd_part_sheet.specs.Cells.{choice_cells, copied, pressed_cells}
 
--- The letters on the sheet of a part. `ground`: the windows before the letters `key` are pressed, which find the
--- message key. `start`: the windows before the text. `body`: the letters of the body.
+-- The letters on the sheet of a part. `ground`: the windows before the letters `key` are pressed, by which the message
+-- key
+-- or the internal key is found. `start`: the windows before the text. `body`: the letters of the body.
 pub record Work : Type 0 where
   pub ground : List ℕ
   pub key : List Cell

@@ -34,8 +34,9 @@ pub struct PartName {
     pub model: Model,
     /// The day's number.
     pub day: u8,
-    /// The number of the part's sheet, to which links lead. It is the part's number, unless each part has its own sheet
-    /// though their numbers are equal.
+    /// The number of the part's sheet, to which links lead: the part's number or, if the parts aren't of one message,
+    /// its
+    /// place in the form.
     pub sheet: u8,
     /// The part's number, counted from 1.
     pub part: u8,

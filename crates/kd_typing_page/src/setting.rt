@@ -99,7 +99,7 @@ fn draw_wheel_pins<W: Sink>(
     draw_effective(sink, machine, wheel, letters);
 }
 
-/// Writes those of `letters`, on wheel `wheel`, that have an effective pin.
+/// Writes each of `letters` that has an effective pin on wheel `wheel`.
 fn draw_effective<W: Sink>(sink: &mut W, machine: &Machine, wheel: u8, letters: &[Letter])
     ensures { Draws W.taken W.has_failed sink.old sink.new
         (flat_map (λ letter. pin_letter letter (machine_pin machine.now wheel letter)) letters.now) }
