@@ -32,14 +32,14 @@ abbrev pub is_seat : Setting → Bool
 is_seat (Seat slot wheel) = true
 is_seat _ = false
 
--- whether no wheel is seated in a slot after a window was turned
+-- whether all wheels are seated before the first window is turned
 abbrev pub seats_before_turning : List Setting → Bool
 seats_before_turning [] = true
 seats_before_turning (x ∷ xs) =
     if is_at_stage Windows x then list_all (λ y. not (is_seat y)) xs else seats_before_turning xs
 
--- The reordered list has the same settings. If no wheel is seated after a window was turned, it leads to the same
--- machine.
+-- The reordered list has the same settings. If all wheels are seated before the first window is turned, it leads to the
+-- same machine.
 abbrev pub HandOrderIsPermutation : Type 0
 HandOrderIsPermutation = (xs : List Setting) → IsPermutation xs (in_hand_order xs)
 

@@ -22,7 +22,7 @@ abbrev pub lug_at : Parts → ℕ → Lug → Option Place
 lug_at m bar Left = option_map (λ standing. standing.0) (machine_standing m bar)
 lug_at m bar Right = option_map (λ standing. standing.1) (machine_standing m bar)
 
--- The value is `due` after a list, and was another before it.
+-- The value was another before a list, and is `due` after it.
 abbrev pub Becomes : {A : Type 0} → A → A → A → Type 0
 Becomes before after due = (before ≢ due) × (after ≡ due)
 
@@ -35,8 +35,8 @@ WindowTurns (Rotor m) n number letter =
 WindowTurns (Pin m) n number letter =
     Becomes (machine_pin_letter (Pin m) number) (machine_pin_letter n number) (Some letter)
 
--- The thing that the setting sets differs between machine `m`, before a list, and machine `n`, after it, and is then as
--- the setting says. A page marks this thing, unless it is a Converter's letter.
+-- The thing that the setting sets differs between machine `m`, before a list, and machine `n`, after it; on `n`, it is
+-- as the setting says. A page marks it, unless it is a Converter's letter.
 abbrev pub Changes : Parts → Parts → Setting → Type 0
 Changes m n (RingTo wheel letter) = Becomes (machine_ring m wheel) (machine_ring n wheel) (Some letter)
 Changes m n (SeatReflector reflector) = Becomes (machine_reflector m) (machine_reflector n) (Some reflector)

@@ -4,7 +4,7 @@ ghost use Rattle.kd_booklet.specs.SettingChanges.{DaySettingsChangeThings};
 
 /// A list in the order that suits an operator has the same settings.
 ///
-/// If the list seats no wheel after a window was turned, it leads to the same machine in both orders.
+/// If all wheels are seated before the first window is turned, it leads to the same machine in both orders.
 pub fn hand_order_leads_alike()
     ensures same { HandOrderIsPermutation }
     ensures leads { HandOrderLeads }

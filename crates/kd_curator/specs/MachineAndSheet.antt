@@ -13,7 +13,7 @@ use Rattle.kd_curator.specs.declared.fault.PageFault.TheVariants.{File}
 use Rattle.kd_curator.specs.declared.fault.Refused.{Refused}
 use Rattle.kd_curator.specs.Refusals.{refused_whole}
 
--- The answer is `NoMemory`, which no clause excludes.
+-- The answer is that memory ran out, which may always be.
 abbrev pub LacksMemory : {A : Type 0} → Result A Refused → Type 0
 LacksMemory answer = answer ≡ Err (refused_whole (File NoMemory))
 

@@ -241,11 +241,11 @@ port_with_untaken bytes failed old new left = record {
   has_failed = failed new;
 }
 
--- the port of standard error from the call to the answer, when it had taken `told`
+-- standard error from the start of the call until the answer was known; by then it had taken `told`
 abbrev pub at_first : Port → Option (List ℕ) → Bool → Port
 at_first errors told failed = record errors { has = told; has_failed = failed }
 
--- the port of standard error from the answer, when it had taken `told`, to the end of the call
+-- standard error from then on until the end of the call
 abbrev pub at_last : Port → Option (List ℕ) → Bool → Port
 at_last errors told failed = record errors { had = told; had_failed = failed }
 
@@ -277,13 +277,13 @@ HasMonth (commands.Table sheet form language) = Unit {0}
 HasMonth (commands.Sheet table options) = Unit {0}
 HasMonth (commands.Look names files) = Unit {0}
 
--- The notes on a message of this kind: any for a form, none for an order.
+-- Any notes on a form may have been written to standard error; none on an order.
 abbrev pub TellsOfMessage : MessageKind → Port → Type 0
 TellsOfMessage kinds.Order errors = IsLeftAlone errors
 TellsOfMessage kinds.Form errors = Tells errors
 
--- The notes of a command on standard error, apart from the text of a refusal: any for `sheet`, on unread columns and
--- faults of the table; any for `receive`, on a form; none for other commands.
+-- Apart from a refusal's text, only two commands may have written to standard error: `sheet` on unread columns and
+-- faults of the table, `receive` on a form.
 abbrev pub HasTold : ReadCommand → Port → Type 0
 HasTold (commands.Sheet table options) errors = Tells errors
 HasTold (commands.OnMachine machine sheet task) errors = IsLeftAlone errors

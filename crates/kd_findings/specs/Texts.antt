@@ -2,7 +2,7 @@
 use Rattle.std.specs.Prelude.{codes, ◌≡◌, ◌≢◌, ◌⊎◌, ℕ, ◌++◌, List, [], ◌∷◌, Option, Some, None, decimal, slice_index, EachIndex}
 use Rattle.std.specs.Option.{option_map_or}
 
--- The text is a piece that satisfies `First`, then others that satisfy `Others`.
+-- The text is a piece that satisfies `First`, then a rest that satisfies `Others`.
 pub record BeginsWith (First Others : List ℕ → Type 0) (text : List ℕ) : Type 0 where
   pub piece : List ℕ
   pub others : List ℕ

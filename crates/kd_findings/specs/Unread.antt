@@ -82,7 +82,7 @@ abbrev pub top_keys : Members → List Key
 top_keys document = if is_machine_file document then file_keys (result_ok (model_in document))
     else rotor_file_keys ++ pin_file_keys ++ rotor_day_keys ++ pin_day_keys
 
--- The unread keys of a document. At the top of a key sheet, only `day` is known.
+-- the unread keys of a document. At the top of a key sheet, only `day` is known.
 unfoldable pub unread_keys : Members → List UnreadKey
 unread_keys document = option_map_or
     (λ items. unread_in None None (keys.Day ∷ []) document ++ unread_in_entries items) (entries_of document)
@@ -90,7 +90,7 @@ unread_keys document = option_map_or
 
 -- ---- What inner functions answer. No public contract cites these definitions.
 
--- the view of an unread key that the code found
+-- the unread key that the code found, with its name as a list of bytes
 abbrev pub unread_key : Unread → UnreadKey
 unread_key found = record { entry = found.entry; day = found.day; name = found.name.now }
 

@@ -68,7 +68,7 @@ fn named_elsewhere(keys: &[Key], name: &str) -> Option<Key> {
     None
 }
 
-/// The key of `keys` that `name` is another or a mistyped name of, if there is one.
+/// The key of `keys` with nearly the name `name`; if there is none, the key for which `name` is another name.
 pub fn meant_key(keys: &[Key], name: &str) -> Option<Key> {
     match keys
         .iter()

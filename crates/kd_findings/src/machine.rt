@@ -70,7 +70,7 @@ fn check_model(alloc: Global, table: &Table) -> Result<(), Slip> {
     )
 }
 
-/// The words for which wheels of the box a machine file gives letters.
+/// The words that say for which wheels of the box a machine file has letters.
 fn each_wheel(model: Model) -> &'static str {
     match model {
         Model::EnigmaI => ", one for each of the wheels I to V",

@@ -86,7 +86,7 @@ fn hint(line: &[u8], message: &str) -> &'static str {
     }
 }
 
-/// Words for a file that is an order or a form, otherwise `None`.
+/// The words for a file that is an order or a form; `None` for any other file.
 fn message_words(bytes: &[u8]) -> Option<&'static str> {
     match bytes.strip_prefix(b"PART ")? {
         [b'0'..=b'9', ..] => Some(

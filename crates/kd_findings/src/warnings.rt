@@ -157,8 +157,7 @@ fn push_file_cables(lines: &mut String, name: &str, document: &Table) -> Result<
     }
 }
 
-/// Appends a warning on each cable of a document whose letters the desk writes in the other order, if it is a machine
-/// file.
+/// Appends a warning on each cable whose letters the desk writes in the other order, if the document is a machine file.
 #[tactic(auto, unfolding(crate::specs::Warnings::order_lines))]
 fn push_orders(lines: &mut String, name: &str, document: &Table) -> Result<(), AllocError>
     ensures { OnOk result (string_bytes lines.new

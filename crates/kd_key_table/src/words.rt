@@ -9,7 +9,7 @@ use kd_pictures::template::{draw_letter, draw_letters, draw_ordinal};
 use kd_state::SheetWheel;
 use kd_tables::{Letter, Reading, Sink};
 
-/// A value that has words for a cell. `Kind` says which of its words is written.
+/// A value that a cell shows as a word. `Kind` says as which word.
 pub(crate) trait CellWord<Kind> {
     /// The word.
     ghost text: { Self → List ℕ };

@@ -1,5 +1,5 @@
--- The line of a value: the first line such that the file up to its end is a document with this value. If the array
--- `day` is missing, the line is that of the file's first key.
+-- The line of a value: the first line up to whose end the file is a document with this value. If the array `day` is
+-- missing, it is the line of the file's first key.
 -- Code: the document is parsed up to the end of each line in turn, once for all faults.
 -- Test: tests/cases/curator-look.toml
 use Rattle.std.specs.Prelude.{ℕ, ◌+◌, ◌==◌, ◌||◌, ◌&&◌, nat_lt, Bool, true, false, List, find, length, take, count_by}
@@ -53,7 +53,7 @@ ends_line text index = slice_index text index == 10 || index + 1 == length text
 unfoldable pub has_value_at : List ℕ → Sought → ℕ → Bool
 has_value_at text sought index = ends_line text index && reads_value sought (take (index + 1) text)
 
--- the number of the first line, of those that end before `end`, up to whose end the text has what is looked for
+-- the number of the first line that ends before `end`, and up to whose end the text has what is looked for
 abbrev pub line_before : List ℕ → ℕ → Sought → Option ℕ
 line_before text end sought = option_map (line_at text) (find (has_value_at text sought) (range_with_len 0 end))
 

@@ -54,7 +54,7 @@ impl From<Device> for LookFault {
     }
 }
 
-/// Appends the report on `file`, and notes for which models it is.
+/// Appends the report on `file`, and records which models it is for.
 fn push_report<'f>(
     text: &mut String,
     summaries: &mut Vec<FileSummary<'f>>,
@@ -78,7 +78,7 @@ fn push_report<'f>(
     Ok(outcome)
 }
 
-/// Appends the reports on `files`, and notes for which models each of them is.
+/// Appends the reports on `files`, and records which models each of them is for.
 fn push_reports<'f>(
     text: &mut String,
     summaries: &mut Vec<FileSummary<'f>>,

@@ -14,7 +14,7 @@ pub enum Outcome {
 }
 
 impl Outcome {
-    /// This outcome; if it is `Faultless`, `later`, the outcome of the following files.
+    /// This outcome or, if it is `Faultless`, the outcome `later` of the following files.
     pub fn or(self, later: Outcome) -> Outcome
         ensures { result ≡ or_later self later }
     {

@@ -11,7 +11,7 @@ pub trait NewFiles {
     /// A file that is being written.
     type Written: Sink + Drop;
 
-    /// The files, by their names. `None` if they aren't known, as those of the host.
+    /// The files, by their names. `None` if they aren't known, as on the host.
     ///
     /// A file that is still being written counts as empty.
     ghost held: { Self → Option FilesByName } = { λ _. None };

@@ -77,7 +77,7 @@ lug_text l x lug bar place =
     filled LUG.now (word_text l (lug_word lug) ∷ []) ++ lug_from_text l lug bar
     ++ filled (text_in l LUG_END) (place_text place ∷ setting_line x ∷ [])
 
--- the mark of a pin that is effective, or not; then the word for setting it so
+-- the mark of a pin, effective or not; then the word for the way in which to set it
 abbrev pub pin_mark : Bool → Mark
 pin_mark effective = if effective then Effective else Ineffective
 

@@ -34,8 +34,7 @@ unfoldable pub rotor_text : Page → List ℕ
 rotor_text page =
     wheels_text page ++ rings_step page ++ seats_step page ++ out_step page ++ in_step page ++ windows_step page
 
--- what to compare on a Converter before the first step. The marks are those of the places at which lugs are before the
--- settings: lugs that stay, and lugs that leave.
+-- what to compare on a Converter before the first step: the marks of lugs before the settings, which stay or leave
 unfoldable pub compare_pins : Language → List ℕ
 compare_pins l = filled (text_in l texts.COMPARE_PIN) (mark_text LugStays ∷ mark_text LugLeaves ∷ [])
 

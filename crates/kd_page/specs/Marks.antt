@@ -46,11 +46,10 @@ abbrev pub turns_pin_wheel : ℕ → Setting → Bool
 turns_pin_wheel wheel (settings.Turn other letter) = nat_eq wheel other
 turns_pin_wheel wheel _ = false
 
--- ---- The laws. A page marks a change where a thing isn't the same on machine `m`, before the settings, as on machine
--- `n`, after them.
+-- ---- The laws.
 
--- The list leads from `m` to `n`. A thing that no setting of the list sets is the same before and after. For wheels: a
--- slot has no new wheel that the list doesn't seat there.
+-- A thing that no setting of the list sets is the same on machine `m`, before the list, as on machine `n`, after it, so
+-- that a page marks no change of it. For wheels: a slot has no new wheel that the list doesn't seat there.
 pub record MarksHaveSettings (m n : Parts) (list : List Setting) : Type 0 where
   pub rings : (wheel : Wheel) → list_any (sets_ring wheel) list ≡ false → machine_ring n wheel ≡ machine_ring m wheel
   pub reflector : list_any sets_reflector list ≡ false → machine_reflector n ≡ machine_reflector m

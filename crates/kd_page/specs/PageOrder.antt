@@ -1,4 +1,5 @@
--- The settings whose checkboxes a page has, read from the top, and the order in which these are all its settings.
+-- The settings for which a page has checkboxes, read from its top. If settings are in the order of a page, these are
+-- all of them.
 use Rattle.std.specs.Prelude.{ℕ, ◌<◌, ◌≤◌, List, [], ◌∷◌, ◌++◌, filter, flat_map, ◌≡◌, if◌then◌else◌}
 use Rattle.kd_tables.specs.declared.model.Model.{Model}
 use Rattle.kd_tables.specs.Permutation.{alphabet}

@@ -23,7 +23,7 @@ use Rattle.kd_pictures.specs.Words.{mark_text}
 abbrev pub pin_spot : ℕ → ℕ → Spot
 pin_spot wheel letter = record { step = Pins; row = Some wheel; cell = Some letter }
 
--- whether the pin was as effective before the settings as it is after them
+-- whether the pin was the same before the settings: effective, or ineffective
 abbrev pub is_same_pin : Bool → Option Bool → Bool
 is_same_pin effective was = option_map_or (λ old. if old then effective else not effective) was false
 
@@ -57,7 +57,7 @@ pin_cells page wheel letters =
 abbrev pub pin_lines : ℕ → ℕ → List ℕ
 pin_lines wheel count = if count == 0 then [] else filled texts.PIN_LINES.now (decimal wheel ∷ [])
 
--- the head of a wheel, `count` pins of which change
+-- the head of a wheel with `count` pins that change
 abbrev pub pin_head : Language → ℕ → ℕ → List ℕ
 pin_head l wheel count =
     filled (text_in l texts.PIN_WHEEL) (decimal wheel ∷ count_text l count ∷ []) ++ pin_lines wheel count

@@ -70,7 +70,7 @@ test_title model = if is_converter model then words.PrintTest else words.LampTes
 abbrev pub test_words : Language → Model → List ℕ
 test_words l model = if is_converter model then text_in l texts.TEST_PIN else text_in l texts.TEST_ROTOR
 
--- the step of the test
+-- the step in which the machine is tested
 unfoldable pub test_step : Page → List ℕ
 test_step page =
     let model = model_of page.after in

@@ -80,7 +80,7 @@ pub(crate) fn alphabet() -> [Letter; 26]
     letters
 }
 
-/// Writes the head of a wheel, `count` pins of which change.
+/// Writes the head of a wheel with `count` pins that change.
 fn draw_pin_head<W: Sink>(sink: &mut W, language: Language, wheel: u8, count: u8)
     ensures { Draws W.taken W.has_failed sink.old sink.new (pin_head language wheel count) }
 {

@@ -1,5 +1,5 @@
--- The letters that are pressed for a part, and the letters of the lamps that have to light up. The windows are set
--- before.
+-- What the sheet of a part shows: the windows to set, the letters to press, and the letters of the lamps that have to
+-- light up.
 use Rattle.std.specs.Prelude.{◌≡◌, ℕ, List, ◌++◌, map}
 use Rattle.kd_state.specs.SheetDay.{Day}
 use Rattle.kd_state.specs.EngineKey.{IsWindow}

@@ -69,7 +69,7 @@ row_model options columns row = model_named (text_of options columns row cells.M
 abbrev pub row_cells : Option Model → List Cell
 row_cells model = cells.Day ∷ cells.Model ∷ option_map_or cells_of model []
 
--- whether a table may lack the cell's column, which is so for groups only
+-- whether a table may lack the cell's column: only the column of groups may be missing
 abbrev pub is_optional : Cell → Bool
 is_optional cells.Groups = true
 is_optional cell = false

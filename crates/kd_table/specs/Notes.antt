@@ -115,8 +115,8 @@ pub data TellsCells (options : OptionTexts) (columns : Columns) (head : List (Li
       → TellsCells options columns head place row (cell ∷ rest)
       (flat_map (line_at (cell_place columns head place cell)) words ++ note)
 
--- The notes on a row: first on columns that the table lacks, then on the row's cells, then on the row as a whole. There
--- is at least one on the row or a cell if the row isn't a day, unless the table lacks a column that the row needs.
+-- The notes on a row: first on columns that the table lacks, then on the row's cells, then on the row as a whole. If
+-- the row isn't a day, there is at least one note on the row or a cell, unless a column that the row needs is missing.
 pub record TellsRow (options : OptionTexts) (columns : Columns) (head : List (List ℕ)) (number : ℕ)
     (row : List (List ℕ)) (note : List ℕ) : Type 0 where
   pub missing : List (List ℕ)
@@ -168,8 +168,8 @@ TellsRefused options table notes = (text : List ℕ) × TellsTable options table
 
 -- ---- Reading row by row. No public contract cites these definitions.
 
--- The notes on a row's cells and on the row as a whole were appended. There is at least one if the row isn't a day,
--- unless the table lacks a column that the row needs.
+-- The notes on a row's cells and on the row as a whole were appended: at least one if the row isn't a day, unless a
+-- column that the row needs is missing.
 pub record TellsPlacedRow (options : OptionTexts) (columns : Columns) (head : List (List ℕ)) (place : List ℕ)
     (row : List (List ℕ)) (old new : List ℕ) : Type 0 where
   pub of_cells : List ℕ

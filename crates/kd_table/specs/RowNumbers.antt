@@ -14,8 +14,7 @@ use Rattle.kd_table.specs.declared.quotes.Quoting.TheVariants.{CellStart}
 abbrev pub ends_line : ℕ → Bool
 ends_line byte = byte == 13 || byte == 10
 
--- a place between two bytes of a table: at the start of a row, and whether right after a CR; or within a row, and
--- whether in quotes
+-- a place between two bytes of a table: at the start of a row (the Bool: right after a CR), or within a row
 pub data RowPlace : Type 0 where
   AtStart : Bool → RowPlace
   Within : Quoting → RowPlace

@@ -153,7 +153,7 @@ pub fn known_cells(
     }
 }
 
-/// Whether a table may lack the column of `cell`, which is so for groups only.
+/// Whether a table may lack the column of `cell`: only the column of groups may be missing.
 pub fn is_optional(cell: Cell) -> bool
     ensures { result ≡ is_optional cell }
 {

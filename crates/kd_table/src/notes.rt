@@ -84,7 +84,7 @@ fn push_body_row(
     push_row(note, found, head, number, row)
 }
 
-/// Whether `row` is blank, and so are all rows before it, by `blank`.
+/// Whether `row` is blank, if `blank` says that all rows before it are.
 fn is_still_blank(blank: bool, head: &Head<'_>, row: &ByteRecord) -> bool
     ensures { result ≡ (blank && is_blank_row head.now.columns (fields_of row.now)) }
 {

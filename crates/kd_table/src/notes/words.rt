@@ -25,7 +25,7 @@ pub struct Words {
 }
 
 impl Words {
-    /// No words yet.
+    /// An empty list of lines.
     pub fn new() -> Self {
         Words {
             text: ArrayVec::new(),
