@@ -1,5 +1,6 @@
--- The picture of a plugboard: the lines of the cables, and the sockets. It is drawn twice: before the settings, with
--- the plugs to take out, and after them, with the plugs to put in. Words are in language `l`.
+-- The picture of a plugboard: the lines of the cables, and the sockets. One picture is of the plugboard before the
+-- settings, and marks the plugs to take out. The other is of the plugboard after them, and marks the plugs to put in.
+-- Words are in language `l`.
 use Rattle.std.specs.Prelude.{codes, decimal, ℕ, ◌+◌, ◌-◌, ◌*◌, nat_lt, Bool, false, not, ◌||◌, if◌then◌else◌}
 use Rattle.std.specs.Prelude.{is_some}
 use Rattle.std.specs.Prelude.{List, [], ◌∷◌, ◌++◌, flat_map, Option, Some, None, unwrap_or}
@@ -22,7 +23,7 @@ use Rattle.kd_pictures.specs.Sockets.{keyboard, label_y, line_x, socket_x, socke
 use Rattle.kd_pictures.specs.Template.{filled, letter_text}
 use Rattle.kd_pictures.specs.Words.{class_text, word_text}
 
--- the letters at the two ends of a cable of the machine; both `None` without such a cable
+-- the letters at the two ends of a cable of the machine; both `None` if there is no cable with this number
 abbrev pub cable_of : Parts → ℕ → Option ℕ × Option ℕ
 cable_of m number = unwrap_or (machine_cable m number) (None, None)
 
@@ -50,7 +51,7 @@ is_plugged m number = is_some (cable_of m number).0
 abbrev pub cable_after : List ℕ → Parts → ℕ → List ℕ
 cable_after separator m number = separator ++ cable_words number (cable_of m number)
 
--- the words for all plugged cables, with `separator` before the first and commas before the others
+-- the words for all plugged cables; `separator` stands before the first cable, commas before the others
 abbrev pub cables_after : List ℕ → Parts → List ℕ → List ℕ
 cables_after separator m [] = []
 cables_after separator m (number ∷ numbers) =
@@ -69,12 +70,12 @@ all_cables l m = if has_cables m CABLES then cables_after [] m CABLES else text_
 abbrev pub lane : ℕ → ℕ
 lane number = 139 + 9 * number
 
--- the height at which a line from a socket at height `y` starts to turn into its lane
+-- the height at which a line from a socket at height `y` begins to bend into its lane
 abbrev pub bend : ℕ → ℕ → ℕ
 bend y lane = if nat_lt y lane then lane - 5 else lane + 5
 
--- three pieces of a cable's line: from a socket into the lane; along the lane to a socket; and along the lane to an
--- open end
+-- Three pieces of a cable's line. One leads from a socket into the lane, one along the lane to a socket, and one along
+-- the lane to an open end.
 abbrev pub left_half : Class → ℕ → ℕ → List ℕ
 left_half class lane letter = filled texts.LEFT_HALF.now (
     class_text class ∷ decimal (line_x letter) ∷ decimal (socket_y letter) ∷ decimal (bend (socket_y letter) lane)
@@ -106,7 +107,7 @@ abbrev pub moving_class : Plugs → Class
 moving_class Out = classes.Out
 moving_class In = classes.In
 
--- the class of a cable's line: thick if a plug of the cable isn't there on machine `n`
+-- the class of a cable's line; it is drawn thick if the cable doesn't have all its plugs there on machine `n`
 abbrev pub line_class : Plugs → Parts → ℕ → Option ℕ × Option ℕ → Class
 line_class plugs n number cable =
     if end_moves n number cable.0 || end_moves n number cable.1 then moving_class plugs else classes.Plain
@@ -130,7 +131,7 @@ round_plug template letter number = filled template (
     ∷ decimal (socket_x letter) ∷ decimal (socket_y letter)
     ∷ decimal (socket_x letter) ∷ decimal (socket_y letter + 6) ∷ decimal number ∷ [])
 
--- a plug that moves: a square if it is to take out, a disc if it is to put in
+-- a plug that moves: a square for a plug to take out, a disc for a plug to put in
 abbrev pub moving_plug : Plugs → ℕ → ℕ → List ℕ
 moving_plug Out letter number = filled texts.GOES_OUT.now (
     decimal (socket_x letter) ∷ decimal (label_y letter) ∷ letter_text letter
@@ -143,7 +144,8 @@ free_socket letter = filled texts.FREE.now (
     decimal (socket_x letter) ∷ decimal (label_y letter) ∷ letter_text letter
     ∷ decimal (socket_x letter) ∷ decimal (socket_y letter) ∷ [])
 
--- the socket of a letter: free, or with a cable's plug, which is drawn as moving if it isn't there on machine `n`
+-- The socket of a letter: free, or with a cable's plug. The plug is drawn as moving if the cable has no plug there on
+-- machine `n`.
 abbrev pub socket_holding : Plugs → Parts → ℕ → Option ℕ → List ℕ
 socket_holding plugs n letter None = free_socket letter
 socket_holding plugs n letter (Some number) =
@@ -161,7 +163,7 @@ picture_name In = After
 unfoldable pub board_head : Language → Plugs → List ℕ
 board_head l plugs = filled (text_in l texts.BOARD) (word_text l (picture_name plugs) ∷ [])
 
--- the picture of the plugboard of machine `m`, with the plugs marked that aren't there on machine `n`
+-- The picture of the plugboard of machine `m`. Plugs that machine `n` doesn't have there are marked.
 unfoldable pub board_text : Language → Plugs → Parts → Parts → List ℕ
 board_text l plugs m n =
     board_head l plugs ++ all_cables l m ++ texts.TITLE_END.now

@@ -1,4 +1,4 @@
--- Nothing that a page takes from files has markup.
+-- The values that a page takes from files have no markup.
 use Rattle.std.specs.Prelude.{ℕ, ◌^◌, ◌<◌, ◌==◌, Bool, not, ◌||◌, IsTrue}
 use Rattle.std.specs.List.{list_all}
 use Rattle.kd_state.specs.Line.{IsSettingInRange}
@@ -7,11 +7,11 @@ use Rattle.kd_pictures.specs.declared.template.Value.{Value}
 use Rattle.kd_pictures.specs.declared.template.Value.TheVariants as values
 use Rattle.kd_pictures.specs.Template.{value_text}
 
--- whether the byte isn't `<`, `>` or `&`, which HTML reads as markup
+-- whether the byte is plain text; HTML reads `<`, `>` and `&` as markup
 abbrev pub is_plain : ℕ → Bool
 is_plain byte = not (byte == 60 || (byte == 62 || byte == 38))
 
--- A value in its range: a number fits 64 bits, a letter is below 26, and the numbers of a setting are in range.
+-- A value in its range. A number fits 64 bits, a letter is below 26, and the numbers of a setting are in range.
 abbrev pub IsValueInRange : Value → Type 0
 IsValueInRange (values.Number number) = number < 2 ^ 64
 IsValueInRange (values.Letter letter) = letter < 26

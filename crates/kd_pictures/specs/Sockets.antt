@@ -15,11 +15,12 @@ middle_row = letters_of (codes "ASDFGHJK")
 abbrev pub lower_row : List ℕ
 lower_row = letters_of (codes "PYXCVBNML")
 
--- all letters, row by row from the top, in each row from the left
+-- all letters: row by row from the top, and from the left in each row
 abbrev pub keyboard : List ℕ
 keyboard = upper_row ++ middle_row ++ lower_row
 
--- the row of a letter's socket, counted from 0 at the top; then its place in the row, counted from 0 at the left
+-- the row of a letter's socket, counted from 0 at the top; then the socket's place in the row, counted from 0 at the
+-- left
 unfoldable pub socket_row : ℕ → ℕ
 socket_row letter = if has_letter upper_row letter then 0 else if has_letter middle_row letter then 1 else 2
 
@@ -28,7 +29,7 @@ socket_place letter =
     position_or_len (nat_eq letter)
     (if has_letter upper_row letter then upper_row else if has_letter middle_row letter then middle_row else lower_row)
 
--- how far a letter's socket is from the left; then how far it is from the top
+-- how far a letter's socket is from the left; then, how far it is from the top
 abbrev pub socket_x : ℕ → ℕ
 socket_x letter = (if socket_row letter == 1 then 70 else 40) + 60 * socket_place letter
 
@@ -39,11 +40,11 @@ socket_y letter = if socket_row letter == 0 then 46 else if socket_row letter ==
 abbrev pub label_y : ℕ → ℕ
 label_y letter = if socket_row letter == 0 then 24 else if socket_row letter == 1 then 94 else 323
 
--- how far from the left a cable's line leaves a letter's socket; any two letters differ by at least 10
+-- how far from the left a cable's line leaves a letter's socket
 abbrev pub line_x : ℕ → ℕ
 line_x letter = if socket_row letter == 2 then socket_x letter + 10 else socket_x letter
 
--- whether the lines from two letters' sockets are at least 10 apart
+-- whether the lines from the sockets of two letters are at least 10 apart
 abbrev pub are_apart : ℕ → ℕ → Bool
 are_apart one other = nat_le (line_x one + 10) (line_x other) || nat_le (line_x other + 10) (line_x one)
 

@@ -44,7 +44,7 @@ value_text l (values.Mark mark) = mark_text mark
 abbrev pub is_gap : ℕ → Bool
 is_gap byte = byte == 126
 
--- the template, with its signs `~` replaced by the values, in their order
+-- the template, with its signs `~` replaced by the values, in order
 unfoldable pub filled : List ℕ → List (List ℕ) → List ℕ
 filled template [] = template
 filled template (value ∷ values) =

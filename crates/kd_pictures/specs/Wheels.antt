@@ -1,5 +1,5 @@
--- The picture of a rotor machine's wheels: a band for the machine before the settings, and one for the machine after
--- them. Words are in language `l`.
+-- The picture of a rotor machine's wheels. It has a band for the machine before the settings, and a band for the
+-- machine after them. Words are in language `l`.
 use Rattle.std.specs.Prelude.{decimal, ℕ, ◌+◌, ◌*◌, nat_eq, Bool, false, if◌then◌else◌, List, [], ◌∷◌, ◌++◌, flat_map}
 use Rattle.std.specs.Prelude.{Option, Some, None}
 use Rattle.std.specs.Option.{option_map_or}
@@ -29,19 +29,20 @@ abbrev pub reflector_words : Language → Option Reflector → List ℕ
 reflector_words l None = []
 reflector_words l (Some reflector) = filled (text_in l texts.REFLECTOR_WORDS) (reflector_text reflector ∷ [])
 
--- the words of a template with a letter; nothing without a letter
+-- the template filled with the letter; empty if there is no letter
 abbrev pub letter_words : List ℕ → Option ℕ → List ℕ
 letter_words template None = []
 letter_words template (Some letter) = filled template (letter_text letter ∷ [])
 
--- the words for a wheel in a slot, for its ring, and for its window letter
+-- the words for a wheel, with its slot, its ring and its window letter
 abbrev pub wheel_words : Language → Parts → ℕ → Wheel → List ℕ
 wheel_words l m slot wheel =
     filled (text_in l texts.WHEEL_WORDS) (decimal slot ∷ wheel_text wheel ∷ [])
     ++ letter_words (text_in l texts.RING_WORDS) (machine_ring m wheel)
     ++ letter_words (text_in l texts.WINDOW_WORDS) (machine_letter m wheel)
 
--- the words for a slot: empty, or a wheel with its ring and its window letter; nothing if the machine lacks the slot
+-- The words for a slot: it is empty, or has a wheel, with its ring and its window letter. Nothing if the machine lacks
+-- the slot.
 abbrev pub slot_words : Language → Parts → ℕ → Option (Option Wheel) → List ℕ
 slot_words l m slot None = []
 slot_words l m slot (Some None) = filled (text_in l texts.EMPTY_WORDS) (decimal slot ∷ [])

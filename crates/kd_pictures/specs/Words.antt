@@ -1,4 +1,4 @@
--- Words and marks that are filled into templates, such as names of models, titles of steps, and names of slots.
+-- Words and marks that are filled into templates, for example names of models and slots, and titles of steps.
 use Rattle.std.specs.Prelude.{ℕ, Bool, true, false, List, [], ◌∷◌}
 use Rattle.kd_tables.specs.declared.model.Model.{Model}
 use Rattle.kd_tables.specs.declared.model.Model.TheVariants.{EnigmaI, M3, M4, M209}

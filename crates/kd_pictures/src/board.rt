@@ -22,15 +22,15 @@ use crate::words::{Class, Word};
 use kd_state::{Cable, Machine, lies_in};
 use kd_tables::{Letter, Sink};
 
-/// Which plugs a plugboard marks: `Out` on the machine before, the plugs to take out; `In` on the machine after, those
-/// to put in.
+/// Which plugs a plugboard marks. `Out` marks the plugs to take out, on the machine before. `In` marks the plugs to put
+/// in, on the machine after.
 #[derive(Clone, Copy)]
 pub enum Plugs {
     Out,
     In,
 }
 
-/// Writes the plugboard of `machine`, with the plugs marked that `other` doesn't have there.
+/// Writes the plugboard of `machine`. Plugs that `other` doesn't have there are marked.
 pub fn draw_board<W: Sink>(
     sink: &mut W,
     language: Language,
@@ -77,7 +77,7 @@ pub fn draw_all_cables<W: Sink>(sink: &mut W, language: Language, machine: &Mach
     }
 }
 
-/// Whether one of the cables has a plug.
+/// Whether one of the cables in `numbers` has a plug.
 pub fn has_cables(machine: &Machine, numbers: &[u8]) -> bool
     ensures { result ≡ has_cables machine.now numbers.now }
 {
@@ -96,7 +96,7 @@ fn is_plugged(machine: &Machine, number: u8) -> bool
     one.is_some()
 }
 
-/// Writes the plugged cables in words, with `separator` before the first and commas before the others.
+/// Writes the plugged cables in words. `separator` stands before the first cable, commas before the others.
 fn draw_cables_after<W: Sink>(
     sink: &mut W,
     language: Language,
@@ -195,7 +195,7 @@ fn draw_line<W: Sink>(
     draw_cable_line(sink, language, class, lane, cable_of(machine, number));
 }
 
-/// The class of a cable's line: thick if a plug of the cable isn't there on `other`.
+/// The class of a cable's line. It is drawn thick if the cable doesn't have all its plugs there on `other`.
 fn line_class(plugs: Plugs, other: &Machine, number: u8, cable: Cable) -> Class
     ensures { result ≡ line_class plugs other.now number cable }
 {
@@ -327,7 +327,7 @@ fn draw_open_end<W: Sink>(sink: &mut W, language: Language, letter: Letter)
     );
 }
 
-/// The height at which a line from a socket at height `y` starts to turn into its lane.
+/// The height at which a line from a socket at height `y` begins to bend into its lane.
 fn bend(y: u16, lane: u16) -> u16
     requires low { 100 ≤ lane }
     requires high { lane < 10000 }
@@ -336,7 +336,7 @@ fn bend(y: u16, lane: u16) -> u16
     if y < lane { lane - 5 } else { lane + 5 }
 }
 
-/// Writes the sockets of letters; the numbers are their places in the alphabet.
+/// Writes the sockets of `letters`, which are numbered from 0 for A.
 fn draw_sockets<W: Sink>(
     sink: &mut W,
     language: Language,
@@ -403,7 +403,7 @@ fn draw_free<W: Sink>(sink: &mut W, language: Language, letter: Letter)
     );
 }
 
-/// Writes a plug that moves: a square if it is to take out, a disc if it is to put in.
+/// Writes a plug that moves: a square for a plug to take out, a disc for a plug to put in.
 fn draw_moving<W: Sink>(sink: &mut W, language: Language, plugs: Plugs, letter: Letter, number: u8)
     ensures { Draws W.taken W.has_failed sink.old sink.new (moving_plug plugs letter number) }
 {

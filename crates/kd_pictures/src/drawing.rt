@@ -1,4 +1,4 @@
-//! Writes text to a sink, unless the sink has failed.
+//! Writes texts to a sink, unless the sink has failed.
 ghost use Rattle.kd_pictures.specs.Drawing.{Draws};
 ghost use Rattle.kd_pictures.specs.Language.{in_language};
 

@@ -1,4 +1,4 @@
-//! Laws of the values in templates, of the lines of cables, and of the numbers of a machine's parts.
+//! Laws about the values in templates, the lines of cables, and the numbers of cables, slots, wheels and bars.
 ghost use Rattle.std.specs.Prelude.{◌≡◌};
 ghost use Rattle.std.specs.List.{range_with_len};
 ghost use Rattle.kd_pictures.specs.declared.numbers.TheConstants.{BARS, CABLES, LATER_WHEELS, PIN_WHEELS, SLOTS};
@@ -6,20 +6,21 @@ ghost use Rattle.kd_pictures.specs.Sockets.{LinesAreApart};
 ghost use Rattle.kd_pictures.specs.Checked.{TemplatesTakeTheirValues, WordsTellWhatToDo};
 ghost use Rattle.kd_pictures.specs.Plain.{ValuesArePlain};
 
-/// Nothing that a page takes from files has markup: no letter or number, and no name of a model, wheel or reflector.
+/// The values that a page takes from files have no markup: no letter, no number, and no name of a model, wheel or
+/// reflector.
 #[tactic(auto, using(crate::proofs::PlainValues::values_are_plain))]
 pub fn values_are_plain()
     ensures { ValuesArePlain }
 {}
 
-/// Each template takes the values that pages fill into it, and the words that say what to do have the right meanings,
-/// in both languages.
+/// In both languages, each template takes the values that pages fill into it. The words that say what to do have the
+/// right meanings.
 pub fn languages_say_the_same()
     ensures templates { TemplatesTakeTheirValues }
     ensures words { WordsTellWhatToDo }
 {}
 
-/// The lines from the sockets of two letters never lie on each other: they are at least 10 apart.
+/// The lines from the sockets of two letters never lie on each other. They are at least 10 apart.
 #[tactic(auto, using(crate::proofs::LinesApart::lines_are_apart))]
 pub fn lines_are_apart()
     ensures { LinesAreApart }

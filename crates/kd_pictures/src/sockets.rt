@@ -4,7 +4,7 @@ ghost use Rattle.kd_pictures.specs.Sockets.{label_y, line_x, socket_row, socket_
 
 use kd_tables::Letter;
 
-/// The letters in the order of the sockets: row by row from the top, in each row from the left.
+/// The letters in the order of the sockets: row by row from the top, and from the left in each row.
 pub static KEYBOARD: [u8; 26] = [
     16, 22, 4, 17, 19, 25, 20, 8, 14, 0, 18, 3, 5, 6, 7, 9, 10, 15, 24, 23, 2, 21, 1, 13, 12, 11,
 ];

@@ -33,7 +33,7 @@ pub enum Value {
     Mark(Mark),
 }
 
-/// Writes `template` with its signs `~` replaced by the values, in their order. Words are in `language`.
+/// Writes `template`, with its signs `~` replaced by the values, in order. Words are in `language`.
 pub fn fill<W: Sink>(sink: &mut W, language: Language, template: &str, values: &[Value])
     ensures { Draws W.taken W.has_failed sink.old sink.new
         (filled template.now (map (value_text language) values.now)) }
@@ -48,7 +48,7 @@ pub fn fill<W: Sink>(sink: &mut W, language: Language, template: &str, values: &
     }
 }
 
-/// Writes `text` in `language`, with its signs `~` replaced by the values, in their order.
+/// Writes `text` in `language`, with its signs `~` replaced by the values, in order.
 pub fn fill_in<W: Sink>(sink: &mut W, language: Language, text: Text, values: &[Value])
     ensures { Draws W.taken W.has_failed sink.old sink.new
         (filled (in_language language text.entry.0.now text.entry.1.now)
@@ -57,7 +57,8 @@ pub fn fill_in<W: Sink>(sink: &mut W, language: Language, text: Text, values: &[
     fill(sink, language, language.text(text), values);
 }
 
-/// The parts of `template` before and after its first sign `~`; without a sign, `template` and an empty text.
+/// The text of `template` before its first sign `~`, and the text after it. Without a sign, `template` and an empty
+/// text.
 #[tactic(auto, using(std::proofs::lemmas::Str::Pattern::split_once_first))]
 fn cut(template: &str) -> (&str, &str)
     ensures before { result.0.now ≡ before_first is_gap template.now }

@@ -1,4 +1,4 @@
-//! The fixed texts of a page; those with words are in English and in German. In a template, each sign `~` stands for a
+//! The fixed texts of a page. Texts with words are in English and in German. In a template, each sign `~` stands for a
 //! value.
 
 /// A text in English and in German.
@@ -7,7 +7,7 @@ pub type Text = (&'static str, &'static str);
 /// The code of the language, which stands in the file's head.
 pub const LANGUAGE: Text = ("en", "de");
 
-/// The head of the file, up to its title; the style sheet, which follows the title; and the foot of the file.
+/// The head of the file, up to its title. Then the style sheet, which follows the title.
 pub const HEAD: &str =
     "<!DOCTYPE html>\n<html lang=~>\n<meta charset=utf-8>\n<meta name=viewport content=\"width=device-width,initial-scale=1\">\n<title>";
 
@@ -201,18 +201,19 @@ section>label{padding-left:1.6em;text-indent:-1.6em}
 @page sheet{size:landscape;margin:10mm 12mm}
 ";
 
-/// The end of the style sheet, and the beginning of the page's body.
+/// The end of the style sheet, and the beginning of the page's body. Then the foot of the file.
 pub const BODY: &str = "</style>\n<body>\n<main>\n";
 
 pub const FOOT: &str = "</main>\n";
 
-/// The title of a file with one day: the model and the day; with several days: the model, the first day and the last.
+/// The title of a file with one day, then of a file with several. The values are the model and the day, or the model,
+/// the first day and the last.
 pub const TITLE_DAY: Text = ("~, day ~", "~, Tag ~");
 
 pub const TITLE_DAYS: Text = ("~, days ~ to ~", "~, Tage ~ bis ~");
 
-/// The list of the days in a file with several days. The values of an item are the day, twice, and its number of
-/// settings.
+/// The list of the days in a file with several days. The values of an item are the day, the day again, and its number
+/// of settings.
 pub const NAV: Text = (
     "<nav class=days aria-label=\"Days\">\n<ul>\n",
     "<nav class=days aria-label=\"Tage\">\n<ul>\n",
@@ -232,8 +233,8 @@ pub const ONE_SETTING: Text = ("1 setting", "1 Handgriff");
 
 pub const SETTINGS: Text = (" settings", " Handgriffe");
 
-/// The head of a day. The values are the day, the model, the day again, and the number of settings. On a Converter, the
-/// words for what to compare first follow.
+/// The head of a day. The values are the day, the model, the day again, and the number of settings. Then the words that
+/// say what to compare first on a Converter.
 pub const DAY: Text = (
     "<article id=day-~>\n<header>\n<h1>~, day ~ <small>~</small></h1>\n<p class=fields><span>Machine</span><span>Date</span><span>Done by</span></p>\n<p>",
     "<article id=day-~>\n<header>\n<h1>~, Tag ~ <small>~</small></h1>\n<p class=fields><span>Maschine</span><span>Datum</span><span>Ausgeführt von</span></p>\n<p>",
@@ -247,7 +248,7 @@ pub const COMPARE_PIN: Text = (
 pub const DAY_END: &str = "</article>\n";
 
 /// The head of a step. The values are its title, its number of settings, the model, and the day. Then the head of a
-/// step with nothing to do, and one without a number of settings.
+/// step with nothing to do, and the head of a step without a number of settings.
 pub const STEP: Text = (
     "<section>\n<h2>~ <small>~</small><span>~, day ~</span></h2>\n",
     "<section>\n<h2>~ <small>~</small><span>~, Tag ~</span></h2>\n",
@@ -270,7 +271,7 @@ pub const LIST: &str = "<ul>\n";
 
 pub const LIST_END: &str = "</ul>\n</section>\n";
 
-/// The parts that go into the box before others are put in.
+/// The wheels and the reflector that go into the box before others are put in.
 pub const BOXED: Text = (
     "<p>Take out, into the box:",
     "<p>Herausnehmen, in den Kasten:",
@@ -282,14 +283,14 @@ pub const BOXED_REFLECTOR: Text = (" reflector <b>~</b>", " Umkehrwalze <b>~</b>
 
 pub const BOXED_END: &str = "</p>\n";
 
-/// A checkbox for a ring. The values are the wheel, the letter, its number, and the setting's line.
+/// A checkbox for a ring. The values are the wheel, the letter, the letter's number, and the setting's line.
 pub const RING: Text = (
     "<li><label><input type=checkbox> wheel <b>~</b>: set the ring to <b>~\u{a0}~</b> <code>~</code></label>\n",
     "<li><label><input type=checkbox> Walze <b>~</b>: Ring auf <b>~\u{a0}~</b> stellen <code>~</code></label>\n",
 );
 
-/// A checkbox to put in a spare wheel, in pieces: the slot, its name, and the wheel; the letter on which its ring has
-/// to stand; and the setting's line.
+/// A checkbox to put in a wheel from the box, in pieces. The first has the slot, its name, and the wheel. The second
+/// has the letter on which the wheel's ring has to stand, the third the setting's line.
 pub const SEAT: Text = (
     "<li><label><input type=checkbox> slot ~, ~: put in wheel <b>~</b>, from the box",
     "<li><label><input type=checkbox> Platz ~, ~: Walze <b>~</b> einsetzen, aus dem Kasten",
@@ -314,16 +315,16 @@ pub const REFLECTOR: Text = (
 
 pub const PLUG: &str = "<td><label><input type=checkbox> <b>~</b> <code>~</code></label>";
 
-/// A checkbox for a pin: its letter, its mark, and which way to set it. The beginning of its settings line stands once,
-/// in the head of the wheel.
+/// A checkbox for a pin: its letter, its mark, and which way to set it. The beginning of the settings line stands only
+/// once, in the head of the wheel.
 pub const PIN: &str = "<label><input type=checkbox><b>~</b><br>~<small>~</small></label>";
 
 pub const ON: Text = ("ON", "EIN");
 
 pub const OFF: Text = ("OFF", "AUS");
 
-/// A checkbox for a lug, in pieces: which of the bar's two lugs it is; its place before; its new place, and the
-/// setting's line.
+/// A checkbox for a lug, in pieces. The first says which of the bar's two lugs it is, and the next its old place. The
+/// last has its new place, and the setting's line.
 pub const LUG: &str = "<td><label><input type=checkbox> ~";
 
 pub const LEFT_LUG: Text = ("left lug", "linker");
@@ -337,7 +338,7 @@ pub const LUG_END: Text = (
     " auf <b>~</b> <code>~</code></label>",
 );
 
-/// The settings line of a turn, within the checkbox of the window.
+/// The settings line for turning a wheel, within the checkbox of the window.
 pub const TURN: &str = " <code>~</code>";
 
 /// The windows of a rotor machine, each with a checkbox.
@@ -365,7 +366,8 @@ pub const LETTER_BOX_END: &str = "</label>";
 
 pub const LETTERS_END: &str = "\n</table>\n</section>\n";
 
-/// The picture of the wheels before and after the settings, with a title in words; or only after, if nothing changes.
+/// The picture of the wheels, before and after the settings, with a title in words. If nothing changes, it shows only
+/// the wheels after.
 pub const WHEELS: Text = (
     "First compare the machine with <i>before</i>; only windows may differ. Thick frames: to set.</p>\n</header>\n<figure class=wheels><svg role=\"img\" viewBox=\"0 0 600 314\"><title>The wheels, from the left. Before: ",
     "Zuerst die Maschine mit <i>vorher</i> vergleichen; nur die Fenster dürfen abweichen. Dick Umrahmtes ist einzustellen.</p>\n</header>\n<figure class=wheels><svg role=\"img\" viewBox=\"0 0 600 314\"><title>Die Walzen, von links. Vorher: ",
@@ -393,7 +395,7 @@ pub const RING_WORDS: Text = (", ring ~", ", Ring ~");
 
 pub const WINDOW_WORDS: Text = (", window ~", ", Fenster ~");
 
-/// A band of the picture: its name and its labels; then a reflector, old or new.
+/// A band of the picture: its name and its labels. Then a reflector, old or new.
 pub const BAND: Text = (
     "<text class=\"label bold\" x=\"2\" y=\"~\" font-size=\"20\">~</text>\n<text class=\"label\" x=\"2\" y=\"~\" font-size=\"18\">wheel</text>\n<text class=\"label\" x=\"2\" y=\"~\" font-size=\"18\">ring</text>\n<text class=\"label\" x=\"2\" y=\"~\" font-size=\"18\">window</text>\n<text x=\"134\" y=\"~\" font-size=\"18\">reflector</text>\n",
     "<text class=\"label bold\" x=\"2\" y=\"~\" font-size=\"20\">~</text>\n<text class=\"label\" x=\"2\" y=\"~\" font-size=\"18\">Walze</text>\n<text class=\"label\" x=\"2\" y=\"~\" font-size=\"18\">Ring</text>\n<text class=\"label\" x=\"2\" y=\"~\" font-size=\"18\">Fenster</text>\n<text x=\"134\" y=\"~\" font-size=\"18\">UKW</text>\n",
@@ -405,7 +407,7 @@ pub const REFLECTOR_SHOWN: &str =
 pub const NEW_REFLECTOR: &str =
     "<rect class=\"set\" x=\"96\" y=\"~\" width=\"76\" height=\"122\"/>\n<text class=\"bold\" x=\"134\" y=\"~\" font-size=\"20\">~</text>\n";
 
-/// A slot, empty or with a wheel; a ring; a window. The wheel, ring and window are old or new.
+/// A slot: empty, or with a wheel. Then a ring, and a window. The wheel, the ring and the window are old or new.
 pub const EMPTY: Text = (
     "<text x=\"~\" y=\"~\" font-size=\"18\">slot ~</text>\n<rect x=\"~\" y=\"~\" width=\"96\" height=\"122\"/>\n<text x=\"~\" y=\"~\" font-size=\"20\">empty</text>\n",
     "<text x=\"~\" y=\"~\" font-size=\"18\">Platz ~</text>\n<rect x=\"~\" y=\"~\" width=\"96\" height=\"122\"/>\n<text x=\"~\" y=\"~\" font-size=\"20\">leer</text>\n",
@@ -446,8 +448,8 @@ pub const NO_CABLES: Text = ("none", "keine");
 
 pub const BOARD_END: &str = "</svg>\n<figcaption>";
 
-/// The line of a cable, in pieces: from a socket into its lane; along the lane to a socket; and along the lane to an
-/// open end.
+/// The line of a cable, in pieces. One leads from a socket into the lane, one along the lane to a socket, and one along
+/// the lane to an open end.
 pub const LEFT_HALF: &str = "<path~ d=\"M~ ~V~Q~ ~ ~ ~";
 
 pub const RIGHT_HALF: &str = "H~Q~ ~ ~ ~V~\"/>\n";
@@ -467,7 +469,7 @@ pub const GOES_OUT: &str =
 pub const GOES_IN: &str =
     "<text class=\"bold\" x=\"~\" y=\"~\" font-size=\"22\">~</text>\n<circle class=\"in\" cx=\"~\" cy=\"~\" r=\"15\"/>\n<text class=\"on\" x=\"~\" y=\"~\" font-size=\"17\">~</text>\n";
 
-/// The meaning of a plugboard's marks, then the table of the plugs to move, with a row for each cable.
+/// The meaning of a plugboard's marks. Then the table of the plugs to move, with a row for each cable.
 pub const CAPTION_SAME: Text = (
     "After. Circle: stays. Number: the cable’s.</figcaption></figure>\n",
     "Nachher. Kreis: bleibt. Zahl: Nummer der Schnur.</figcaption></figure>\n",
@@ -491,8 +493,8 @@ pub const PLUGS_END: &str = "</table>\n";
 
 pub const BOARD_STEP_END: &str = "</div>\n</section>\n";
 
-/// The table of the pins. It has the head of a wheel, with the beginning of its settings lines; and the cells of pins,
-/// which may change.
+/// The table of the pins. It has the head of a wheel, with the beginning of the wheel's settings lines. Then the cells
+/// of pins: a cell may have a pin to change.
 pub const PINS: Text = (
     "<table class=pins>\n<caption>Pins after: ~ effective, ~ not. Framed pins are to change: ON makes a pin effective, OFF not.</caption>\n",
     "<table class=pins>\n<caption>Stifte nachher: ~ wirksam, ~ unwirksam. Umrahmte Stifte umstellen: EIN macht wirksam, AUS unwirksam.</caption>\n",
@@ -517,8 +519,8 @@ pub const PIN_SHOWN: &str = "~<br>~";
 
 pub const PINS_END: &str = "</table>\n</section>\n";
 
-/// The table of the bars. It has the head of a bar, which may change; the cells of a place; and the rest of the cells
-/// for checkboxes.
+/// The table of the bars. It has the head of a bar, and the cells of its places. Then the rest of the cells for
+/// checkboxes. A bar may have lugs to move.
 pub const DRUM: Text = (
     "<table class=drum>\n<caption>~ a lug stays here, ~ a lug leaves, ~ a lug comes. Move the lugs of a bar in the order shown.</caption>\n<thead>\n<tr><th scope=col>Bar<th scope=col>1<th scope=col>0L<th scope=col>2<th scope=col>3<th scope=col>4<th scope=col>5<th scope=col>0R<th scope=col>6<th scope=col colspan=2>Lugs to move\n<tbody>\n",
     "<table class=drum>\n<caption>~ Reiter bleibt, ~ Reiter geht, ~ Reiter kommt. Die Reiter einer Stange in der gezeigten Reihenfolge versetzen.</caption>\n<thead>\n<tr><th scope=col>Stange<th scope=col>1<th scope=col>0L<th scope=col>2<th scope=col>3<th scope=col>4<th scope=col>5<th scope=col>0R<th scope=col>6<th scope=col colspan=2>Reiter versetzen\n<tbody>\n",
@@ -620,7 +622,8 @@ pub const MIDDLE: Text = ("middle", "Mitte");
 
 pub const RIGHT: Text = ("right", "rechts");
 
-/// The names of the two pictures, and the classes of cables that move, or don't.
+/// The names of the two pictures. Then the classes of cables: with a plug to take out, with a plug to put in, or with
+/// neither.
 pub const BEFORE: Text = ("before", "vorher");
 
 pub const AFTER: Text = ("after", "nachher");

@@ -1,4 +1,4 @@
-//! The picture of a rotor machine's wheels before and after.
+//! The picture of a rotor machine's wheels, before and after the settings.
 ghost use Rattle.std.specs.Prelude.{◌≡◌, ◌+◌, ◌*◌, ◌<◌, ◌++◌, flat_map};
 ghost use Rattle.kd_state.specs.Machine.{machine_slot};
 ghost use Rattle.kd_pictures.specs.Drawing.{Draws};
@@ -23,7 +23,7 @@ use crate::words::Word;
 use kd_state::Machine;
 use kd_tables::{Letter, Reflector, Sink, Wheel};
 
-/// Writes the picture of the machine before, and below it that of the machine after, with the differences marked.
+/// Writes the picture of the machine `before`, and below it the picture of `after`, with the differences marked.
 pub fn draw_both<W: Sink>(sink: &mut W, language: Language, before: &Machine, after: &Machine)
     ensures { Draws W.taken W.has_failed sink.old sink.new (both_bands language before.now after.now) }
 {
@@ -37,7 +37,7 @@ pub fn draw_both<W: Sink>(sink: &mut W, language: Language, before: &Machine, af
     draw(sink, WHEELS_END);
 }
 
-/// Writes the picture of one machine, if nothing changes.
+/// Writes the picture of the machine `after` alone, for when nothing changes.
 pub fn draw_one<W: Sink>(sink: &mut W, language: Language, after: &Machine)
     ensures { Draws W.taken W.has_failed sink.old sink.new (one_band language after.now) }
 {
@@ -102,7 +102,7 @@ fn draw_slot_words<W: Sink>(
     }
 }
 
-/// Writes a wheel in a slot, its ring and its window letter, in words.
+/// Writes in words a wheel in a slot, with its ring and its window letter.
 fn draw_wheel_words<W: Sink>(
     sink: &mut W,
     language: Language,
@@ -137,7 +137,7 @@ fn draw_letter_words<W: Sink>(
     }
 }
 
-/// Writes the band of `machine` at height `y`, with the differences from `other` marked.
+/// Writes the band of `machine` at height `y`, with its differences from `other` marked.
 fn draw_band<W: Sink>(
     sink: &mut W,
     language: Language,
@@ -266,7 +266,7 @@ fn draw_empty<W: Sink>(sink: &mut W, language: Language, x: u16, y: u16, slot: u
     );
 }
 
-/// Writes a wheel in a slot, its ring and its window.
+/// Writes a wheel in a slot, with its ring and its window.
 fn draw_seated<W: Sink>(
     sink: &mut W,
     language: Language,

@@ -6,7 +6,7 @@ use crate::language::Language;
 use crate::texts;
 use kd_tables::Model;
 
-/// A fixed word: the language's code; the name of a step, a slot, a picture or a lug; or which way a pin is set.
+/// A fixed word. It is the language's code, the name of a step, a slot, a picture or a lug, or which way a pin is set.
 #[derive(Clone, Copy)]
 pub enum Word {
     Language,
@@ -64,7 +64,7 @@ impl Word {
     }
 }
 
-/// The class of a cable's line: whether it has a plug to take out, a plug to put in, or neither.
+/// The class of a cable's line. The cable has a plug to take out, a plug to put in, or neither.
 #[derive(Clone, Copy)]
 pub enum Class {
     Plain,
