@@ -1,4 +1,4 @@
--- The checkboxes: each has the words for one setting and, except for pins, the setting's line. The box of a machine has
+-- The checkboxes. Each has the words for one setting and, except for pins, the setting's line. The box of a machine has
 -- its spare wheels and reflectors.
 use Rattle.std.specs.Prelude.{decimal, ℕ, ◌-◌, ◌==◌, Bool, if◌then◌else◌, List, [], ◌∷◌, ◌++◌, flat_map}
 use Rattle.std.specs.Prelude.{Option, Some, None}
@@ -30,7 +30,7 @@ use Rattle.kd_pictures.specs.Template.{filled, letter_text, ordinal_text}
 use Rattle.kd_pictures.specs.Wheels.{is_seated}
 use Rattle.kd_pictures.specs.Words.{mark_text, word_text}
 
--- the name of a slot, counted from the right: right, middle, left, Greek
+-- the name of a slot; from the right, slots are called right, middle, left and Greek
 abbrev pub slot_name : Model → ℕ → Word
 slot_name model slot =
     let after = slots_of model - slot in
@@ -41,7 +41,7 @@ abbrev pub slot_holding : Parts → Wheel → List ℕ → Option ℕ
 slot_holding m wheel [] = None
 slot_holding m wheel (slot ∷ slots) = if is_seated m slot wheel then Some slot else slot_holding m wheel slots
 
--- the words for the letter on which the ring of a spare wheel has to stand; none without a letter
+-- The words for the letter on which the ring of a spare wheel has to stand. Empty if there is no letter.
 abbrev pub box_ring_text : Language → Option ℕ → List ℕ
 box_ring_text l None = []
 box_ring_text l (Some ring) = filled (text_in l BOX_RING) (letter_text ring ∷ ordinal_text ring ∷ [])
@@ -53,7 +53,7 @@ from_box_text page x slot wheel =
     decimal slot ∷ word_text page.language (slot_name (model_of page.after) slot) ∷ wheel_text wheel ∷ [])
     ++ box_ring_text page.language (machine_ring page.after wheel) ++ filled SEAT_END.now (setting_line x ∷ [])
 
--- the checkbox to put a wheel into a slot, with the slot in which it was before, if any
+-- The checkbox to put a wheel into a slot. It says in which slot the wheel was before, if it was in one.
 abbrev pub seat_text : Page → Setting → ℕ → Wheel → Option ℕ → List ℕ
 seat_text page x slot wheel None = from_box_text page x slot wheel
 seat_text page x slot wheel (Some old) = filled (text_in page.language SEAT_FROM) (
@@ -65,19 +65,19 @@ abbrev pub lug_word : Lug → Word
 lug_word lugs.Left = LeftLug
 lug_word lugs.Right = RightLug
 
--- the words for the place of a lug before the settings; none if the machine has no bar with this number
+-- The words for the place of a lug before the settings. Empty if the machine has no bar with this number.
 abbrev pub lug_from_text : Language → Lug → Option (Place × Place) → List ℕ
 lug_from_text l lug None = []
 lug_from_text l lugs.Left (Some bar) = filled (text_in l LUG_FROM) (place_text bar.0 ∷ [])
 lug_from_text l lugs.Right (Some bar) = filled (text_in l LUG_FROM) (place_text bar.1 ∷ [])
 
--- the checkbox to move a lug to a place of its bar, with its place before
+-- the checkbox to move a lug to a place of its bar; it also says from which place
 abbrev pub lug_text : Language → Setting → Lug → Option (Place × Place) → Place → List ℕ
 lug_text l x lug bar place =
     filled LUG.now (word_text l (lug_word lug) ∷ []) ++ lug_from_text l lug bar
     ++ filled (text_in l LUG_END) (place_text place ∷ setting_line x ∷ [])
 
--- the mark of a pin, effective or not; then the word for the way in which to set it
+-- the mark of a pin: effective, or not; then the word for which way to set it
 abbrev pub pin_mark : Bool → Mark
 pin_mark effective = if effective then Effective else Ineffective
 
@@ -105,6 +105,6 @@ box_text page (settings.LugTo bar lug place) =
 abbrev pub box_at : Page → Spot → Setting → List ℕ
 box_at page spot x = if is_at spot x then box_text page x else []
 
--- the checkboxes at a spot of the page, in the order of its settings
+-- the checkboxes at a spot of the page, in the order of the page's settings
 abbrev pub boxes_at : Page → Spot → List ℕ
 boxes_at page spot = flat_map (box_at page spot) page.settings

@@ -23,8 +23,8 @@ day_head page = filled (text_in page.language texts.DAY) (
     decimal page.day ∷ model_name (model_of page.after) ∷ decimal page.day
     ∷ count_text page.language (length page.settings) ∷ [])
 
--- what to compare on a rotor machine, with pictures of its wheels before and after the settings; with one picture if
--- there are no settings
+-- What to compare on a rotor machine. Pictures show its wheels before and after the settings. If there are no settings,
+-- there is one picture.
 abbrev pub wheels_text : Page → List ℕ
 wheels_text page =
     if length page.settings == 0 then one_band page.language page.after
@@ -34,7 +34,8 @@ unfoldable pub rotor_text : Page → List ℕ
 rotor_text page =
     wheels_text page ++ rings_step page ++ seats_step page ++ out_step page ++ in_step page ++ windows_step page
 
--- what to compare on a Converter before the first step: the marks of lugs before the settings, which stay or leave
+-- What to compare on a Converter before the first step. It has two marks: for a lug that stays, and for a lug that
+-- leaves.
 unfoldable pub compare_pins : Language → List ℕ
 compare_pins l = filled (text_in l texts.COMPARE_PIN) (mark_text LugStays ∷ mark_text LugLeaves ∷ [])
 
@@ -44,7 +45,7 @@ pin_text page = compare_pins page.language ++ pins_step page ++ lugs_step page +
 abbrev pub steps_text : Page → List ℕ
 steps_text page = if is_converter (model_of page.after) then pin_text page else rotor_text page
 
--- The text of a day's page: its head; the steps, in which each setting has a checkbox; and the test. Pictures show the
--- machine before and after the settings.
+-- The text of a day's page: its head, the steps, and the test. In the steps, each setting has a checkbox. Pictures show
+-- the machine before and after the settings.
 unfoldable pub day_text : Page → List ℕ
 day_text page = day_head page ++ steps_text page ++ test_step page ++ texts.DAY_END.now

@@ -1,4 +1,5 @@
--- The table of a Converter's bars: the lugs that stay, leave and come, and the checkboxes of the lugs to move.
+-- The table of a Converter's bars. It marks the lugs that stay, leave and come, and has checkboxes for the lugs to
+-- move.
 use Rattle.std.specs.Prelude.{decimal, ℕ, ◌==◌, Bool, true, false, ◌&&◌, ◌||◌, if◌then◌else◌, List, [], ◌∷◌, ◌++◌}
 use Rattle.std.specs.Prelude.{flat_map}
 use Rattle.std.specs.Prelude.{Option, Some, None}
@@ -24,7 +25,8 @@ use Rattle.kd_pictures.specs.Words.{mark_text}
 abbrev pub has_lug : Place × Place → Place → Bool
 has_lug bar place = is_same_place bar.0 place || is_same_place bar.1 place
 
--- the mark of a place of a bar: whether it had a lug before the settings, and whether it has one after them
+-- The mark of a place of a bar. The arguments say whether the place had a lug before the settings, and whether it has
+-- one after them.
 abbrev pub cell_mark : Bool → Bool → Option Mark
 cell_mark true true = Some LugStays
 cell_mark true false = Some LugLeaves
@@ -46,11 +48,11 @@ abbrev pub bar_head : ℕ → Place × Place → Place × Place → List ℕ
 bar_head bar was is =
     filled (if is_same_standing was is then texts.BAR.now else texts.SET_BAR.now) (decimal bar ∷ [])
 
--- the end of a row with `count` checkboxes, which fills the rest of their two cells
+-- the end of a row with `count` checkboxes, which fills up the two cells for checkboxes
 abbrev pub bar_end : ℕ → List ℕ
 bar_end count = if count == 0 then texts.NO_BOXES.now else if count == 1 then texts.ONE_BOX.now else texts.BOXES.now
 
--- the row of a bar whose lugs are at the places `was` before the settings, and at the places `is` after them
+-- The row of a bar. Its lugs are at the places `was` before the settings, and at the places `is` after them.
 abbrev pub bar_item : Page → ℕ → Place × Place → Place × Place → List ℕ
 bar_item page bar was is =
     bar_head bar was is ++ flat_map (lug_cell was is) places ++ boxes_at page (row_spot Lugs bar)

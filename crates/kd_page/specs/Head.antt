@@ -15,7 +15,7 @@ abbrev pub last_of : ListedDay → List ListedDay → ListedDay
 last_of day [] = day
 last_of day (next ∷ days) = last_of next days
 
--- the title: the model, and the day; for several days, the first and the last
+-- The title: the model, and the day. If there are several days, it has the first day and the last.
 abbrev pub title_text : Language → Model → ListedDay → List ListedDay → List ℕ
 title_text l model first [] = filled (text_in l TITLE_DAY) (model_name model ∷ decimal first.day ∷ [])
 title_text l model first (next ∷ days) =

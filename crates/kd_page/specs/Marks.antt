@@ -1,5 +1,5 @@
--- A page marks a change of a thing only if its list has a setting of this thing. This says nothing of an Enigma's
--- windows. A Converter's page also has marks for pins and lugs that stay.
+-- A page marks a change of a thing only if the page's list has a setting of this thing. The windows of an Enigma are
+-- left out here. A Converter's page also has marks for pins and lugs that stay.
 use Rattle.std.specs.Prelude.{◌≡◌, ℕ, nat_eq, Bool, true, false, ◌&&◌, List}
 use Rattle.std.specs.List.{list_any}
 use Rattle.kd_tables.specs.declared.wheel.Wheel.{Wheel}
@@ -48,8 +48,8 @@ turns_pin_wheel wheel _ = false
 
 -- ---- The laws.
 
--- A thing that no setting of the list sets is the same on machine `m`, before the list, as on machine `n`, after it, so
--- that a page marks no change of it. For wheels: a slot has no new wheel that the list doesn't seat there.
+-- Machine `m` is before the list, machine `n` after it. A thing that no setting of the list sets is the same on both.
+-- So a page marks no change of this thing. A slot has no new wheel, unless the list seats this wheel there.
 pub record MarksHaveSettings (m n : Parts) (list : List Setting) : Type 0 where
   pub rings : (wheel : Wheel) → list_any (sets_ring wheel) list ≡ false → machine_ring n wheel ≡ machine_ring m wheel
   pub reflector : list_any sets_reflector list ≡ false → machine_reflector n ≡ machine_reflector m

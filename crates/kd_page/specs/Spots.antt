@@ -1,4 +1,5 @@
--- Where a setting has its checkbox: at a step of the page, in a row of the step's table, in a cell of the row.
+-- Where a setting has its checkbox. It is at a step of the page, in a row of the step's table, and in a cell of the
+-- row.
 use Rattle.std.specs.Prelude.{ℕ, nat_eq, Bool, true, ◌&&◌, List, filter, length, Some, None}
 use Rattle.std.specs.Option.{option_map_or}
 use Rattle.kd_state.specs.declared.setting.Setting.{Setting}
@@ -7,7 +8,7 @@ use Rattle.kd_page.specs.declared.spots.Spot.{Spot}
 use Rattle.kd_page.specs.declared.spots.Step.{Step}
 use Rattle.kd_page.specs.declared.spots.Step.TheVariants.{Rings, Seats, PlugsOut, PlugsIn, Pins, Lugs, Turns}
 
--- the place of a step on the page, counted from the top; 0 is the first
+-- the place of a step on the page, counted from the top; the first step is 0
 abbrev pub step_rank : Step → ℕ
 step_rank Rings = 0
 step_rank Seats = 1
@@ -27,7 +28,8 @@ step_of (settings.PinTo wheel letter effective) = Pins
 step_of (settings.LugTo bar lug place) = Lugs
 step_of (settings.Turn slot letter) = Turns
 
--- the row of a setting in its step's table: the number of the cable, pin wheel, bar or slot; 0 if the step has no table
+-- The row of a setting in the table of its step: the number of the cable, pin wheel, bar or slot. It is 0 if the step
+-- has no table.
 abbrev pub row_of : Setting → ℕ
 row_of (settings.RingTo wheel letter) = 0
 row_of (settings.Seat slot wheel) = 0
@@ -38,7 +40,7 @@ row_of (settings.PinTo wheel letter effective) = wheel
 row_of (settings.LugTo bar lug place) = bar
 row_of (settings.Turn slot letter) = slot
 
--- the cell of a setting in its row: the letter of the pin; 0 if the row has no cells
+-- The cell of a setting in its row: the letter of the pin. 0 if the row has no cells.
 abbrev pub cell_of : Setting → ℕ
 cell_of (settings.RingTo wheel letter) = 0
 cell_of (settings.Seat slot wheel) = 0
@@ -56,7 +58,8 @@ step_spot step = record { step = step; row = None; cell = None }
 abbrev pub row_spot : Step → ℕ → Spot
 row_spot step row = record { step = step; row = Some row; cell = None }
 
--- whether the setting's checkbox is at this spot: in its step and, if the spot has a row or a cell, in its row and cell
+-- Whether the setting's checkbox is at this spot. It is in the spot's step and, if the spot has a row or a cell, also
+-- in these.
 abbrev pub is_at : Spot → Setting → Bool
 is_at spot x =
     nat_eq (step_rank (step_of x)) (step_rank spot.step)

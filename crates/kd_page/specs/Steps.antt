@@ -11,7 +11,7 @@ use Rattle.kd_page.specs.Spots.{step_spot}
 use Rattle.kd_pictures.specs.Template.{count_text, filled}
 use Rattle.kd_pictures.specs.Words.{model_name, word_text}
 
--- the head of a step with this number of settings; then `idle_text`, a step with none, which has only a head
+-- The head of a step with this number of settings. Then `idle_text`: a step without settings, which has only a head.
 abbrev pub step_text : Page → Word → ℕ → List ℕ
 step_text page title count = filled (text_in page.language STEP) (
     word_text page.language title ∷ count_text page.language count ∷ model_name (model_of page.after)
@@ -22,13 +22,13 @@ idle_text page title = filled (text_in page.language IDLE_STEP) (
     word_text page.language title ∷ count_text page.language 0 ∷ model_name (model_of page.after)
     ∷ decimal page.day ∷ [])
 
--- the head of a step with more checkboxes than settings; it gives the number of settings only if there are some
+-- The head of a step with more checkboxes than settings. It says the number of settings only if there are some.
 abbrev pub full_step_text : Page → Word → ℕ → List ℕ
 full_step_text page title count =
     if count == 0 then filled (text_in page.language PLAIN_STEP) (
     word_text page.language title ∷ model_name (model_of page.after) ∷ decimal page.day ∷ [])
     else step_text page title count
 
--- the list of the checkboxes of a step, and the step's end
+-- the list of a step's checkboxes, and the end of the step
 unfoldable pub list_text : Page → Step → List ℕ
 list_text page step = LIST.now ++ boxes_at page (step_spot step) ++ LIST_END.now

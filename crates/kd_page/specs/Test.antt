@@ -1,5 +1,5 @@
--- The test of the real machine: the keys to press, the letters that the machine makes of them, and the letters to set
--- again.
+-- The test of the real machine. It has the keys to press, the letters that the machine makes of them, and the letters
+-- to set again.
 use Rattle.std.specs.Prelude.{codes, ℕ, Bool, if◌then◌else◌, List, [], ◌∷◌, ◌++◌}
 use Rattle.std.specs.Prelude.{length}
 use Rattle.std.specs.Prelude.{false, true, replicate, flat_map, Option, Some, None}
@@ -22,7 +22,7 @@ use Rattle.kd_pictures.specs.Template.{count_text, filled, letter_text, ordinal_
 use Rattle.kd_page.specs.Windows.{letter_shown}
 use Rattle.kd_pictures.specs.Words.{is_converter}
 
--- the keys of the test: the alphabet, or on a Converter 26 times A
+-- the keys of the test: the alphabet or, on a Converter, 26 times A
 abbrev pub test_keys : Parts → List ℕ
 test_keys m = if is_converter (model_of m) then replicate 26 0 else alphabet
 
@@ -36,13 +36,13 @@ test_text l m =
     fives_from 0 (test_keys m) ++ texts.TEST_LAMPS.now ++ fives_from 0 (physical_cipher m (test_keys m))
     ++ test_end l (model_of m)
 
--- a letter to set again, on a rotor machine with its number
+-- a letter to set again; on a rotor machine, with its number
 abbrev pub again_text : Bool → ℕ → List ℕ
 again_text has_number letter =
     if has_number then filled texts.AGAIN_ROTOR.now (letter_text letter ∷ ordinal_text letter ∷ [])
     else letter_text letter
 
--- the letter that a slot or a pin wheel shows, after a separator; nothing if it shows none
+-- The letter in a window or on a pin wheel, after a separator. Empty if there is no letter.
 abbrev pub again_at : List ℕ → Bool → Option ℕ → List ℕ
 again_at separator has_number None = []
 again_at separator has_number (Some letter) = separator ++ again_text has_number letter
@@ -56,8 +56,8 @@ again_all separator has_number m =
 abbrev pub letters_again : Parts → List ℕ
 letters_again m = if is_converter (model_of m) then again_all (codes " ") false m else again_all (codes ", ") true m
 
--- the note at the end of the page: a line to fill in the letters when the machine is put away, and the number of
--- settings
+-- The note at the end of the page. It has a line for the letters when the machine is put away, and the number of
+-- settings.
 abbrev pub note_text : Language → Model → List Setting → List ℕ
 note_text l model settings =
     filled (if is_converter model then text_in l texts.NOTE_PIN else text_in l texts.NOTE_ROTOR)

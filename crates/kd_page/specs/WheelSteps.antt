@@ -1,5 +1,5 @@
--- The steps of the rings, and of the wheels and the reflector: the parts that go into the box, and the checkbox of each
--- setting.
+-- The steps of the rings, and of the wheels and the reflector. They say which parts go into the box, and have the
+-- checkbox of each setting.
 use Rattle.std.specs.Prelude.{ℕ, ◌||◌, ◌==◌, Bool, false, if◌then◌else◌, List, [], ◌∷◌, ◌++◌, flat_map}
 use Rattle.std.specs.Prelude.{Option, Some, None, is_some, option_and_then}
 use Rattle.std.specs.Option.{option_map_or}
@@ -29,7 +29,7 @@ rings_step page =
     let count = count_at (step_spot Rings) page.settings in
     if count == 0 then idle_text page words.Rings else some_rings_text page count
 
--- the wheel that a slot has before the settings, if no slot has it after them
+-- the wheel that a slot has before the settings, unless a slot has it after them
 abbrev pub unless_held : Wheel → Option ℕ → Option Wheel
 unless_held wheel None = Some wheel
 unless_held wheel (Some slot) = None
@@ -40,7 +40,7 @@ boxed_wheel page slot =
     option_and_then (λ wheel. unless_held wheel (slot_holding page.after wheel SLOTS)) seated)
     (machine_slot page.before slot)
 
--- the reflector before the settings, if it is another one after them
+-- the reflector before the settings, unless it is the same after them
 abbrev pub unless_same : Reflector → Option Reflector → Option Reflector
 unless_same reflector other =
     if option_map_or (same_reflector reflector) other false then None else Some reflector
@@ -49,7 +49,7 @@ abbrev pub boxed_reflector : Page → Option Reflector
 boxed_reflector page =
     option_and_then (λ reflector. unless_same reflector (machine_reflector page.after)) (machine_reflector page.before)
 
--- whether a wheel of these slots goes into the box
+-- whether a wheel in one of these slots goes into the box
 abbrev pub is_wheel_boxed : Page → List ℕ → Bool
 is_wheel_boxed page [] = false
 is_wheel_boxed page (slot ∷ slots) = is_some (boxed_wheel page slot) || is_wheel_boxed page slots

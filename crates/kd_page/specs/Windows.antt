@@ -1,4 +1,4 @@
--- The letters to set last: each window of a rotor machine, or each pin wheel, has a checkbox.
+-- The letters to set last. Each window of a rotor machine, or each pin wheel, has a checkbox.
 use Rattle.std.specs.Prelude.{decimal, ℕ, List, [], ◌∷◌, ◌++◌, flat_map, Option, Some, None, option_and_then}
 use Rattle.std.specs.Option.{option_or}
 use Rattle.kd_state.specs.declared.machine.parts.Parts.{Parts}
@@ -14,7 +14,7 @@ use Rattle.kd_page.specs.Spots.{count_at, row_spot, step_spot}
 use Rattle.kd_page.specs.Steps.{full_step_text}
 use Rattle.kd_pictures.specs.Template.{filled, letter_text, ordinal_text}
 
--- the letter of the wheel in a slot; `None` if the slot is empty, or the machine has no slot with this number
+-- The letter in the window of a slot. `None` if the slot is empty, or the machine has no slot with this number.
 abbrev pub letter_in_slot : Parts → ℕ → Option ℕ
 letter_in_slot m slot =
     option_and_then (λ seated. option_and_then (machine_letter m) seated) (machine_slot m slot)
@@ -23,7 +23,7 @@ letter_in_slot m slot =
 abbrev pub letter_shown : Parts → ℕ → Option ℕ
 letter_shown m number = option_or (letter_in_slot m number) (machine_pin_letter m number)
 
--- the checkbox of a window, with the settings line if its letter changes
+-- the checkbox of a window; it has the settings line if the window's letter changes
 abbrev pub window_item : Page → ℕ → ℕ → List ℕ
 window_item page slot letter =
     filled (text_in page.language texts.WINDOW_BOX) (decimal slot ∷ letter_text letter ∷ ordinal_text letter ∷ [])

@@ -1,4 +1,4 @@
-//! The checkboxes: each has the words for one setting and, except for pins, the setting's line.
+//! The checkboxes. Each has the words for one setting and, except for pins, the setting's line.
 ghost use Rattle.std.specs.Prelude.{◌≡◌, flat_map};
 ghost use Rattle.kd_state.specs.declared.setting.Setting.TheVariants.{LugTo, Seat};
 ghost use Rattle.kd_state.specs.Machine.{machine_standing};
@@ -27,7 +27,7 @@ pub(crate) fn draw_boxes<W: Sink>(sink: &mut W, page: &Page<'_>, spot: &Spot)
     draw_boxes_of(sink, page, spot, page.settings());
 }
 
-/// Writes the checkboxes of the `settings` that have them at `spot`.
+/// Writes the checkboxes of those `settings` that have their checkbox at `spot`.
 fn draw_boxes_of<W: Sink>(sink: &mut W, page: &Page<'_>, spot: &Spot, settings: &[Setting])
     ensures { Draws W.taken W.has_failed sink.old sink.new
         (flat_map (box_at page.now spot.now) settings.now) }
@@ -98,7 +98,7 @@ fn draw_box<W: Sink>(sink: &mut W, page: &Page<'_>, setting: &Setting)
     }
 }
 
-/// Writes the checkbox to put a wheel into a slot, with the slot in which it was before, if any.
+/// Writes the checkbox to put a wheel into a slot. It says in which slot the wheel was before, if it was in one.
 fn draw_seat<W: Sink>(sink: &mut W, page: &Page<'_>, slot: u8, wheel: Wheel)
     ensures { Draws W.taken W.has_failed sink.old sink.new
         (seat_text page.now (Seat slot wheel) slot wheel
@@ -121,7 +121,7 @@ fn draw_seat<W: Sink>(sink: &mut W, page: &Page<'_>, slot: u8, wheel: Wheel)
     }
 }
 
-/// Writes the checkbox to put a spare wheel into a slot, with its ring, which can't be seen once the machine is closed.
+/// Writes the checkbox to put a spare wheel into a slot. It says how the ring has to stand, which can't be seen later.
 fn draw_from_box<W: Sink>(sink: &mut W, page: &Page<'_>, slot: u8, wheel: Wheel)
     ensures { Draws W.taken W.has_failed sink.old sink.new
         (from_box_text page.now (Seat slot wheel) slot wheel) }
@@ -156,7 +156,7 @@ fn draw_box_ring<W: Sink>(sink: &mut W, language: Language, ring: Option<Letter>
     }
 }
 
-/// Writes the checkbox to move a lug to a place of its bar, with its place before.
+/// Writes the checkbox to move a lug to a place of its bar. It also says from which place.
 fn draw_lug<W: Sink>(sink: &mut W, page: &Page<'_>, bar: u8, lug: Lug, place: Place)
     ensures { Draws W.taken W.has_failed sink.old sink.new
         (lug_text page.now.language (LugTo bar lug place) lug
@@ -169,7 +169,7 @@ fn draw_lug<W: Sink>(sink: &mut W, page: &Page<'_>, bar: u8, lug: Lug, place: Pl
     fill_in(sink, language, LUG_END, &[Value::Place(place), line]);
 }
 
-/// Writes the place of the lug before the settings; nothing if the machine has no bar with this number.
+/// Writes the place of the lug before the settings. If the machine has no bar with this number, writes nothing.
 fn draw_lug_from<W: Sink>(sink: &mut W, language: Language, lug: Lug, bar: Option<Standing>)
     ensures { Draws W.taken W.has_failed sink.old sink.new (lug_from_text language lug bar) }
 {
@@ -180,7 +180,7 @@ fn draw_lug_from<W: Sink>(sink: &mut W, language: Language, lug: Lug, bar: Optio
     }
 }
 
-/// The name of a slot: right, middle, left, and on the M4 Greek.
+/// The name of a slot: right, middle, left or, on the M4, Greek.
 fn slot_name(model: Model, slot: u8) -> Word
     ensures { result ≡ slot_name model slot }
 {
@@ -192,7 +192,7 @@ fn slot_name(model: Model, slot: u8) -> Word
     }
 }
 
-/// Which of `slots` holds the wheel; `None` if the wheel is a spare one in the box.
+/// The slot among `slots` that holds the wheel. `None` if none does: the wheel is a spare one in the box.
 pub(crate) fn slot_holding(machine: &Machine, wheel: Wheel, slots: &[u8]) -> Option<u8>
     ensures { result ≡ slot_holding machine.now wheel slots.now }
 {

@@ -1,16 +1,16 @@
-//! Laws of a day's page.
+//! Laws about a day's page.
 ghost use Rattle.kd_page.specs.Marks.{AllMarksHaveSettings};
 ghost use Rattle.kd_page.specs.PageOrder.{PinBoxesAreTheSettings, RotorBoxesAreTheSettings};
 ghost use Rattle.kd_page.specs.ShownBoxes.{PinPageHasTheBoxes, RotorPageHasTheBoxes};
 
-/// If the settings are in the order of a page, the page's checkboxes, read from the top, are for these settings in this
-/// order.
+/// If the settings are in the order of a page, the page's checkboxes, from the top, are for exactly these settings, in
+/// this order.
 pub fn boxes_are_the_settings()
     ensures rotor { RotorBoxesAreTheSettings }
     ensures pin { PinBoxesAreTheSettings }
 {}
 
-/// The text of a day's page has the checkbox of each of the page's settings, in their order.
+/// The text of a day's page has the checkbox of each setting of the page, in the order of the settings.
 pub fn pages_have_the_boxes()
     ensures rotor { RotorPageHasTheBoxes }
     ensures pin { PinPageHasTheBoxes }

@@ -1,4 +1,4 @@
-//! The page of a day, to hang beside a machine: the settings in the order in which an operator makes them, with
+//! The page of a day, to hang beside a machine. It has the settings in the order in which an operator makes them,
 //! pictures, and a test of the machine.
 #![tactic(auto)]
 

@@ -4,7 +4,7 @@ use kd_pictures::Language;
 use kd_state::{Machine, Setting};
 use kd_tables::Model;
 
-/// A day's page: a day, two machines, and the settings that turn the first machine into the second.
+/// A day's page. It has a day, two machines, and the settings that turn the first machine into the second.
 #[derive(Drop)]
 pub struct Page<'a> {
     language: Language,

@@ -63,7 +63,8 @@ fn draw_plugs_in<W: Sink>(sink: &mut W, page: &Page<'_>, count: u8)
     draw(sink, BOARD_STEP_END);
 }
 
-/// Writes the meaning of the marks; then the table of the `count` plugs to put in, if there are any.
+/// Writes the caption, which says what the marks mean. Then writes the table of the `count` plugs to put in, if there
+/// are any.
 fn draw_in_table<W: Sink>(sink: &mut W, page: &Page<'_>, count: u8)
     ensures { Draws W.taken W.has_failed sink.old sink.new (in_table page.now count) }
 {
@@ -74,7 +75,7 @@ fn draw_in_table<W: Sink>(sink: &mut W, page: &Page<'_>, count: u8)
     }
 }
 
-/// Writes the table of the plugs to move. `head` has the meaning of the marks, and the table's head.
+/// Writes the table of the plugs to move. `head` says what the marks mean, and has the table's head.
 fn draw_plug_table<W: Sink>(sink: &mut W, page: &Page<'_>, head: Text, step: Step)
     ensures { Draws W.taken W.has_failed sink.old sink.new (plug_table page.now
         (in_language page.now.language head.entry.0.now head.entry.1.now) step) }

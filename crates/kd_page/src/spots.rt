@@ -18,7 +18,7 @@ pub enum Step {
     Turns,
 }
 
-/// A place of a page at which checkboxes stand: a step, a row of the step's table, or a cell of the row.
+/// A spot of a page with checkboxes. It is a step, a row of the step's table, or a cell of the row.
 #[derive(Clone, Copy)]
 pub struct Spot {
     pub step: Step,
@@ -86,7 +86,7 @@ pub(crate) fn is_at(spot: &Spot, setting: &Setting) -> bool
         && is_cell(spot.cell, cell_of(setting))
 }
 
-/// Whether `row` is the row `number`, or no row is asked for.
+/// Whether `row` is the row `number`, or is `None`.
 fn is_row(row: Option<u8>, number: u8) -> bool
     ensures { result ≡ option_map_or (nat_eq number) row true }
 {

@@ -12,7 +12,7 @@ use kd_pictures::texts::{IDLE_STEP, LIST, LIST_END, PLAIN_STEP, STEP};
 use kd_pictures::words::Word;
 use kd_tables::Sink;
 
-/// Writes the head of a step with `count` settings. It repeats the model and the day, as sheets of paper come apart.
+/// Writes the head of a step with `count` settings. It has the model and the day, as sheets of paper come apart.
 pub(crate) fn draw_step<W: Sink>(sink: &mut W, page: &Page<'_>, title: Word, count: u8)
     ensures { Draws W.taken W.has_failed sink.old sink.new (step_text page.now title count) }
 {
@@ -46,7 +46,8 @@ pub(crate) fn draw_idle<W: Sink>(sink: &mut W, page: &Page<'_>, title: Word)
     );
 }
 
-/// Writes the head of a step with more checkboxes than settings; it gives `count`, their number, only if it isn't 0.
+/// Writes the head of a step with more checkboxes than settings. `count` is the number of settings, which is left out
+/// if it is 0.
 pub(crate) fn draw_full_step<W: Sink>(sink: &mut W, page: &Page<'_>, title: Word, count: u8)
     ensures { Draws W.taken W.has_failed sink.old sink.new (full_step_text page.now title count) }
 {

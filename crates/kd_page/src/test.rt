@@ -1,4 +1,4 @@
-//! The test of the real machine: which lamps light up, or which letters are printed, for given keys.
+//! The test of the real machine. It says which lamps light up, or which letters are printed, for given keys.
 ghost use Rattle.std.specs.Prelude.{◌≡◌, ◌++◌, flat_map};
 ghost use Rattle.kd_state.specs.Machine.{model_of};
 ghost use Rattle.kd_state.specs.TwoCiphers.{IsReady, physical_cipher};
@@ -79,7 +79,7 @@ fn draw_test_end<W: Sink>(sink: &mut W, language: Language, model: Model)
     }
 }
 
-/// The alphabet, or on a Converter 26 times A.
+/// The keys of the test: the alphabet or, on a Converter, 26 times A.
 fn test_keys(machine: &Machine) -> [Letter; 26]
     ensures { result ≡ test_keys machine.now }
 {
@@ -171,7 +171,7 @@ fn draw_separated<W: Sink>(
     draw_again(sink, language, has_number, letter);
 }
 
-/// Writes a letter to set again, on a rotor machine with its number.
+/// Writes a letter to set again; on a rotor machine, with its number.
 fn draw_again<W: Sink>(sink: &mut W, language: Language, has_number: bool, letter: Letter)
     ensures { Draws W.taken W.has_failed sink.old sink.new (again_text has_number letter) }
 {
@@ -187,7 +187,7 @@ fn draw_again<W: Sink>(sink: &mut W, language: Language, has_number: bool, lette
     }
 }
 
-/// Writes the note at the end of the page: a line to fill in the letters when the machine is put away, and the number
+/// Writes the note at the end of the page. It has a line for the letters when the machine is put away, and the number
 /// of settings.
 fn draw_note<W: Sink>(sink: &mut W, page: &Page<'_>)
     ensures { Draws W.taken W.has_failed sink.old sink.new

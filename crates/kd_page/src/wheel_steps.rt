@@ -109,7 +109,7 @@ fn draw_boxed_reflector<W: Sink>(sink: &mut W, language: Language, reflector: Op
     }
 }
 
-/// Whether a wheel of these slots goes into the box.
+/// Whether a wheel in one of these slots goes into the box.
 fn is_wheel_boxed(page: &Page<'_>, slots: &[u8]) -> bool
     ensures { result ≡ is_wheel_boxed page.now slots.now }
 {
@@ -119,7 +119,7 @@ fn is_wheel_boxed(page: &Page<'_>, slots: &[u8]) -> bool
     }
 }
 
-/// The wheel that a slot has before the settings, if no slot has it after them.
+/// The wheel that a slot has before the settings, unless a slot has it after them.
 fn boxed_wheel(page: &Page<'_>, slot: u8) -> Option<Wheel>
     ensures { result ≡ boxed_wheel page.now slot }
 {
@@ -130,7 +130,7 @@ fn boxed_wheel(page: &Page<'_>, slot: u8) -> Option<Wheel>
     }
 }
 
-/// The reflector before the settings, if it is another one after them.
+/// The reflector before the settings, unless it is the same after them.
 fn boxed_reflector(page: &Page<'_>) -> Option<Reflector>
     ensures { result ≡ boxed_reflector page.now }
 {

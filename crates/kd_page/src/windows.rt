@@ -1,4 +1,4 @@
-//! The letters to set last: each window of a rotor machine, or each pin wheel, has a checkbox.
+//! The letters to set last. Each window of a rotor machine, or each pin wheel, has a checkbox.
 ghost use Rattle.std.specs.Prelude.{◌≡◌, ◌++◌, flat_map};
 ghost use Rattle.kd_state.specs.Machine.{machine_pin_letter};
 ghost use Rattle.kd_pictures.specs.Drawing.{Draws};
@@ -109,7 +109,7 @@ pub(crate) fn letter_shown(machine: &Machine, number: u8) -> Option<Letter>
     letter_in_slot(machine, number).or(machine.shown(number))
 }
 
-/// The letter of the wheel in a slot.
+/// The letter in the window of a slot.
 fn letter_in_slot(machine: &Machine, slot: u8) -> Option<Letter>
     ensures { result ≡ letter_in_slot machine.now slot }
 {
