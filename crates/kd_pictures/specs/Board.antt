@@ -74,8 +74,8 @@ lane number = 139 + 9 * number
 abbrev pub bend : ℕ → ℕ → ℕ
 bend y lane = if nat_lt y lane then lane - 5 else lane + 5
 
--- Three pieces of a cable's line. One leads from a socket into the lane, one along the lane to a socket, and one along
--- the lane to an open end.
+-- Three pieces of a cable's line. One leads from a socket into the lane. The other two lead along the lane: to a
+-- socket, or to an open end.
 abbrev pub left_half : Class → ℕ → ℕ → List ℕ
 left_half class lane letter = filled texts.LEFT_HALF.now (
     class_text class ∷ decimal (line_x letter) ∷ decimal (socket_y letter) ∷ decimal (bend (socket_y letter) lane)

@@ -6,8 +6,8 @@ ghost use Rattle.kd_pictures.specs.Sockets.{LinesAreApart};
 ghost use Rattle.kd_pictures.specs.Checked.{TemplatesTakeTheirValues, WordsTellWhatToDo};
 ghost use Rattle.kd_pictures.specs.Plain.{ValuesArePlain};
 
-/// The values that a page takes from files have no markup: no letter, no number, and no name of a model, wheel or
-/// reflector.
+/// The values that a page takes from files have no markup. They are letters, numbers, and names of models, wheels and
+/// reflectors.
 #[tactic(auto, using(crate::proofs::PlainValues::values_are_plain))]
 pub fn values_are_plain()
     ensures { ValuesArePlain }

@@ -448,8 +448,8 @@ pub const NO_CABLES: Text = ("none", "keine");
 
 pub const BOARD_END: &str = "</svg>\n<figcaption>";
 
-/// The line of a cable, in pieces. One leads from a socket into the lane, one along the lane to a socket, and one along
-/// the lane to an open end.
+/// The line of a cable, in pieces. One leads from a socket into the lane. The other two lead along the lane: to a
+/// socket, or to an open end.
 pub const LEFT_HALF: &str = "<path~ d=\"M~ ~V~Q~ ~ ~ ~";
 
 pub const RIGHT_HALF: &str = "H~Q~ ~ ~ ~V~\"/>\n";

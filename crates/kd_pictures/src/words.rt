@@ -6,7 +6,7 @@ use crate::language::Language;
 use crate::texts;
 use kd_tables::Model;
 
-/// A fixed word. It is the language's code, the name of a step, a slot, a picture or a lug, or which way a pin is set.
+/// A fixed word: the language's code, a name of a step, a slot, a picture or a lug, or which way a pin is set.
 #[derive(Clone, Copy)]
 pub enum Word {
     Language,
