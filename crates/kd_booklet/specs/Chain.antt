@@ -1,4 +1,4 @@
--- The plans of several days in turn: each starts from the machine as the day before left it.
+-- The plans of several days, one after another. Each plan starts from the machine as the day before left it.
 -- Code: `add_plans` plans one day after another, and stops at the first day that can't be planned.
 -- Test: tests/cases/curator-pages.toml
 use Rattle.std.specs.Prelude.{◌≡◌, ◌≢◌, ◌⊎◌, ℕ, List, [], ◌∷◌, ◌++◌, Option, Some, None}
@@ -18,15 +18,16 @@ pub record IsPlanOf (month : List (Option Day)) (m : Parts) (number : ℕ) (plan
   pub of_month : day_of month number ≡ Some s
   pub plans : IsDayPlan m s plan n
 
--- The plans are for the days `numbers`, in the same order. The first starts from machine `m`; each later one starts
--- from the machine to which the plan before it leads.
+-- The plans are for the days `numbers`, in the same order. The first plan starts from machine `m`. Each later plan
+-- starts from the machine to which the plan before it leads.
 abbrev pub ArePlanned : List (Option Day) → Parts → List ℕ → List DayPlan → Type 0
 ArePlanned month m [] [] = Unit {0}
 ArePlanned month m (number ∷ numbers) (plan ∷ plans) =
     (n : Parts) × IsPlanOf month m number plan n × ArePlanned month n numbers plans
 ArePlanned month m numbers plans = ⊥
 
--- The reason why a day can't be planned: the sheet doesn't have it, or it is of another model than the machine.
+-- The reason why a day can't be planned. The sheet doesn't have the day, or the day and the machine are of different
+-- models.
 abbrev pub LacksDay : Model → List (Option Day) → ℕ → NoPlan → Type 0
 LacksDay model month number NoSuchDay = day_of month number ≡ None
 LacksDay model month number OtherModel = (s : Day) × (day_of month number ≡ Some s) × (model ≢ day_model s)
@@ -35,7 +36,7 @@ pub record IsDayFault (model : Model) (month : List (Option Day)) (number : ℕ)
   pub day : fault.day ≡ number
   pub lacks : LacksDay model month number fault.why
 
--- The fault is that of the first day that can't be planned.
+-- The fault names the first day that can't be planned.
 abbrev pub IsFirstFault : Model → List (Option Day) → List ℕ → DayFault → Type 0
 IsFirstFault model month [] fault = ⊥
 IsFirstFault model month (number ∷ numbers) fault =
@@ -44,7 +45,7 @@ IsFirstFault model month (number ∷ numbers) fault =
 
 -- ---- Plans that are added one by one. No public contract cites this definition.
 
--- `new` has the plans of `old`, then plans of the days `numbers`, the first of which starts from machine `m`.
+-- `new` has the plans of `old`, then plans of the days `numbers`. The first of these starts from machine `m`.
 pub record AddsPlans (month : List (Option Day)) (m : Parts) (numbers : List ℕ) (old new : List DayPlan) : Type 0 where
   pub plans : List DayPlan
   pub planned : ArePlanned month m numbers plans

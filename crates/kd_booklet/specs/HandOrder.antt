@@ -1,4 +1,4 @@
--- An order of a card's settings that suits an operator: rings while the wheels are out, windows last.
+-- An order of a card's settings that suits an operator. Rings come first, while the wheels are out, and windows last.
 use Rattle.std.specs.Prelude.{Bool, true, false, not, List, [], ◌∷◌, ◌++◌, filter, if◌then◌else◌, IsTrue}
 use Rattle.std.specs.Prelude.{IsPermutation}
 use Rattle.std.specs.List.{list_all}
@@ -23,7 +23,8 @@ is_same_stage _ _ = false
 abbrev pub is_at_stage : Stage → Setting → Bool
 is_at_stage stage x = is_same_stage (stage_of x) stage
 
--- the settings in an order that suits an operator: rings first, window letters last, and the others between them
+-- The settings in an order that suits an operator. Rings come first, window letters last, and all other settings
+-- between them.
 abbrev pub in_hand_order : List Setting → List Setting
 in_hand_order xs =
     filter (is_at_stage Rings) xs ++ (filter (is_at_stage Others) xs ++ filter (is_at_stage Windows) xs)
@@ -32,14 +33,14 @@ abbrev pub is_seat : Setting → Bool
 is_seat (Seat slot wheel) = true
 is_seat _ = false
 
--- whether all wheels are seated before the first window is turned
+-- whether no wheel is seated after the first window is turned
 abbrev pub seats_before_turning : List Setting → Bool
 seats_before_turning [] = true
 seats_before_turning (x ∷ xs) =
     if is_at_stage Windows x then list_all (λ y. not (is_seat y)) xs else seats_before_turning xs
 
--- The reordered list has the same settings. If all wheels are seated before the first window is turned, it leads to the
--- same machine.
+-- The reordered list has the same settings. If no wheel is seated after the first window is turned, both lists lead to
+-- the same machine.
 abbrev pub HandOrderIsPermutation : Type 0
 HandOrderIsPermutation = (xs : List Setting) → IsPermutation xs (in_hand_order xs)
 

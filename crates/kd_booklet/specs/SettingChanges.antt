@@ -22,12 +22,12 @@ abbrev pub lug_at : Parts → ℕ → Lug → Option Place
 lug_at m bar Left = option_map (λ standing. standing.0) (machine_standing m bar)
 lug_at m bar Right = option_map (λ standing. standing.1) (machine_standing m bar)
 
--- The value was another before a list, and is `due` after it.
+-- The value is `due` after a list, and wasn't before.
 abbrev pub Becomes : {A : Type 0} → A → A → A → Type 0
 Becomes before after due = (before ≢ due) × (after ≡ due)
 
--- The window of a slot, or of a pin wheel, changes to `letter`. In a slot, the wheel is the one that machine `n` has
--- there.
+-- The letter in the window of a slot, or of a pin wheel, becomes `letter`. In a slot, it is the letter of the wheel
+-- that machine `n` has there.
 abbrev pub WindowTurns : Parts → Parts → ℕ → ℕ → Type 0
 WindowTurns (Rotor m) n number letter =
     (wheel : Wheel) → is_seated n number wheel ≡ true
@@ -35,7 +35,7 @@ WindowTurns (Rotor m) n number letter =
 WindowTurns (Pin m) n number letter =
     Becomes (machine_pin_letter (Pin m) number) (machine_pin_letter n number) (Some letter)
 
--- The thing that the setting sets differs between machine `m`, before a list, and machine `n`, after it; on `n`, it is
+-- The thing that the setting sets differs between machine `m`, before a list, and machine `n`, after it. On `n`, it is
 -- as the setting says. A page marks it, unless it is a Converter's letter.
 abbrev pub Changes : Parts → Parts → Setting → Type 0
 Changes m n (RingTo wheel letter) = Becomes (machine_ring m wheel) (machine_ring n wheel) (Some letter)
@@ -48,7 +48,7 @@ Changes m n (PinTo wheel letter effective) =
 Changes m n (LugTo bar lug place) = Becomes (lug_at m bar lug) (lug_at n bar lug) (Some place)
 Changes m n (Turn number letter) = WindowTurns m n number letter
 
--- Each setting of a day's list changes the thing that it sets. This wouldn't hold of a list that turns a wheel twice.
+-- Each setting of a day's list changes the thing that it sets. In a list that turns a wheel twice, this isn't so.
 abbrev pub DaySettingsChangeThings : Type 0
 DaySettingsChangeThings =
     (m n : Parts) (s : Day) (plan : DayPlan) → IsMachine m → IsLegalDay s → IsDayPlan m s plan n

@@ -1,4 +1,4 @@
-//! The plans of several days in turn: each starts from the machine as the day before left it.
+//! The plans of several days, one after another. Each plan starts from the machine as the day before left it.
 ghost use Rattle.std.specs.Prelude.{◌≡◌, ◌+◌, ◌≤◌, length, IfErr, IfOk, OnOk};
 ghost use Rattle.arrayvec.specs.ArrayVec.{array_vec_len};
 ghost use Rattle.kd_state.specs.Machine.{model_of};
@@ -15,9 +15,9 @@ use kd_state::{Machine, SheetDay};
 /// The plans of several days.
 pub type DayPlans = ArrayVec<DayPlan, 31>;
 
-/// Plans the days `numbers`, each from the machine as the day before left it.
+/// Plans the days `numbers`. Each plan starts from the machine as the day before left it.
 ///
-/// The fault is that of the first day that the sheet doesn't have, or that is of another model.
+/// The fault names the first day that the sheet doesn't have, or that is of another model than the machine.
 pub fn plan_days(machine: &Machine, sheet: &Sheet, numbers: &[u8]) -> Result<DayPlans, DayFault>
     requires { length numbers.now ≤ 31 }
     ensures planned { IfOk result
@@ -50,7 +50,7 @@ fn add_plans(
     add_plans(plans, &after, sheet, numbers)
 }
 
-/// Day `number` of the sheet, if the sheet has it, and it is of the machine's model.
+/// The day `number` of the sheet, if the sheet has it, and it is of the machine's model. Otherwise the reason why not.
 pub fn day_of_model<'a>(
     machine: &Machine,
     sheet: &'a Sheet,

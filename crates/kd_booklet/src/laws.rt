@@ -1,10 +1,10 @@
-//! Laws on the order of a day's settings, and on what they change.
+//! Laws about the order of a day's settings, and about what they change.
 ghost use Rattle.kd_booklet.specs.HandOrder.{HandOrderIsPermutation, HandOrderLeads};
 ghost use Rattle.kd_booklet.specs.SettingChanges.{DaySettingsChangeThings};
 
 /// A list in the order that suits an operator has the same settings.
 ///
-/// If all wheels are seated before the first window is turned, it leads to the same machine in both orders.
+/// If no wheel is seated after the first window is turned, the list leads to the same machine in both orders.
 pub fn hand_order_leads_alike()
     ensures same { HandOrderIsPermutation }
     ensures leads { HandOrderLeads }

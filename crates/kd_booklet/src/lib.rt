@@ -1,4 +1,5 @@
-//! A booklet: the pages of several days, which are planned one after another, with the settings in the order of a page.
+//! A booklet: the pages of several days. They are planned one after another, and have the settings in the order of a
+//! page.
 #![tactic(auto)]
 
 mod chain;

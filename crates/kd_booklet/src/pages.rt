@@ -116,7 +116,7 @@ fn draw_plan<W: Sink>(
     after
 }
 
-/// Draws the pages of planned days, the first of which is for `machine`.
+/// Draws the pages of planned days. The first page is for `machine`.
 fn draw_plans<W: Sink>(sink: &mut W, language: Language, machine: &Machine, plans: &[DayPlan])
     requires { AreDrawable machine.now plans.now }
     ensures { (text : List ℕ) × ArePages language machine.now plans.now text
