@@ -1,4 +1,4 @@
--- The cells of a table's row, one for each value of a day: the column of each, and whether its text can be read.
+-- The cells of a table's row, one for each value of a day. Each has a column, and its text can be read, or can't.
 -- Test: tests/cases/curator-sheet.toml
 use Rattle.std.specs.Prelude.{ℕ, nat_le, ◌&&◌, ◌||◌, not, Bool, true, false, List, [], ◌∷◌, is_some, slice_index_or, Option, Some, None, if◌then◌else◌}
 use Rattle.std.specs.List.{list_all}
@@ -36,7 +36,7 @@ column_of columns cells.Pins5 = slice_index_or columns.pins 4 None
 column_of columns cells.Pins6 = slice_index_or columns.pins 5 None
 column_of columns cells.Bars = columns.bars
 
--- the option that replaces a blank cell; empty if there is none
+-- the option whose text replaces the blank cell; empty if there is none
 abbrev pub option_of : OptionTexts → Cell → List ℕ
 option_of options cells.Model = options.model
 option_of options cells.Reflector = options.reflector
@@ -53,7 +53,7 @@ has_text options columns cell = is_some (column_of columns cell) || not (is_blan
 
 -- ---- Which cells a row has.
 
--- the cells for a day of `model`, except day and model
+-- the cells for a day of `model`, except the day and the model
 abbrev pub cells_of : Model → List Cell
 cells_of M209 =
     cells.List ∷ cells.Window ∷ cells.Pins1 ∷ cells.Pins2 ∷ cells.Pins3 ∷ cells.Pins4 ∷ cells.Pins5 ∷ cells.Pins6
@@ -61,15 +61,15 @@ cells_of M209 =
 cells_of model =
     cells.Reflector ∷ cells.Wheels ∷ cells.Rings ∷ cells.Window ∷ cells.Plugs ∷ cells.Groups ∷ []
 
--- the model of a row; `None` if its name can't be read
+-- the model of a row; `None` if the model's name can't be read
 abbrev pub row_model : OptionTexts → Columns → List (List ℕ) → Option Model
 row_model options columns row = model_named (text_of options columns row cells.Model)
 
--- all cells of a row of this model; only day and model if it isn't known
+-- All cells of a row of this model. If the model isn't known, these are only the day and the model.
 abbrev pub row_cells : Option Model → List Cell
 row_cells model = cells.Day ∷ cells.Model ∷ option_map_or cells_of model []
 
--- whether a table may lack the cell's column: only the column of groups may be missing
+-- whether a table may lack the cell's column; it may only lack the column of groups
 abbrev pub is_optional : Cell → Bool
 is_optional cells.Groups = true
 is_optional cell = false
@@ -119,7 +119,7 @@ is_read model cells.Pins5 text = are_pins 5 text
 is_read model cells.Pins6 text = are_pins 6 text
 is_read model cells.Bars text = is_some (readings_in text >>= exactly 27)
 
--- whether the cell's text can't be read, though the table has its column, or an option replaces it
+-- whether the cell's text can't be read, though the table has the cell's column, or an option for it
 abbrev pub is_faulty : OptionTexts → Columns → List (List ℕ) → Cell → Bool
 is_faulty options columns row cell =
     has_text options columns cell

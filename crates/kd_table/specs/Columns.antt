@@ -1,4 +1,4 @@
--- The columns of a table: which values they have, by their names in the table's first row.
+-- The columns of a table. The names in the table's first row say which values a column has.
 -- Test: tests/cases/curator-sheet.toml
 use Rattle.std.specs.Prelude.{codes, ℕ, ◌||◌, Bool, List, [], ◌∷◌, find, length, Option, Some, if◌then◌else◌}
 use Rattle.std.specs.List.{range_with_len}
@@ -10,7 +10,7 @@ use Rattle.kd_table.specs.declared.cell.Cell.{Cell}
 use Rattle.kd_table.specs.declared.cell.Cell.TheVariants as cells
 use Rattle.kd_table.specs.declared.columns.Columns.{Columns}
 
--- the text of a row in a column; empty if the table has no such column, or the row is too short
+-- The text of a row in a column. Empty if the table has no such column, or the row is too short.
 abbrev pub cell_at : Option ℕ → List (List ℕ) → List ℕ
 cell_at column row = option_map_or (λ text. text) (option_and_then (field_at row) column) []
 
@@ -58,7 +58,7 @@ german_name cells.Pins5 = codes "Stifte 5"
 german_name cells.Pins6 = codes "Stifte 6"
 german_name cells.Bars = codes "Stangen"
 
--- the short German name of a cell's column; its German name if there is no short one
+-- the short German name of a cell's column; if it has no short name, its German name
 abbrev pub short_name : Cell → List ℕ
 short_name cells.Reflector = codes "UKW"
 short_name cells.Wheels = codes "Walzen"
@@ -73,7 +73,7 @@ names_column cell text =
 
 -- ---- The columns of a table.
 
--- the first of 64 columns that has a name of the cell's column
+-- the first column, among 64, that has a name of the cell's column
 abbrev pub column_named : Cell → List (List ℕ) → Option ℕ
 column_named cell head = find (λ place. names_column cell (cell_at (Some place) head)) (range_with_len 0 64)
 
@@ -87,7 +87,7 @@ pin_columns head =
     ∷ column_named cells.Pins5 head
     ∷ column_named cells.Pins6 head ∷ []
 
--- the columns of a table whose first row is `head`: how many there are, and the place of each, counted from 0
+-- The columns of a table whose first row is `head`: their number, and the place of each, counted from 0.
 unfoldable pub columns_of : List (List ℕ) → Columns
 columns_of head = record {
   count = length head;

@@ -1,5 +1,5 @@
--- A key sheet to fill in: a section for each day, with `?` for each missing letter and number. A day with `?` is
--- refused, so that no forgotten day can be taken for a key.
+-- A key sheet to fill in. It has a section for each day, with `?` for each missing letter and number. A day with `?` is
+-- refused, so that a forgotten day can't be taken for a key.
 -- Test: tests/cases/curator-sheet.toml
 use Rattle.std.specs.Prelude.{codes, false, ℕ, List, [], ◌∷◌, ◌++◌, map, replicate}
 use Rattle.std.specs.List.{range_with_len}
@@ -15,12 +15,12 @@ use Rattle.kd_sheet.specs.declared.key.Key.TheVariants as keys
 unfoldable pub unknown_line : Key → ℕ → List ℕ
 unknown_line key count = key_line key (quoted_text (replicate count 63))
 
--- the line of a key whose array has `count` items to fill in, each written `item`
+-- the line of a key whose array has `count` items to fill in; each item is written as `item`
 unfoldable pub unknown_items_line : Key → ℕ → List ℕ → List ℕ
 unknown_items_line key count item = key_line key (array_text (replicate count item))
 
--- the lines of a rotor machine's day after its number and model, with ten pairs and four groups, as most sheets have
--- them
+-- The lines of a rotor machine's day, after its number and its model. They have ten pairs and four groups, as most
+-- sheets.
 abbrev pub empty_rotor_lines : ℕ → List (List ℕ)
 empty_rotor_lines slots =
     unknown_line keys.Reflector 1
@@ -31,7 +31,7 @@ empty_rotor_lines slots =
     ∷ unknown_items_line keys.Groups 4 (codes "???")
     ∷ []
 
--- the lines of a Converter's day after its number and model
+-- the lines of a Converter's day, after its number and its model
 abbrev pub empty_pin_lines : List (List ℕ)
 empty_pin_lines =
     unknown_line keys.List 2

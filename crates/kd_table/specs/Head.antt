@@ -1,10 +1,10 @@
--- The values that the notes on all rows of a table share; and a row with its place. No public contract cites these
--- definitions.
+-- The values that are the same for the notes on each row of a table. Then a row with its place. No public contract
+-- cites these definitions.
 use Rattle.std.specs.Prelude.{ℕ, List}
 use Rattle.kd_table.specs.declared.columns.Columns.{Columns}
 use Rattle.kd_table.specs.Options.{OptionTexts}
 
--- The options, the columns, and the table's first row, which names them.
+-- The options, the columns, and the table's first row, which has the columns' names.
 pub record Head : Type 0 where
   pub options : OptionTexts
   pub columns : Columns
@@ -13,7 +13,7 @@ pub record Head : Type 0 where
 abbrev pub head_of : OptionTexts → Columns → List (List ℕ) → Head
 head_of options columns names = record { options = options; columns = columns; names = names }
 
--- A row: its place, with which the lines on it begin, and its cells.
+-- A row: its cells, and its place, with which each line about the row begins.
 pub record PlacedRow : Type 0 where
   pub place : List ℕ
   pub cells : List (List ℕ)

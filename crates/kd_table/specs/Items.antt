@@ -1,5 +1,4 @@
--- The values in the cells of a table: numbers, wheels, letters, pairs and groups, with gaps between them (see
--- `is_gap`).
+-- The values in the cells of a table: numbers, wheels, letters, pairs and groups. Between them are gaps (see `is_gap`).
 -- Test: tests/cases/curator-sheet.toml
 use Rattle.std.specs.Prelude.{ℕ, nat_le, nat_eq, ◌+◌, ◌-◌, ◌*◌, ◌==◌, ◌&&◌, Bool, List, [], ◌∷◌, length, map, Option, Some, None}
 use Rattle.std.specs.Prelude.{if◌then◌else◌, false, not, filter}
@@ -13,37 +12,37 @@ use Rattle.kd_table.specs.Names.{capital, is_digit, is_gap, is_capital_letter, w
 abbrev pub is_blank : List ℕ → Bool
 is_blank cell = list_all is_gap cell
 
--- the byte in normal form: a space for a gap, a capital letter for a small one
+-- the byte in normal form: a space for a gap, a capital letter for a small letter, otherwise the byte
 abbrev pub normal : ℕ → ℕ
 normal byte = if is_gap byte then 32 else capital byte
 
--- How a cell is split into items of one sort: which bytes are kept though they are gaps, and which bytes are items by
--- themselves.
+-- How a cell is split into items of one sort. `keeps` says which gaps are kept, and `alone` says which bytes are items
+-- by themselves.
 pub record Bytes : Type 0 where
   pub keeps : ℕ → Bool
   pub alone : ℕ → Bool
 
--- The bytes of a cell in normal form, with a space after each byte that is an item by itself: letters `ABC` become `A B
--- C `.
+-- The bytes of a cell in normal form. A space follows each byte that is an item by itself: letters `ABC` become `A B C
+-- `.
 abbrev pub item_text : Bytes → List ℕ → List ℕ
 item_text bytes cell =
     flat_map (λ byte. if bytes.alone byte then byte ∷ 32 ∷ [] else byte ∷ [])
     (map (λ byte. if bytes.keeps byte then byte else normal byte) cell)
 
--- the words of a cell, some of them empty; `None` if the cell has more than 192 bytes or words
+-- The words of a cell; some words may be empty. `None` if the cell has more than 192 bytes, or more than 192 words.
 abbrev pub cell_words : Bytes → List ℕ → Option (List (List ℕ))
 cell_words bytes cell =
     if nat_le (length cell) 192 && nat_le (length (words_of (item_text bytes cell))) 192
     then Some (words_of (item_text bytes cell)) else None
 
--- the values of all words that aren't empty; `None` if one of them has no value
+-- The values of all words that aren't empty. `None` if one of these words has no value.
 abbrev pub values_of_words : {A : Type 0} → (List ℕ → Option A) → List (List ℕ) → Option (List A)
 values_of_words parse [] = Some []
 values_of_words parse ([] ∷ rest) = values_of_words parse rest
 values_of_words parse ((byte ∷ word) ∷ rest) =
     option_and_then (λ value. option_map (λ values. value ∷ values) (values_of_words parse rest)) (parse (byte ∷ word))
 
--- the values of a cell's words, by `parse`; `None` if a word has no value
+-- The values that `parse` finds in the words of a cell. `None` if a word has no value, or the cell is too long.
 abbrev pub values_in : {A : Type 0} → Bytes → (List ℕ → Option A) → List ℕ → Option (List A)
 values_in bytes parse cell = option_and_then (values_of_words parse) (cell_words bytes cell)
 
@@ -95,7 +94,7 @@ single _ = None
 abbrev pub words : Bytes
 words = record { keeps = λ byte. false; alone = λ byte. false }
 
--- the rule for letters, each an item by itself, and for words between gaps
+-- the rule for letters and words; each letter is an item by itself, and words stand between gaps
 abbrev pub letters : Bytes
 letters = record { keeps = λ byte. false; alone = is_capital_letter }
 
@@ -103,14 +102,14 @@ letters = record { keeps = λ byte. false; alone = is_capital_letter }
 abbrev pub hyphened : Bytes
 hyphened = record { keeps = λ byte. byte == 45; alone = λ byte. false }
 
--- the number in a cell; `None` if the cell has anything else
+-- the number in a cell; `None` if the cell has anything other than one number
 abbrev pub number_in : List ℕ → Option ℕ
 number_in cell = option_and_then single (values_in words number_of cell)
 
 abbrev pub wheels_in : List ℕ → Option (List (Option Wheel))
 wheels_in cell = values_in words slot_of cell
 
--- the letters in a cell, which may also be given as numbers: `ABC`, `a b c`, `01-02-03` and `1, 2, 3` mean the same
+-- The letters in a cell. They may also be numbers: `ABC`, `a b c`, `01-02-03` and `1, 2, 3` mean the same letters.
 abbrev pub letters_in : List ℕ → Option (List ℕ)
 letters_in cell = values_in letters ring_of_word cell
 

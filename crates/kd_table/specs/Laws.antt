@@ -1,4 +1,4 @@
--- What the laws of this crate state of tables: none is both accepted and refused, and none has two meanings.
+-- What the laws of this crate say about tables. No table is both accepted and refused, and none has two meanings.
 use Rattle.std.specs.Prelude.{◌≡◌, ℕ, List}
 use Rattle.kd_state.specs.SheetDay.{Day}
 use Rattle.kd_table.specs.Options.{OptionTexts}

@@ -1,6 +1,6 @@
--- Names of columns, models, wheels and reflectors in the cells of a table. Gaps don't count, nor does it matter whether
--- letters are capital or small: `Enigma I`, `ENIGMA I` and `enigma-i` name one model. Any other sign counts, so `III?`
--- isn't the name of a wheel.
+-- Names of columns, models, wheels and reflectors in the cells of a table. Gaps don't count, and small letters mean
+-- capitals: `Enigma I`, `ENIGMA I` and `enigma-i` name one model. Any other sign counts, so `III?` isn't the name of a
+-- wheel.
 -- Test: tests/cases/curator-sheet.toml
 use Rattle.std.specs.Prelude.{ℕ, nat_eq, nat_le, ◌-◌, ◌==◌, ◌&&◌, ◌||◌, not, Bool, false, List, [], ◌∷◌, ◌++◌, codes, length, map, filter, find}
 use Rattle.std.specs.Prelude.{bytes_eq, drop, take, Option}
@@ -21,12 +21,12 @@ is_digit byte = nat_le 48 byte && nat_le byte 57
 abbrev pub is_capital_letter : ℕ → Bool
 is_capital_letter byte = nat_le 65 byte && nat_le byte 90
 
--- whether the byte belongs to a no-break space, which is 160 in Windows-1252, and 194 and 160 in UTF-8
+-- Whether the byte belongs to a no-break space. This is 160 in Windows-1252, and 194 and 160 in UTF-8.
 abbrev pub is_no_break : ℕ → Bool
 is_no_break byte = nat_eq byte 160 || nat_eq byte 194
 
--- whether the byte is a gap between items: a blank, tab, line end, comma, hyphen, full stop, slash, semicolon, or part
--- of a no-break space
+-- Whether the byte is a gap between items. Gaps are blanks, tabs, line ends and no-break spaces. Commas, hyphens, full
+-- stops, slashes and semicolons are gaps, too.
 abbrev pub is_gap : ℕ → Bool
 is_gap byte =
     nat_eq byte 32 || nat_le 44 byte && nat_le byte 47 || nat_eq byte 59 || nat_le 9 byte && nat_le byte 13
@@ -36,12 +36,12 @@ is_gap byte =
 abbrev pub plain : List ℕ → List ℕ
 plain text = filter (λ byte. not (is_gap byte)) (map capital text)
 
--- whether the three bytes are a typographic quote in UTF-8, single or double, such as “
+-- whether the three bytes are a typographic quote in UTF-8, single or double, for example “
 abbrev pub is_quote : List ℕ → Bool
 is_quote (first ∷ second ∷ third ∷ []) = first == 0xE2 && second == 0x80 && (nat_le 0x98 third && nat_le third 0x9F)
 is_quote _ = false
 
--- the cell, without its pair of typographic quotes, if it has one
+-- the cell without its pair of typographic quotes, if it has such a pair
 abbrev pub unquoted : List ℕ → List ℕ
 unquoted cell =
     if nat_le 6 (length cell) && is_quote (take 3 cell) && is_quote (drop (length cell - 3) cell)
@@ -59,11 +59,11 @@ model_named cell = find (λ model. is_named (model_text model) cell) (EnigmaI �
 abbrev pub wheel_named : List ℕ → Option Wheel
 wheel_named word = find (λ wheel. is_named (wheel_text wheel) word) (box_of M4)
 
--- whether the cell has the name of a reflector, alone or after `UKW`, for *Umkehrwalze*
+-- whether the cell has the name of a reflector, alone or after `UKW` (*Umkehrwalze*)
 abbrev pub names_reflector : Reflector → List ℕ → Bool
 names_reflector reflector cell =
     is_named (reflector_text reflector) cell || is_named (codes "UKW" ++ reflector_text reflector) cell
 
--- the reflector of `model` with the name in the cell; on an M4, the letter B means the thin reflector b
+-- The reflector of `model` with the name in the cell. On an M4, the letter B means the thin reflector b.
 abbrev pub reflector_named : Model → List ℕ → Option Reflector
 reflector_named model cell = find (λ reflector. names_reflector reflector cell) (reflectors_of model)

@@ -1,6 +1,7 @@
--- The notes on a table on standard error. Those on unread columns are defined to the byte. In the notes on a refused
--- table, each row that isn't a day has a line that begins with its place, and so has each cell that can't be read. No
--- definition gives the words after the place.
+-- The notes on a table, on standard error. The notes on unread columns are defined to the byte. The notes on a refused
+-- table have a line for each cell that can't be read. They also have one for each row that isn't a day, unless the
+-- table lacks a column that the row needs. The line begins with the place of the cell or the row. No definition gives
+-- the words after the place.
 -- Test: tests/cases/curator-sheet.toml
 use Rattle.std.specs.Prelude.{◌≡◌, ◌<◌, ◌+◌, ◌==◌, ◌&&◌, ◌||◌, codes, decimal, nat_lt, ℕ, Bool, true, false, List, [], ◌∷◌, ◌++◌, drop, flat_map, length, map, slice_get, take, Option, Some, None, IfSome, IsTrue, if◌then◌else◌}
 use Rattle.std.specs.Io.KnownBytes.{Appends}
@@ -21,20 +22,21 @@ use Rattle.kd_table.specs.declared.columns.Columns.{Columns}
 
 -- ---- The port of the notes.
 
--- Any text was written to the port of the notes. If the port had failed before, it has failed.
+-- Some text was written to the port of the notes. If the port had failed before, it still has failed.
 pub record Tells (notes : Port) : Type 0 where
   pub text : List ℕ
   pub written : Appends notes.had notes.has text
   pub failed : IsTrue notes.had_failed → IsTrue notes.has_failed
 
--- `text` was written to the port of the notes, or a prefix of it if the port has failed.
+-- `text` was written to the port of the notes. If the port has failed, a prefix of `text` was written.
 pub record TellsText (notes : Port) (text : List ℕ) : Type 0 where
   pub whole : notes.has_failed ≡ false → Appends notes.had notes.has text
   pub part : (count : ℕ) × Appends notes.had notes.has (take count text)
 
 -- ---- What is shown of a cell: of a cell with more than 60 bytes, only the start.
 
--- the byte of a cell as it is shown: `?` if it can't be printed
+-- The byte of a cell as it is shown. `?` stands for a byte that can't be printed and, in a long cell, for each byte
+-- outside of ASCII.
 abbrev pub shown_byte : Bool → ℕ → ℕ
 shown_byte is_long byte = if nat_lt byte 32 || byte == 127 || is_long && nat_lt 127 byte then 63 else byte
 
@@ -43,7 +45,7 @@ shown cell =
     if nat_lt 60 (length cell) then map (shown_byte true) (take 60 cell) ++ codes "..."
     else map (shown_byte false) cell
 
--- a line of notes: a place, then words on it
+-- a line of notes: a place, then the words about it
 abbrev pub line_at : List ℕ → List ℕ → List ℕ
 line_at place words = place ++ words ++ 10 ∷ []
 
@@ -59,13 +61,13 @@ is_column_read columns place = list_any (is_at place) (places_of columns) || lis
 abbrev pub unread_words : List ℕ
 unread_words = codes ": this column isn't read\n"
 
--- the note on the column at `place`; nothing if the column has no name, or is read
+-- the note on the column at `place`; empty if the column has no name, or is read
 abbrev pub unread_line : List (List ℕ) → ℕ → List ℕ
 unread_line head place =
     if is_blank (cell_at (Some place) head) || is_column_read (columns_of head) place then []
     else codes "column " ++ shown (cell_at (Some place) head) ++ unread_words
 
--- the notes on all unread columns, of the first 64, in a table whose first row is `head`
+-- the notes on all unread columns, among the first 64, of a table whose first row is `head`
 unfoldable pub unread_note : List (List ℕ) → List ℕ
 unread_note head = flat_map (unread_line head) (range_with_len 0 64)
 
@@ -95,7 +97,7 @@ option_name cells.Reflector = codes "--reflector"
 option_name cells.Window = codes "--window"
 option_name cell = []
 
--- the name of a cell's column as it stands in the table; if there is no such column, the name of its option
+-- the name of a cell's column in the table; if there is no such column, the name of its option
 abbrev pub cell_name : Columns → List (List ℕ) → Cell → List ℕ
 cell_name columns head cell =
     option_map_or (λ place. shown (cell_at (Some place) head)) (column_of columns cell) (option_name cell)
@@ -104,8 +106,8 @@ cell_name columns head cell =
 abbrev pub cell_place : Columns → List (List ℕ) → List ℕ → Cell → List ℕ
 cell_place columns head row cell = row ++ cell_name columns head cell ++ codes ": "
 
--- The notes on these cells of a row: lines that begin with the place of their cell. There is at least one for each cell
--- that can't be read.
+-- The notes on these cells of a row. A line begins with the place of the cell that it is about. There is at least one
+-- line for each cell that can't be read.
 pub data TellsCells (options : OptionTexts) (columns : Columns) (head : List (List ℕ)) (place : List ℕ)
     (row : List (List ℕ)) : List Cell → List ℕ → Type 0 where
   NoCells : TellsCells options columns head place row [] []
@@ -115,8 +117,9 @@ pub data TellsCells (options : OptionTexts) (columns : Columns) (head : List (Li
       → TellsCells options columns head place row (cell ∷ rest)
       (flat_map (line_at (cell_place columns head place cell)) words ++ note)
 
--- The notes on a row: first on columns that the table lacks, then on the row's cells, then on the row as a whole. If
--- the row isn't a day, there is at least one note on the row or a cell, unless a column that the row needs is missing.
+-- The notes on a row. They are about columns that the table lacks, then about the row's cells, then about the row as a
+-- whole. If the row isn't a day, it has a note, or one of its cells has. If a column that the row needs is missing,
+-- there may be none.
 pub record TellsRow (options : OptionTexts) (columns : Columns) (head : List (List ℕ)) (number : ℕ)
     (row : List (List ℕ)) (note : List ℕ) : Type 0 where
   pub missing : List (List ℕ)
@@ -130,8 +133,8 @@ pub record TellsRow (options : OptionTexts) (columns : Columns) (head : List (Li
   pub some : IsNoDay (row_values options columns row) → has_columns options columns row ≡ true
       → 0 < length of_cells + length words
 
--- The notes on the rows under the first row `head`, in order. `numbers` are the rows' numbers. Blank rows are passed
--- over.
+-- The notes on the rows under the first row `head`, in order. `numbers` are the rows' numbers. Blank rows have no
+-- notes.
 pub data TellsRows (options : OptionTexts) (columns : Columns) (head : List (List ℕ)) (numbers : List ℕ)
     : List (List (List ℕ)) → List ℕ → Type 0 where
   NoneTold : TellsRows options columns head numbers [] []
@@ -150,8 +153,8 @@ quotes_note = codes "a quote isn't closed, or something follows the closing quot
 abbrev pub nothing_note : List ℕ
 nothing_note = codes "the table has no row with a day\n"
 
--- The notes on a refused table: a single line if its quotes are wrong, or it has no rows. Otherwise: the notes on
--- unread columns, on missing columns, and on each row; and a line if all rows are blank.
+-- The notes on a refused table. If its quotes are wrong, or it has no rows, they are a single line. Otherwise they are
+-- the notes on unread columns, on missing columns, and on each row. If all rows are blank, a line says so.
 pub data TellsTable (options : OptionTexts) (table : List ℕ) : List ℕ → Type 0 where
   OfQuotes : is_well_quoted table ≡ false → TellsTable options table quotes_note
   OfNothing : AreRows table [] → TellsTable options table nothing_note
@@ -168,8 +171,8 @@ TellsRefused options table notes = (text : List ℕ) × TellsTable options table
 
 -- ---- Reading row by row. No public contract cites these definitions.
 
--- The notes on a row's cells and on the row as a whole were appended: at least one if the row isn't a day, unless a
--- column that the row needs is missing.
+-- The notes on a row's cells, and on the row as a whole, were appended. There is at least one if the row isn't a day,
+-- and the table has each column that the row needs.
 pub record TellsPlacedRow (options : OptionTexts) (columns : Columns) (head : List (List ℕ)) (place : List ℕ)
     (row : List (List ℕ)) (old new : List ℕ) : Type 0 where
   pub of_cells : List ℕ
@@ -179,7 +182,8 @@ pub record TellsPlacedRow (options : OptionTexts) (columns : Columns) (head : Li
   pub some : IsNoDay (row_values options columns row) → has_columns options columns row ≡ true
       → 0 < length of_cells + length words
 
--- The notes on the rows under the first row `head` were appended, and a line if all rows are blank.
+-- The notes on the rows under the first row `head` were appended. If all these rows are blank, a line was appended,
+-- too.
 pub record HasRowsNote (options : OptionTexts) (columns : Columns) (head : List (List ℕ)) (table old new : List ℕ)
     : Type 0 where
   pub rows : List (List (List ℕ))

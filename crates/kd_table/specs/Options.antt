@@ -8,7 +8,7 @@ use Rattle.kd_table.specs.declared.options.TableOptions.{TableOptions}
 abbrev pub OptionTexts : Type 0
 OptionTexts = TableOptions (List ℕ)
 
--- the options, with texts in place of borrowed texts
+-- the options, with plain texts in place of borrowed texts
 abbrev pub texts_of : TableOptions (Bor (List ℕ)) → OptionTexts
 texts_of options =
     record { model = options.model.now; reflector = options.reflector.now; window = options.window.now }

@@ -11,15 +11,15 @@ use Rattle.kd_table.specs.Steps.{◌>>=◌}
 use Rattle.kd_table.specs.declared.columns.Columns.{Columns}
 use Rattle.kd_table.specs.Options.{OptionTexts}
 
--- The pins of a wheel with the letters `ring`, from the letters of its effective pins in a column. The table must have
--- the column.
+-- The pins of the wheel with the letters `ring`. The column has the letters of its effective pins. `None` if the table
+-- doesn't have the column.
 abbrev pub pins_at : List ℕ → Option ℕ → List (List ℕ) → Option (List Bool)
 pins_at ring column row = do
   place ← column
   text ← joined (cell_at (Some place) row)
   pins_of_text ring text
 
--- the pins of all six wheels; `one`, `two` and `three` are those of the first three
+-- The pins of all six wheels. `one`, `two` and `three` are the pins of the first three wheels.
 abbrev pub pins_after : List (Option ℕ) → List (List ℕ) → List Bool → List Bool → List Bool → Option PinSet
 pins_after columns row one two three = do
   four ← pins_at (ring_of 4) (slice_index_or columns 3 None) row

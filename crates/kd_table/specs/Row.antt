@@ -31,7 +31,7 @@ abbrev pub values_of_model : OptionTexts → Columns → List (List ℕ) → Mod
 values_of_model options columns row M209 = option_map Pin (pin_values options columns row)
 values_of_model options columns row model = option_map Rotor (rotor_values options columns row model)
 
--- whether a row has a cell in each column of the table, and nothing but blank cells beyond
+-- whether a row has a cell in each column of the table, and only blank cells beyond the last column
 abbrev pub fits_columns : Columns → List (List ℕ) → Bool
 fits_columns columns row =
     nat_le columns.count (length row)
@@ -43,7 +43,7 @@ cell_values options columns row = do
   model ← model_named (cell_or options.model columns.model row)
   values_of_model options columns row model
 
--- the values of the day in a row; `None` if the row ends before the last column, or goes beyond it
+-- The values of the day in a row. `None` if the row ends before the last column, or has texts beyond it.
 abbrev pub row_values : OptionTexts → Columns → List (List ℕ) → Option Day
 row_values options columns row = if fits_columns columns row then cell_values options columns row else None
 
@@ -52,7 +52,7 @@ pub record IsDayOfRow (options : OptionTexts) (columns : Columns) (row : List (L
   pub values : row_values options columns row ≡ Some day
   pub legal : IsLegalDay day
 
--- There are no values, or no legal day has them.
+-- There are no values, or there is no legal day with these values.
 abbrev pub IsNoDay : Option Day → Type 0
 IsNoDay None = ⊤
 IsNoDay (Some day) = ¬ IsLegalDay day

@@ -14,12 +14,13 @@ use Rattle.kd_table.specs.declared.quotes.Quoting.TheVariants.{CellStart}
 abbrev pub ends_line : ℕ → Bool
 ends_line byte = byte == 13 || byte == 10
 
--- a place between two bytes of a table: at the start of a row (the Bool: right after a CR), or within a row
+-- A place between two bytes of a table. `AtStart` is the start of a row, and says whether it is right after a CR.
+-- `Within` is a place within a row.
 pub data RowPlace : Type 0 where
   AtStart : Bool → RowPlace
   Within : Quoting → RowPlace
 
--- the numbers of the rows in these bytes, without empty rows. The bytes begin in row `number`.
+-- The numbers of the rows in these bytes. Empty rows are left out. The bytes begin in row `number`.
 abbrev pub numbers_from : ℕ → RowPlace → ℕ → List ℕ → List ℕ
 numbers_from separator place number [] = []
 numbers_from separator (AtStart after_return) number (byte ∷ bytes) =
@@ -30,7 +31,7 @@ numbers_from separator (Within quoting) number (byte ∷ bytes) =
     if ends_line byte && may_end quoting then numbers_from separator (AtStart (byte == 13)) (number + 1) bytes
     else numbers_from separator (Within (quoting_after_byte separator quoting byte)) number bytes
 
--- the numbers of a table's rows, without empty rows
+-- the numbers of a table's rows; empty rows are left out
 abbrev pub row_numbers : List ℕ → List ℕ
 row_numbers table = numbers_from (separator_of table) (AtStart false) 1 (strip_bom table)
 
@@ -40,11 +41,11 @@ row_numbers table = numbers_from (separator_of table) (AtStart false) 1 (strip_b
 abbrev pub numbers_left : RowNumbers → List ℕ
 numbers_left rows = numbers_from rows.separator (AtStart false) rows.number rows.rest.now
 
--- No bytes remain, or the row number is so small that it can't overflow.
+-- No bytes remain, or the number of the row is so small that it won't overflow.
 abbrev pub IsCounted : RowNumbers → Type 0
 IsCounted rows = (rows.rest.now ≡ []) ⊎ (rows.number + length rows.rest.now ≤ 2 ^ 64 - 2)
 
--- `number` is the first of the numbers `before`, and `after` are the others; or both lists are empty.
+-- `number` is the first of the numbers `before`, and `after` are the other numbers. Or both lists are empty.
 abbrev pub IsNext : List ℕ → ℕ → List ℕ → Type 0
 IsNext before number after = (before ≡ number ∷ after) ⊎ ((before ≡ []) × (after ≡ []))
 
@@ -59,7 +60,7 @@ pub record AreLineEnds (bytes : List ℕ) (count : ℕ) (left : List ℕ) : Type
       ≡ numbers_from separator (AtStart false) (number + count) left
   pub shorter : count + length left ≤ length bytes
 
--- The bytes are a row with its line end, then `left`; or both are empty.
+-- The bytes are a row with its line end, then `left`. Or there are no bytes, and `left` is empty, too.
 pub data IsRowBefore (separator : ℕ) (bytes left : List ℕ) : Type 0 where
   NoRow : bytes ≡ [] → left ≡ [] → IsRowBefore separator bytes left
   OneRow : ((number : ℕ) → numbers_from separator (AtStart false) number bytes

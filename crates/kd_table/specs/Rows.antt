@@ -11,12 +11,12 @@ use Rattle.kd_table.specs.declared.quotes.Quoting.TheVariants.{CellStart, Unquot
 abbrev pub is_separator : ℕ → Bool
 is_separator byte = byte == 44 || byte == 59 || byte == 9
 
--- the separator of a table's cells: the first byte of the table that may be one; a comma if there is none
+-- The separator of a table's cells: the table's first comma, semicolon or tab. If there is none, it is a comma.
 abbrev pub separator_of : List ℕ → ℕ
 separator_of table = option_map_or (λ byte. byte) (find is_separator table) 44
 
--- the settings of the reader: in a quoted cell, two quotes stand for one; a row ends with CR, LF or both; `separator`
--- stands between cells
+-- The settings of the reader. In a quoted cell, two quotes stand for one quote. A row ends with CR, LF or both.
+-- `separator` stands between cells.
 abbrev pub separated : ℕ → Config
 separated separator = record default_config { delimiter = separator }
 

@@ -1,9 +1,9 @@
--- How the steps of a `do` are read: they run in order, and `None` in a step is the result of the whole `do`.
+-- How the steps of a `do` are read. They run in order. If a step gives `None`, the whole `do` gives `None`.
 -- Code: `?` returns `None`.
 use Rattle.std.specs.Prelude.{Option}
 use Rattle.std.specs.Option.{option_and_then}
 
--- The result of `next` for a value; `None` stays `None`.
+-- the result of `next` for the value; `None` if there is no value
 infixl 10 ◌>>=◌
 abbrev pub ◌>>=◌ : {A B : Type 0} → Option A → (A → Option B) → Option B
 known >>= next = option_and_then next known

@@ -1,4 +1,4 @@
--- What a table means: the days in its rows; or it is refused.
+-- What a table means. It means the days in its rows, or it is refused.
 -- Test: tests/cases/curator-sheet.toml
 use Rattle.std.specs.Prelude.{◌≡◌, ◌⊎◌, ◌<◌, ◌==◌, ℕ, Bool, true, false, List, [], ◌∷◌, ◌++◌, length, Option, Some, None, Result, Ok, Err}
 use Rattle.std.specs.List.{list_any}
@@ -17,7 +17,7 @@ use Rattle.kd_table.specs.Options.{OptionTexts}
 abbrev pub is_taken : List Day → ℕ → Bool
 is_taken days number = list_any (λ day. day_number day == number) days
 
--- The rows under a table's first row have these days, in order. Blank rows have no day, and no two days have the same
+-- The rows under a table's first row have these days, in order. Blank rows have no day. No two days have the same
 -- number.
 pub data AreDaysOfRows (options : OptionTexts) (columns : Columns) : List (List (List ℕ)) → List Day → Type 0 where
   NoRows : AreDaysOfRows options columns [] []
@@ -27,13 +27,13 @@ pub data AreDaysOfRows (options : OptionTexts) (columns : Columns) : List (List 
       → AreDaysOfRows options columns rows days → is_blank_row columns row ≡ false → IsDayOfRow options columns row day
       → is_taken days (day_number day) ≡ false → AreDaysOfRows options columns (rows ++ row ∷ []) (days ++ day ∷ [])
 
--- The row isn't blank. It has no day, or a day with the number of one of `days`.
+-- The row isn't blank. It has no day, or a day whose number a day in `days` has, too.
 pub record IsRefusedRow (options : OptionTexts) (columns : Columns) (days : List Day) (row : List (List ℕ)) : Type 0 where
   pub filled : is_blank_row columns row ≡ false
   pub why : IsNoDay (row_values options columns row)
       ⊎ ((day : Day) × IsDayOfRow options columns row day × (is_taken days (day_number day) ≡ true))
 
--- A row is refused, and the rows before it are blank or have days.
+-- A row is refused. The rows before it are blank, or have days.
 pub record HasRefusedRow (options : OptionTexts) (columns : Columns) (rows : List (List (List ℕ))) : Type 0 where
   pub before : List (List (List ℕ))
   pub row : List (List ℕ)
@@ -47,7 +47,7 @@ pub record HasRefusedRow (options : OptionTexts) (columns : Columns) (rows : Lis
 abbrev pub AreRows : List ℕ → List (List (List ℕ)) → Type 0
 AreRows table rows = AreRecords (separated (separator_of table)) st.StartRecord (strip_bom table) rows
 
--- The table means these days: its rows have them, and there is at least one.
+-- The table means these days. Its rows have these days, and there is at least one day.
 pub record TableMeans (options : OptionTexts) (table : List ℕ) (days : List Day) : Type 0 where
   pub quoted : is_well_quoted table ≡ true
   pub head : List (List ℕ)
@@ -56,7 +56,7 @@ pub record TableMeans (options : OptionTexts) (table : List ℕ) (days : List Da
   pub described : AreDaysOfRows options (columns_of head) rows days
   pub some : 0 < length days
 
--- The table is refused: its quotes are wrong, a row is refused, or no row has a day.
+-- The table is refused. Its quotes are wrong, a row is refused, or no row has a day.
 pub data IsRefusedTable (options : OptionTexts) (table : List ℕ) : Type 0 where
   WrongQuotes : is_well_quoted table ≡ false → IsRefusedTable options table
   RefusedRow : (head : List (List ℕ)) (rows : List (List (List ℕ))) → AreRows table (head ∷ rows)
@@ -65,7 +65,7 @@ pub data IsRefusedTable (options : OptionTexts) (table : List ℕ) : Type 0 wher
       → AreDaysOfRows options (columns_of head) rows [] → IsRefusedTable options table
   NoFirstRow : AreRows table [] → IsRefusedTable options table
 
--- whether the answer is that the sink failed
+-- whether the answer is the fault that the sink failed
 abbrev pub is_device : {T : Type 0} → Result T SpreadsheetFault → Bool
 is_device (Ok done) = false
 is_device (Err Refused) = false
@@ -74,12 +74,14 @@ is_device (Err NoMemory) = false
 
 -- ---- Reading row by row. No public contract cites these definitions.
 
--- The state after the rows under the first row: they have these days or, if the Bool is true, one of them is refused.
+-- The state after the rows under the first row. If the Bool is false, these rows have these days. If it is true, one of
+-- these rows is refused.
 abbrev pub IsBodyRead : OptionTexts → Columns → List (List (List ℕ)) → List Day → Bool → Type 0
 IsBodyRead options columns rows days false = AreDaysOfRows options columns rows days
 IsBodyRead options columns rows days true = HasRefusedRow options columns rows
 
--- The state after these rows: nothing is known; or the columns of the first row, and the state after the others.
+-- The state after these rows. If there are no rows, nothing is known. Otherwise the columns of the first row are known,
+-- and the state after the other rows.
 abbrev pub IsRead : OptionTexts → List (List (List ℕ)) → Option Columns → List Day → Bool → Type 0
 IsRead options [] columns days refused = (columns ≡ None) × (days ≡ []) × (refused ≡ false)
 IsRead options (head ∷ rows) columns days refused =

@@ -39,7 +39,7 @@ pub enum Cell {
     Bars,
 }
 
-/// The cells for a rotor machine's day, except day and model.
+/// The cells for a rotor machine's day, except the day and the model.
 static ROTOR_CELLS: [Cell; 6] = [
     Cell::Reflector,
     Cell::Wheels,
@@ -49,7 +49,7 @@ static ROTOR_CELLS: [Cell; 6] = [
     Cell::Groups,
 ];
 
-/// The cells for a Converter's day, except day and model.
+/// The cells for a Converter's day, except the day and the model.
 static PIN_CELLS: [Cell; 9] = [
     Cell::List,
     Cell::Window,
@@ -62,7 +62,7 @@ static PIN_CELLS: [Cell; 9] = [
     Cell::Bars,
 ];
 
-/// The cells for a day of `model`, except day and model.
+/// The cells for a day of `model`, except the day and the model.
 pub fn cells_of(model: Model) -> &'static [Cell]
     ensures { result.now ≡ cells_of model }
 {
@@ -96,7 +96,7 @@ pub fn column_of(columns: &Columns, cell: Cell) -> Option<usize>
     }
 }
 
-/// The option that replaces `cell` if it is blank; empty if there is none.
+/// The option whose text replaces the blank `cell`; empty if there is none.
 pub fn option_of<'a>(options: &TableOptions<&'a [u8]>, cell: Cell) -> &'a [u8]
     ensures { result.now ≡ option_of (texts_of options.now) cell }
 {
@@ -108,7 +108,7 @@ pub fn option_of<'a>(options: &TableOptions<&'a [u8]>, cell: Cell) -> &'a [u8]
     }
 }
 
-/// The text of `cell` or, if it is blank, its option.
+/// The text of `cell` or, if `cell` is blank, the text of its option.
 pub fn text_of<'a>(
     options: &TableOptions<&'a [u8]>,
     columns: &Columns,
@@ -127,7 +127,7 @@ pub fn has_text(options: &TableOptions<&[u8]>, columns: &Columns, cell: Cell) ->
     column_of(columns, cell).is_some() || !is_blank(option_of(options, cell))
 }
 
-/// The model of `row`; `None` if its name can't be read.
+/// The model of `row`; `None` if the model's name can't be read.
 pub fn row_model(
     options: &TableOptions<&[u8]>,
     columns: &Columns,
@@ -153,21 +153,21 @@ pub fn known_cells(
     }
 }
 
-/// Whether a table may lack the column of `cell`: only the column of groups may be missing.
+/// Whether a table may lack the column of `cell`. It may only lack the column of groups.
 pub fn is_optional(cell: Cell) -> bool
     ensures { result ≡ is_optional cell }
 {
     matches!(cell, Cell::Groups)
 }
 
-/// Whether the table has the column of `cell`, or doesn't need it.
+/// Whether the table has the column of `cell` or an option for it, or doesn't need it.
 fn has_column(options: &TableOptions<&[u8]>, columns: &Columns, cell: Cell) -> bool
     ensures { result ≡ (is_optional cell || has_text (texts_of options.now) columns.now cell) }
 {
     is_optional(cell) || has_text(options, columns, cell)
 }
 
-/// Whether the table has each column of `cells` that it needs.
+/// Whether the table has what it needs for each of `cells`: a column, or an option.
 fn has_each_column(options: &TableOptions<&[u8]>, columns: &Columns, cells: &[Cell]) -> bool
     ensures { result ≡ list_all
         (λ cell. is_optional cell || has_text (texts_of options.now) columns.now cell) cells.now }
@@ -237,7 +237,7 @@ fn are_exactly<T>(values: &Option<Values<T>>, count: usize) -> bool
     }
 }
 
-/// Whether `text` can be read as the effective pins of the wheel `ring`.
+/// Whether `text` can be read as the effective pins of the wheel with the letters `ring`.
 fn are_pins<const N: usize>(ring: &Ring<N>, text: &[u8]) -> bool
     ensures { result ≡ is_some (option_and_then (pins_of_text ring.now) (joined text.now)) }
 {

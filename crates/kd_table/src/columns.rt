@@ -13,8 +13,8 @@ use csv::ByteRecord;
 /// The most columns that are read.
 pub const COLUMNS: usize = 64;
 
-/// The number of a table's columns, and the places of those that are read, counted from 0. `None` for a column that the
-/// table doesn't have.
+/// The number of a table's columns, and the places of the columns that are read. Places are counted from 0. A column
+/// that the table doesn't have is `None`.
 #[derive(Clone, Copy)]
 pub struct Columns {
     pub count: usize,
@@ -99,7 +99,7 @@ pub fn german_name(cell: Cell) -> &'static str
     }
 }
 
-/// The short German name of the column of `cell`; its German name if there is no short one.
+/// The short German name of the column of `cell`. If it has no short name, its German name.
 pub fn short_name(cell: Cell) -> &'static str
     ensures name { result.now ≡ short_name cell }
     ensures short { length result.now ≤ 32 }
@@ -122,7 +122,7 @@ fn names_column(cell: Cell, text: &[u8]) -> bool
         || is_named(short_name(cell), text)
 }
 
-/// The first of `count` columns, from place `place` on, that has a name of the column of `cell`.
+/// The first column that has a name of the column of `cell`. It is one of `count` columns, from place `place` on.
 fn column_from(head: &ByteRecord, cell: Cell, place: usize, count: usize) -> Option<usize>
     requires { place + count ≤ 64 }
     ensures { result ≡ find (λ at. names_column cell (cell_at (Some at) (fields_of head.now)))

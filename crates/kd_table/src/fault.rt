@@ -1,7 +1,7 @@
 //! `SpreadsheetFault`: why no key sheet is made of a table.
 use thiserror::Error;
 
-/// Why no key sheet is written, or only a prefix of it.
+/// Why no key sheet, or only a prefix of it, is written.
 #[derive(Clone, Copy, Debug, PartialEq, Eq, Error)]
 pub enum SpreadsheetFault {
     /// The table has faults, and notes on them were written.

@@ -32,7 +32,7 @@ pub fn is_blank(cell: &[u8]) -> bool
     true
 }
 
-/// The byte in normal form: a space for a gap, a capital letter for a small one.
+/// The byte in normal form: a space for a gap, a capital letter for a small letter, otherwise the byte.
 pub fn normal(byte: u8) -> u8
     ensures { result ≡ normal byte }
 {
@@ -41,13 +41,13 @@ pub fn normal(byte: u8) -> u8
 
 /// A value that a word in a cell can mean.
 pub trait FromWord {
-    /// Which bytes are kept though they are gaps, and which bytes are items by themselves.
+    /// Which gaps are kept, and which bytes are items by themselves.
     ghost bytes: { Bytes };
 
     /// The value of a word; `None` if it has none.
     ghost parse: { List ℕ → Option Self };
 
-    /// Whether `byte` is kept though it may be a gap.
+    /// Whether `byte` is kept, even if it is a gap.
     fn is_kept(byte: u8) -> bool
         ensures { result ≡ bytes.keeps byte };
 
@@ -60,7 +60,7 @@ pub trait FromWord {
         ensures { result ≡ parse word.now };
 }
 
-/// Appends the bytes of `cell` in normal form, with a space after each byte that is an item by itself.
+/// Appends the bytes of `cell` in normal form. A space follows each byte that is an item by itself.
 pub fn push_item_text<T: FromWord>(text: &mut ArrayVec<u8, 384>, cell: &[u8])
     requires { length text.old.items + 2 * length cell.now ≤ 384 }
     ensures { text.new.items ≡ text.old.items ++ item_text T.bytes cell.now }
@@ -76,7 +76,7 @@ pub fn push_item_text<T: FromWord>(text: &mut ArrayVec<u8, 384>, cell: &[u8])
     }
 }
 
-/// Appends the values of all words that aren't empty. `None` if one of them has no value.
+/// Appends the values of all words that aren't empty. `None` if one of these words has no value.
 fn push_values<T: FromWord + Copy + Default>(values: &mut Values<T>, words: &[&[u8]]) -> Option<()>
     requires { length values.old.items + length words.now ≤ 192 }
     ensures { option_map (λ _. values.new.items) result
@@ -94,7 +94,7 @@ fn push_values<T: FromWord + Copy + Default>(values: &mut Values<T>, words: &[&[
     }
 }
 
-/// The values of a cell's words; `None` if a word has no value, or the cell is too long.
+/// The values of a cell's words. `None` if a word has no value, or the cell is too long.
 pub fn values_in<T: FromWord + Copy + Default>(cell: &[u8]) -> Option<Values<T>>
     ensures { option_map (λ values. values.items) result ≡ values_in T.bytes T.parse cell.now }
 {
@@ -183,7 +183,7 @@ impl FromWord for Option<Wheel> {
     }
 }
 
-/// A letter, given as itself, or as a number from 1 (A) to 26 (Z).
+/// A letter, which is read as itself, or as a number from 1 (A) to 26 (Z).
 impl FromWord for Letter {
     ghost bytes = { letters };
 
@@ -275,7 +275,7 @@ impl FromWord for Reading {
     }
 }
 
-/// The number in a cell; `None` if the cell has anything else.
+/// The number in a cell. `None` if the cell has anything other than one number.
 pub fn number_in(cell: &[u8]) -> Option<u8>
     ensures { result ≡ number_in cell.now }
 {

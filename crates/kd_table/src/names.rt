@@ -39,8 +39,8 @@ fn is_no_break(byte: u8) -> bool
     byte == 160 || byte == 194
 }
 
-/// Whether `byte` is a gap between items: a blank, tab, line end, comma, hyphen, full stop, slash, semicolon, or part
-/// of a no-break space.
+/// Whether `byte` is a gap between items. Gaps are blanks, tabs, line ends and no-break spaces. Commas, hyphens, full
+/// stops, slashes and semicolons are gaps, too.
 pub fn is_gap(byte: u8) -> bool
     ensures { result ≡ is_gap byte }
 {
@@ -65,7 +65,7 @@ fn push_plain(name: &mut ArrayVec<u8, 32>, text: &[u8])
     }
 }
 
-/// `text` in capital letters, without gaps.
+/// `text`, which has at most 32 bytes, in capital letters, without gaps.
 fn plain(text: &[u8]) -> ArrayVec<u8, 32>
     requires { length text.now ≤ 32 }
     ensures { result.items ≡ plain text.now }
@@ -75,7 +75,7 @@ fn plain(text: &[u8]) -> ArrayVec<u8, 32>
     name
 }
 
-/// Whether the bytes are a typographic quote in UTF-8, single or double, such as “.
+/// Whether the bytes are a typographic quote in UTF-8, single or double, for example “.
 fn is_quote(bytes: &[u8]) -> bool
     ensures { result ≡ is_quote bytes.now }
 {
@@ -87,7 +87,7 @@ fn is_quote(bytes: &[u8]) -> bool
     }
 }
 
-/// `cell` without its pair of typographic quotes, if it has one.
+/// `cell` without its pair of typographic quotes, if it has such a pair.
 fn unquoted(cell: &[u8]) -> &[u8]
     ensures value { result.now ≡ unquoted cell.now }
     ensures short { length result.now ≤ length cell.now }
@@ -149,7 +149,7 @@ pub fn wheel_named(word: &[u8]) -> Option<Wheel>
     wheel_among(Model::M4.wheels(), word)
 }
 
-/// The name of a reflector after `UKW`, for *Umkehrwalze*.
+/// The name of a reflector after `UKW` (*Umkehrwalze*).
 fn long_name(reflector: Reflector) -> &'static str
     ensures name { result.now ≡ codes "UKW" ++ reflector_text reflector }
     ensures short { length result.now ≤ 32 }

@@ -50,10 +50,10 @@ pub fn put_note<N: Sink>(notes: &mut N, note: &[u8])
     let _ = put_all(notes, note);
 }
 
-/// The note on a table whose rows under the first row are all blank.
+/// The note on a table in which no row under the first row has anything.
 const NO_DAY: &str = "the table has no row with a day";
 
-/// Appends the notes on the first row: on unread columns, and on missing columns that any table needs.
+/// Appends the notes on unread columns, and on missing columns that each table needs.
 fn push_head(note: &mut Vec<u8>, head: &Head<'_>) -> Result<(), SpreadsheetFault>
     ensures { IfOk result (λ _. (missing : List (List ℕ)) × (note.new.items ≡ note.old.items
         ++ (unread_note head.now.names ++ flat_map (line_at (codes "row 1: ")) missing))) }
@@ -63,7 +63,7 @@ fn push_head(note: &mut Vec<u8>, head: &Head<'_>) -> Result<(), SpreadsheetFault
     push_words(note, b"row 1: ", &missing_columns(head))
 }
 
-/// Appends the notes on a row under the first row; none if it is blank.
+/// Appends the notes on a row under the first row. A blank row has none.
 fn push_body_row(
     note: &mut Vec<u8>,
     found: &mut Found,
@@ -84,14 +84,14 @@ fn push_body_row(
     push_row(note, found, head, number, row)
 }
 
-/// Whether `row` is blank, if `blank` says that all rows before it are.
+/// Whether `row` is blank, too. `blank` says whether all rows before it are.
 fn is_still_blank(blank: bool, head: &Head<'_>, row: &ByteRecord) -> bool
     ensures { result ≡ (blank && is_blank_row head.now.columns (fields_of row.now)) }
 {
     blank && is_blank_row(head.columns(), row)
 }
 
-/// Appends the notes on the rows under the first row.
+/// Appends the notes on the rows under the first row, and a line if all are blank.
 fn push_rows(
     note: &mut Vec<u8>,
     table: &[u8],
@@ -134,7 +134,7 @@ fn push_table(
     push_rows(note, table, &head, rows)
 }
 
-/// The notes on a refused table: on unread columns, and at least one line for each row that isn't a day.
+/// The notes on a refused table. They are about its quotes, unread columns, missing columns, and its rows.
 pub fn refused_note(
     alloc: Global,
     table: &[u8],

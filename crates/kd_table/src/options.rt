@@ -1,6 +1,6 @@
 //! Texts that replace blank or missing cells.
 
-/// Texts that replace blank or missing cells; an empty text replaces nothing.
+/// Texts that replace blank or missing cells. An empty text replaces nothing.
 #[derive(Drop)]
 pub struct TableOptions<T> {
     /// The name of the model.

@@ -17,7 +17,7 @@ use kd_sheet::pins_of_text;
 use kd_state::SheetDay;
 use kd_tables::{Letter, Reading, Ring, ring1, ring2, ring3, ring4, ring5, ring6};
 
-/// The pins of the wheel with the letters `ring`, from the letters of its effective pins in `column`.
+/// The pins of the wheel with the letters `ring`. `column` has the letters of its effective pins.
 fn pins_at<const N: usize>(
     ring: &Ring<N>,
     column: Option<usize>,
@@ -30,7 +30,7 @@ fn pins_at<const N: usize>(
     pins_of_text(ring, text.as_slice())
 }
 
-/// The pins of all six wheels; `one`, `two` and `three` are those of the first three.
+/// The pins of all six wheels. `one`, `two` and `three` are the pins of the first three wheels.
 fn pins_after(
     columns: &Columns,
     row: &ByteRecord,
@@ -64,7 +64,7 @@ fn pins_in(columns: &Columns, row: &ByteRecord) -> Option<PinSet>
     pins_after(columns, row, w1, w2, w3)
 }
 
-/// The letters in a cell, if there are exactly `N`.
+/// The letters in a cell, if there are exactly `N` of them.
 fn letters_in<const N: usize>(text: &[u8]) -> Option<[Letter; N]>
     ensures { result ≡ option_and_then (exactly N) (letters_in text.now) }
 {

@@ -13,9 +13,9 @@ pub enum Quoting {
     Unquoted,
     /// Within a quoted cell.
     Quoted,
-    /// After a quote in a quoted cell, which ends the cell unless another quote follows.
+    /// After a quote in a quoted cell. The cell ends there, unless another quote follows.
     Closed,
-    /// After a closed quoted cell and a byte that doesn't end a cell.
+    /// After a closed quoted cell that another byte follows, though this byte doesn't end a cell.
     Wrong,
 }
 
@@ -38,7 +38,7 @@ fn first_separator(table: &[u8]) -> Option<u8>
     None
 }
 
-/// The separator of the cells of `table`: its first comma, semicolon or tab; a comma if there is none.
+/// The separator of the cells of `table`: its first comma, semicolon or tab. If there is none, it is a comma.
 pub fn separator_of(table: &[u8]) -> u8
     ensures { result ≡ separator_of table.now }
 {
@@ -55,7 +55,8 @@ fn ends_cell(separator: u8, byte: u8) -> bool
     byte == separator || byte == 13 || byte == 10
 }
 
-/// The state of quotes after `byte`, outside of quotes: `CellStart` if `byte` ends a cell; otherwise `otherwise`.
+/// The state of quotes after `byte`, which isn't in a quoted cell. It is `CellStart` if `byte` ends a cell; else
+/// `otherwise`.
 fn after_unquoted(separator: u8, byte: u8, otherwise: Quoting) -> Quoting
     ensures { result ≡ (if ends_cell separator byte then Quoting.CellStart else otherwise) }
 {

@@ -18,7 +18,7 @@ use std::alloc::Global;
 pub struct Reading {
     /// The columns, after the first row.
     pub columns: Option<Columns>,
-    /// The days of the rows so far, each with a number of its own.
+    /// The days of the rows so far. No two of them have the same number.
     pub days: Vec<SheetDay>,
     /// Whether a row was refused.
     pub refused: bool,
@@ -34,7 +34,7 @@ fn is_taken(days: &[SheetDay], number: u8) -> bool
     }
 }
 
-/// Reads a row under the first row, and appends its day. Returns whether this row or an earlier one is refused.
+/// Reads a row under the first row, and appends its day. Returns whether a row is refused: this one, or an earlier one.
 fn read_body_row(
     days: &mut Vec<SheetDay>,
     refused: bool,

@@ -15,7 +15,8 @@ use csv::ByteRecord;
 use kd_state::{SheetDay, SheetWheel};
 use kd_tables::{Letter, Model, Wheel};
 
-/// Appends each wheel with its ring and its window letter. `None` unless there are equally many of each.
+/// Appends each wheel, with its ring and its window letter. `None` if there aren't equally many wheels, rings and
+/// letters.
 fn push_wheels(
     wheels: &mut Values<SheetWheel>,
     names: &[Option<Wheel>],
@@ -40,7 +41,7 @@ fn push_wheels(
     }
 }
 
-/// Each wheel with its ring and its window letter. `None` unless there are equally many of each.
+/// Each wheel, with its ring and its window letter. `None` if there aren't equally many wheels, rings and letters.
 fn wheels_with(
     names: &Values<Option<Wheel>>,
     rings: &Values<Letter>,
@@ -74,7 +75,7 @@ fn seated_in(
     wheels_with(&names, &rings, &letters)
 }
 
-/// The plugged pairs of a row. `None` if the table doesn't have their column.
+/// The plugged pairs of a row. `None` if the table doesn't have the column of pairs.
 fn plugs_in(columns: &Columns, row: &ByteRecord) -> Option<Values<(Letter, Letter)>>
     ensures { option_map (λ pairs. pairs.items) result ≡ plugs_in columns.now (fields_of row.now) }
 {

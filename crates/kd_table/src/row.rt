@@ -59,7 +59,7 @@ fn are_blank(row: &ByteRecord, start: usize, end: usize) -> bool
     (start..end).all(|place| is_blank(cell_at(row, Some(place))))
 }
 
-/// Whether `row` has a cell in each column of the table, and nothing but blank cells beyond.
+/// Whether `row` has a cell in each column of the table, and only blank cells beyond the last column.
 fn fits_columns(columns: &Columns, row: &ByteRecord) -> bool
     ensures { result ≡ fits_columns columns.now (fields_of row.now) }
 {

@@ -47,8 +47,8 @@ fn read_days(
     Ok(days)
 }
 
-/// Writes the notes on a table, if `fault` is that it is refused. Returns `fault`, or `NoMemory` if memory runs out for
-/// the notes.
+/// If `fault` is `Refused`, writes the notes on the table. Returns `fault`, or `NoMemory` if memory runs out for the
+/// notes.
 fn tell_refused<N: Sink>(
     fault: SpreadsheetFault,
     alloc: Global,
@@ -85,9 +85,9 @@ fn note_of_columns(alloc: Global, table: &[u8]) -> Result<Vec<u8>, SpreadsheetFa
 
 /// Writes the key sheet with the days of `table`.
 ///
-/// `Refused` if the table is refused: nothing is written, and `notes` gets a line for each fault. On `Device`, the sink
-/// has taken a prefix of the sheet. `notes` also gets a line for each unread column. On `NoMemory`, nothing is written,
-/// and lines may be missing in `notes`.
+/// `Refused` means that the table is refused: nothing is written, and `notes` gets lines about its faults. On `Device`,
+/// the sink has taken a prefix of the sheet. If the table isn't refused, `notes` gets a line for each unread column. On
+/// `NoMemory`, nothing is written, and lines may be missing in `notes`.
 pub fn run_sheet<W: Sink, N: Sink>(
     alloc: Global,
     table: &[u8],

@@ -81,7 +81,7 @@ fn push_rotor_day(text: &mut FileString, entry: &RotorEntry)
     push_plugs_lines(text, entry);
 }
 
-/// Appends the lines of a Converter's day after its number and model.
+/// Appends the lines of a Converter's day, after its number and its model.
 fn push_converter_lines(text: &mut FileString, entry: &PinEntry)
     requires legal { IsLegalPinDay (pin_values entry.now) }
     requires room { array_string_len text.old ≤ 64 }
@@ -103,7 +103,7 @@ fn push_pin_day(text: &mut FileString, entry: &PinEntry)
     push_converter_lines(text, entry);
 }
 
-/// The section of `day`: the line `[[day]]`, and the day's lines. An empty line comes first if `started`.
+/// The section of `day`: the line `[[day]]`, and the day's lines. If `started`, an empty line comes first.
 fn section_of(started: bool, day: &SheetDay) -> FileString
     ensures { result.bytes ≡ section_text started (day_lines day.now) }
 {
@@ -116,7 +116,7 @@ fn section_of(started: bool, day: &SheetDay) -> FileString
     text
 }
 
-/// Writes the sections of `days`; an empty line comes first if `started`.
+/// Writes the sections of `days`. If `started`, an empty line comes first.
 fn put_sections<W: Sink>(sink: &mut W, started: bool, days: &[SheetDay]) -> Result<(), Device>
     ensures text { Writes (W.taken sink.old) (W.taken sink.new)
         (sections_text started (map day_lines days.now)) result }
@@ -137,8 +137,8 @@ fn put_sections<W: Sink>(sink: &mut W, started: bool, days: &[SheetDay]) -> Resu
 /// Writes the key sheet with the days `days`, in this order.
 ///
 /// On the fault `Device`, the sink has taken a prefix of the text. If there is a day, and all days have different
-/// numbers, `read_sheet` reads exactly these days in the text: see the law `written_sheets_are_read_back` of
-/// `kd_sheet`.
+/// numbers, `read_sheet` reads exactly these days in the text. The law `written_sheets_are_read_back` of `kd_sheet`
+/// says so.
 #[tactic(auto, unfolding(kd_sheet::specs::SheetText::sheet_text))]
 pub fn write_sheet<W: Sink>(sink: &mut W, days: &[SheetDay]) -> Result<(), Device>
     ensures text { Writes (W.taken sink.old) (W.taken sink.new) (sheet_text days.now) result }

@@ -39,7 +39,8 @@ pub fn cell_words(cell: Cell, model: Option<Model>, text: &[u8]) -> Words {
     words
 }
 
-/// Says which words of `text` have no value, in the words `what`, such as " isn't a wheel"; or that the cell is blank.
+/// Says which words of `text` have no value, or that the cell is blank or too long. `what` follows each of the words,
+/// for example " isn't a wheel".
 pub fn item_words<T: FromWord + Copy>(lines: &mut Words, text: &[u8], what: &str) {
     if is_blank(text) {
         lines.tell(NOTHING);
@@ -48,7 +49,7 @@ pub fn item_words<T: FromWord + Copy>(lines: &mut Words, text: &[u8], what: &str
     }
 }
 
-/// Says which words of `text` have no value, in the words `what`. Returns false if the cell is too long.
+/// Says which words of `text` have no value. `what` follows each of them. Returns false if the cell is too long.
 fn has_told_words<T: FromWord + Copy>(lines: &mut Words, text: &[u8], what: &str) -> bool {
     if text.len() > CELL_LIMIT {
         return false;
@@ -64,7 +65,7 @@ fn has_told_words<T: FromWord + Copy>(lines: &mut Words, text: &[u8], what: &str
     }
 }
 
-/// Says of each of `words` without a value what it isn't, in the words `what`.
+/// Writes a line for each word in `words` that has no value: the word, then `what`.
 fn tell_words<T: FromWord + Copy>(lines: &mut Words, words: &[&[u8]], what: &str) {
     for word in words {
         if !word.is_empty() && T::read_word(word).is_none() {
@@ -73,7 +74,7 @@ fn tell_words<T: FromWord + Copy>(lines: &mut Words, words: &[&[u8]], what: &str
     }
 }
 
-/// Says that there are `found` things where `count` are needed. `one` and `many` are the things' name.
+/// Says that there are `found` things, where `count` are needed. `one` and `many` are the name of these things.
 fn count_words(lines: &mut Words, found: usize, count: usize, one: &str, many: &str) {
     lines.begin();
     lines.add_number(found as u64);
@@ -116,7 +117,7 @@ fn reflector_words(lines: &mut Words, model: Option<Model>, text: &[u8]) {
     }
 }
 
-/// Says which words aren't letters, or how many letters there are where `count` are needed.
+/// Says which words mean no letter, or that the number of letters isn't `count`.
 fn letter_words(lines: &mut Words, text: &[u8], count: usize) {
     match values_in::<Letter>(text) {
         Some(letters) if letters.len() == count => {}
@@ -170,8 +171,8 @@ fn wheel_words(lines: &mut Words, model: Option<Model>, text: &[u8]) {
     }
 }
 
-/// Says which wheels aren't in the model's box, and which stand twice. If the row has a wheel for each slot
-/// (`is_whole`), also says which can't be in their slots.
+/// Says which wheels aren't in the model's box, and which are there twice. If there is a wheel for each slot
+/// (`is_whole`), also says which wheels can't be in their slots.
 fn seat_words(lines: &mut Words, wheels: &[Option<Wheel>], model: Model, is_whole: bool) {
     for (index, wheel) in wheels.iter().enumerate() {
         if let Some(wheel) = *wheel {
@@ -188,7 +189,7 @@ fn seat_words(lines: &mut Words, wheels: &[Option<Wheel>], model: Model, is_whol
     }
 }
 
-/// Says that `wheel` isn't in the model's box, or that it can't be in slot `slot`; 0 if the slot isn't known.
+/// Says that `wheel` isn't in the model's box, or can't be in slot `slot`. If the slot isn't known, `slot` is 0.
 fn one_seat_words(lines: &mut Words, wheel: Wheel, model: Model, slot: u8) {
     if !in_box(model, wheel) {
         one_wheel_words(lines, wheel, no_box_rule(model));

@@ -1,4 +1,4 @@
-//! What the rows so far have: needed for notes on later rows.
+//! What was found in the rows so far. The notes on later rows need it.
 use super::cell_words::day_words;
 use super::head::Head;
 use super::head_words::missing_of_model;
@@ -9,10 +9,10 @@ use arrayvec::ArrayVec;
 use csv::ByteRecord;
 use kd_tables::Model;
 
-/// What the rows so far have: needed for notes on later rows.
+/// What was found in the rows so far. The notes on later rows need it.
 #[derive(Drop)]
 pub struct Found {
-    /// For each day, the number of the first row that has it; 0 if no row has it.
+    /// For each day, the number of the first row that has this day. 0 if no row has it.
     rows: [u64; 32],
     /// The models for which there are already notes on missing columns.
     models: ArrayVec<Option<Model>, 4>,
@@ -27,7 +27,8 @@ impl Found {
         }
     }
 
-    /// Says which columns the row needs that the table doesn't have; only at the first row of each model.
+    /// Says which columns the row needs, though the table doesn't have them. This is said only at the first row of each
+    /// model.
     pub fn missing(&mut self, head: &Head<'_>, row: &ByteRecord) -> Words {
         match row_model(head.options(), head.columns(), row) {
             Some(model) if !self.models.as_slice().contains(&Some(model)) => {
@@ -38,7 +39,7 @@ impl Found {
         }
     }
 
-    /// Says what is wrong with the day of row `number`: it can't be read, or an earlier row has it.
+    /// Says that the day of row `number` can't be read, or that an earlier row has this day.
     pub fn day_words(&mut self, columns: &Columns, row: &ByteRecord, number: u64) -> Words {
         let mut lines = Words::new();
         if columns.day.is_none() {

@@ -4,8 +4,8 @@ use crate::options::TableOptions;
 use csv::ByteRecord;
 use std::alloc::Global;
 
-/// The values that the notes on all rows of a table share: the options, the columns, and the first row, with the
-/// columns' names.
+/// The values that are the same for the notes on each row of a table. These are the options, the columns, and the first
+/// row, which has the columns' names.
 #[derive(Drop)]
 pub struct Head<'a> {
     alloc: Global,
@@ -75,7 +75,7 @@ impl<'a> Head<'a> {
     }
 }
 
-/// A row, and its place, with which the lines on it begin.
+/// A row, and its place, with which each line about the row begins.
 #[derive(Drop)]
 pub struct PlacedRow<'a> {
     place: &'a [u8],

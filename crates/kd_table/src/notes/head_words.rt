@@ -1,4 +1,4 @@
-//! The words for columns that a table doesn't have, or for why its first row names none.
+//! The words that say which columns a table lacks, or why its first row has no column names.
 use super::head::Head;
 use super::near_names::near_column;
 use super::note::option_name;
@@ -9,10 +9,10 @@ use crate::names::is_named;
 use crate::row::places_of;
 use kd_tables::Model;
 
-/// The columns that any table needs, unless an option replaces them.
+/// The columns that each table needs, unless an option replaces them.
 static NEEDED: [Cell; 2] = [Cell::Day, Cell::Model];
 
-/// Columns of most tables. Their names show which language the table is in.
+/// Columns that most tables have. Their names show the language of the table.
 static OFTEN_NAMED: [Cell; 5] = [
     Cell::Day,
     Cell::Wheels,
@@ -21,7 +21,7 @@ static OFTEN_NAMED: [Cell; 5] = [
     Cell::Bars,
 ];
 
-/// Says which columns are missing that any table needs, or why the first row names none.
+/// Says which columns are missing that each table needs. If the first row has no column names, says why.
 pub fn missing_columns(head: &Head<'_>) -> Words {
     if names_none(head.columns()) {
         let mut lines = Words::new();
@@ -31,7 +31,7 @@ pub fn missing_columns(head: &Head<'_>) -> Words {
     missing_among(head, &NEEDED)
 }
 
-/// Says which columns are missing that a day of `model` needs. Nothing if the first row names no column.
+/// Says which columns are missing that a day of `model` needs. If the first row has no column names, says nothing.
 pub fn missing_of_model(head: &Head<'_>, model: Model) -> Words {
     if names_none(head.columns()) {
         return Words::new();
@@ -39,7 +39,7 @@ pub fn missing_of_model(head: &Head<'_>, model: Model) -> Words {
     missing_among(head, cells_of(model))
 }
 
-/// Whether the first row names none of the columns that are read.
+/// Whether the first row has no name of a column that is read.
 fn names_none(columns: &Columns) -> bool {
     are_missing(&places_of(columns)) && are_missing(&columns.pins)
 }
@@ -54,7 +54,7 @@ fn are_missing(columns: &[Option<usize>]) -> bool {
     true
 }
 
-/// The reason why a first row that begins with `cell` names no column.
+/// The reason why the first row, which begins with `cell`, has no column names.
 fn nameless_words(cell: &[u8]) -> &'static str {
     if is_utf16(cell) {
         return "this table is in UTF-16: save it as CSV in UTF-8";
@@ -65,12 +65,12 @@ fn nameless_words(cell: &[u8]) -> &'static str {
     "this row doesn't have the names of the columns, such as day (in German Tag)"
 }
 
-/// Whether `cell`, the first of a table, begins with the byte order mark of UTF-16.
+/// Whether `cell`, the first cell of a table, begins with the byte order mark of UTF-16.
 fn is_utf16(cell: &[u8]) -> bool {
     matches!(cell, [0xFF, 0xFE, ..] | [0xFE, 0xFF, ..])
 }
 
-/// Whether `cell` begins with `sep=`, which tells some programs the separator of cells.
+/// Whether `cell` begins with `sep=`, by which some programs know the separator of cells.
 fn says_separator(cell: &[u8]) -> bool {
     if cell.len() < 4 {
         return false;
@@ -79,7 +79,7 @@ fn says_separator(cell: &[u8]) -> bool {
     is_named("sep=", start)
 }
 
-/// Says which columns of `cells` the table doesn't have.
+/// Says for which of `cells` the table lacks the column.
 fn missing_among(head: &Head<'_>, cells: &[Cell]) -> Words {
     let mut lines = Words::new();
     for cell in cells {
@@ -90,7 +90,7 @@ fn missing_among(head: &Head<'_>, cells: &[Cell]) -> Words {
     lines
 }
 
-/// Says that the table doesn't have the column of `cell`.
+/// Says that the table lacks the column of `cell`.
 fn missing_column(lines: &mut Words, head: &Head<'_>, cell: Cell) {
     let option = option_name(cell);
     lines.begin();
@@ -107,7 +107,7 @@ fn missing_column(lines: &mut Words, head: &Head<'_>, cell: Cell) {
     lines.end();
 }
 
-/// Asks whether the column of `cell` was meant by a column with nearly the same name, if there is one.
+/// If a column has nearly a name of the column of `cell`, asks whether that was meant.
 fn ask_for_name(lines: &mut Words, head: &Head<'_>, cell: Cell) {
     if let Some(column) = near_column(head, cell) {
         lines.add(": did you mean ");
@@ -118,7 +118,7 @@ fn ask_for_name(lines: &mut Words, head: &Head<'_>, cell: Cell) {
     }
 }
 
-/// The name of the column of `cell`, in the language of the table.
+/// The name of the column of `cell`, in the language in which the table's columns are named.
 fn name_of(head: &Head<'_>, cell: Cell) -> &'static str {
     if is_german(head) {
         german_name(cell)
@@ -127,7 +127,7 @@ fn name_of(head: &Head<'_>, cell: Cell) -> &'static str {
     }
 }
 
-/// Whether the table has a German name for one of the columns of most tables.
+/// Whether one of the columns that most tables have has a German name.
 fn is_german(head: &Head<'_>) -> bool {
     for cell in &OFTEN_NAMED {
         let name = cell_at(head.names(), column_of(head.columns(), *cell));

@@ -24,7 +24,7 @@ pub fn pins_words(lines: &mut Words, text: &[u8], wheel: u8) {
     }
 }
 
-/// Says which bytes aren't letters of wheel `wheel`, and which stand twice.
+/// Says which bytes aren't letters of wheel `wheel`, and which letters are there twice.
 fn pin_letters_words(lines: &mut Words, letters: &[u8], wheel: u8) {
     for (index, byte) in letters.iter().enumerate() {
         pin_letter_words(lines, *byte, wheel);

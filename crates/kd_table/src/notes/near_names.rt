@@ -1,11 +1,11 @@
-//! Finds columns with nearly the name of a missing column.
+//! Finds columns whose name is nearly the name of a missing column.
 use super::head::Head;
 use super::unread::is_column_read;
 use crate::cell::Cell;
 use crate::columns::{COLUMNS, cell_at, english_name, german_name, short_name};
 use crate::names::capital;
 
-/// The first unread column with nearly a name of the column of `cell`.
+/// The first unread column whose name is nearly a name of the column of `cell`.
 pub fn near_column(head: &Head<'_>, cell: Cell) -> Option<usize> {
     for place in 0..COLUMNS {
         let name = cell_at(head.names(), Some(place));
@@ -23,7 +23,8 @@ fn is_near_column(cell: Cell, name: &[u8]) -> bool {
         || is_near(name, short_name(cell).as_bytes())
 }
 
-/// Whether `name` differs from `known` in at most two letters in a row, or in one letter if `known` is short.
+/// Whether `name` differs from `known` in at most two successive letters. If `known` has fewer than five, it may differ
+/// in one letter.
 fn is_near(name: &[u8], known: &[u8]) -> bool {
     let slips = if known.len() < 5 { 1 } else { 2 };
     let explained = alike_at_start(name, known)

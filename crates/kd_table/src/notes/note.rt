@@ -1,4 +1,4 @@
-//! Appends lines to notes: each begins with the place that it is about.
+//! Appends lines to notes. Each line begins with the place that it is about.
 ghost use Rattle.std.specs.Prelude.{◌≡◌, ◌++◌, ◌∷◌, ◌<◌, [], codes, decimal, ℕ, List, true, flat_map, length, map, IfOk};
 ghost use Rattle.std.specs.List.{slice_split};
 ghost use Rattle.kd_table.specs.Notes.{cell_name, cell_place, line_at, option_name, row_number, row_place, shown, shown_byte};
@@ -22,7 +22,7 @@ pub fn push_bytes(note: &mut Vec<u8>, bytes: &[u8]) -> Result<(), SpreadsheetFau
     Ok(())
 }
 
-/// Appends a line: a place, then words on it.
+/// Appends a line: a place, then the words about it.
 pub fn push_line(note: &mut Vec<u8>, place: &[u8], words: &[u8]) -> Result<(), SpreadsheetFault>
     ensures { IfOk result (λ _. note.new.items ≡ note.old.items ++ line_at place.now words.now) }
 {
@@ -31,7 +31,7 @@ pub fn push_line(note: &mut Vec<u8>, place: &[u8], words: &[u8]) -> Result<(), S
     push_bytes(note, b"\n")
 }
 
-/// Appends each line of `words`, after the place.
+/// Appends the lines of `words`, each after the place.
 pub fn push_lines(note: &mut Vec<u8>, place: &[u8], words: &[u8]) -> Result<(), SpreadsheetFault>
     ensures { IfOk result (λ _. (lines : List (List ℕ)) × (0 < length lines)
         × (note.new.items ≡ note.old.items ++ flat_map (line_at place.now) lines)) }
@@ -45,7 +45,7 @@ pub fn push_lines(note: &mut Vec<u8>, place: &[u8], words: &[u8]) -> Result<(), 
     }
 }
 
-/// Appends each line of `words`, after the place; nothing if there are no words.
+/// Appends the lines of `words`, each after the place. If there are no words, appends nothing.
 pub fn push_words(note: &mut Vec<u8>, place: &[u8], words: &Words) -> Result<(), SpreadsheetFault>
     ensures { IfOk result (λ _. (lines : List (List ℕ))
         × (note.new.items ≡ note.old.items ++ flat_map (line_at place.now) lines)) }
@@ -56,7 +56,7 @@ pub fn push_words(note: &mut Vec<u8>, place: &[u8], words: &Words) -> Result<(),
     push_lines(note, place, words.as_slice())
 }
 
-/// Appends each line of `words`, after the place. If there are no words, but a line `is_due`, appends the line
+/// Appends the lines of `words`, each after the place. If there are no words, but a line `is_due`, appends the line
 /// `otherwise`.
 pub fn push_due_words(
     note: &mut Vec<u8>,
@@ -78,7 +78,7 @@ pub fn push_due_words(
     Ok(())
 }
 
-/// Appends the bytes `bytes` as they are shown.
+/// Appends the bytes as they are shown.
 fn push_shown_bytes(note: &mut Vec<u8>, is_long: bool, bytes: &[u8]) -> Result<(), SpreadsheetFault>
     ensures { IfOk result (λ _. note.new.items
         ≡ note.old.items ++ map (shown_byte is_long) bytes.now) }
@@ -90,7 +90,7 @@ fn push_shown_bytes(note: &mut Vec<u8>, is_long: bool, bytes: &[u8]) -> Result<(
     Ok(())
 }
 
-/// Appends a cell as it is shown: only the start of a long cell.
+/// Appends a cell as it is shown. If the cell is long, only its start is shown.
 pub fn push_shown(note: &mut Vec<u8>, cell: &[u8]) -> Result<(), SpreadsheetFault>
     ensures { IfOk result (λ _. note.new.items ≡ note.old.items ++ shown cell.now) }
 {
@@ -149,7 +149,7 @@ pub fn option_name(cell: Cell) -> &'static str
     }
 }
 
-/// Appends the name of a cell's column as it stands in the table; if there is no such column, the name of its option.
+/// Appends the name of a cell's column in the table. If there is no such column, appends the name of its option.
 fn push_cell_name(place: &mut Vec<u8>, head: &Head<'_>, cell: Cell) -> Result<(), SpreadsheetFault>
     ensures { IfOk result (λ _. place.new.items
         ≡ place.old.items ++ cell_name head.now.columns head.now.names cell) }

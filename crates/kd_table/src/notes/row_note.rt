@@ -19,7 +19,7 @@ use crate::items::is_blank;
 use crate::row::row_day;
 use csv::ByteRecord;
 
-/// Whether the text of `cell` can't be read, though the table has its column, or an option replaces it.
+/// Whether the text of `cell` can't be read, though the table has the column of `cell`, or an option for it.
 fn is_faulty(head: &Head<'_>, row: &PlacedRow<'_>, cell: Cell) -> bool
     ensures { result ≡ is_faulty head.now.options head.now.columns row.now.cells cell }
 {
@@ -81,7 +81,7 @@ fn push_cells(
     Ok(())
 }
 
-/// The cells of a row that depend on its model; none if the model's name can't be read.
+/// The cells of a row that depend on the row's model. None if the model's name can't be read.
 fn cells_of_row(head: &Head<'_>, row: &PlacedRow<'_>) -> &'static [Cell]
     ensures { result.now ≡ option_map_or cells_of
         (row_model head.now.options head.now.columns row.now.cells) [] }
@@ -107,7 +107,7 @@ fn push_row_cells(
     push_cells(note, head, row, known)
 }
 
-/// Says before which column a row ends too early, or which texts it has beyond the last column.
+/// Says before which column a row ends too early, or which texts stand beyond the last column.
 fn end_words(head: &Head<'_>, row: &ByteRecord) -> Words {
     let mut lines = Words::new();
     let count = head.columns().count;
@@ -124,7 +124,7 @@ fn end_words(head: &Head<'_>, row: &ByteRecord) -> Words {
     lines
 }
 
-/// Whether a row isn't a day, though the table has all columns that it needs, and there are no notes on its cells.
+/// Whether a row isn't a day, though the table has all columns that the row needs, and its cells have no notes.
 fn is_untold(head: &Head<'_>, row: &ByteRecord, start: usize, end: usize) -> bool
     ensures { IsNoDay (row_values head.now.options head.now.columns (fields_of row.now))
         → has_columns head.now.options head.now.columns (fields_of row.now) ≡ true
@@ -173,7 +173,7 @@ fn push_placed_row(
     )
 }
 
-/// Appends the notes on a row that isn't blank. `found` learns its day and its model.
+/// Appends the notes on a row that isn't blank. `found` takes up the row's day and its model.
 pub fn push_row(
     note: &mut Vec<u8>,
     found: &mut Found,

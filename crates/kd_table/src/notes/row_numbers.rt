@@ -1,4 +1,4 @@
-//! Numbers the rows of a table as a spreadsheet does: empty rows count, and line ends in quoted cells don't.
+//! Numbers the rows of a table as a spreadsheet does. Empty rows count, and line ends in quoted cells don't end a row.
 ghost use Rattle.std.specs.Prelude.{◌≡◌, MatchOption, false};
 ghost use Rattle.kd_table.specs.RowNumbers.{AreLineEnds, AtStart, IsCounted, IsNext, IsRowBefore, StartsRow};
 ghost use Rattle.kd_table.specs.RowNumbers.{ends_line, numbers_from, numbers_left};

@@ -80,7 +80,7 @@ fn push_unread(
     push_unread(note, columns, head, place + 1, count - 1)
 }
 
-/// The notes on unread columns, of the first 64, in a table whose first row is `head`.
+/// The notes on unread columns, among the first 64, of a table whose first row is `head`.
 #[tactic(auto, unfolding(crate::specs::Notes::unread_note))]
 pub fn unread_note(alloc: Global, head: &ByteRecord) -> Result<Vec<u8>, SpreadsheetFault>
     ensures { IfOk result (λ note. note.items ≡ unread_note (fields_of head.now)) }

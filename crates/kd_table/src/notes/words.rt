@@ -1,4 +1,4 @@
-//! Lines of words on one place of a table.
+//! Lines of words about one place of a table.
 ghost use Rattle.std.specs.Prelude.{◌≡◌, ◌==◌, length};
 ghost use Rattle.kd_table.specs.Notes.{shown_byte};
 
@@ -14,7 +14,8 @@ const ROOM: usize = 2048;
 /// The last line if there is no room for all lines.
 const MORE: &[u8] = b"\nfurther faults aren't told";
 
-/// Lines of words, with line ends between them. If a line has no room, it is left out with all lines after it.
+/// Lines of words, with line ends between them. If there is no room for a line, this line and all later lines are left
+/// out.
 #[derive(Drop)]
 pub struct Words {
     text: ArrayVec<u8, 4096>,
@@ -85,8 +86,8 @@ impl Words {
         self.add(buffer.format(number));
     }
 
-    /// Appends the text of a cell to the current line, with `?` for bytes that can't be printed. Only the start of a
-    /// long cell is shown.
+    /// Appends the text of a cell to the current line. `?` stands for bytes that can't be printed. If the cell is long,
+    /// only its start is appended.
     pub fn add_cell(&mut self, cell: &[u8]) {
         let is_long = cell.len() > SHOWN;
         for byte in cell.iter().take(SHOWN) {
@@ -114,7 +115,8 @@ impl Words {
     }
 }
 
-/// The byte of a cell as it is shown: `?` if it can't be printed.
+/// The byte of a cell as it is shown. `?` stands for a byte that can't be printed and, in a long cell, for each byte
+/// outside of ASCII.
 pub fn shown_byte(is_long: bool, byte: u8) -> u8
     ensures { result ≡ shown_byte is_long byte }
 {
