@@ -1,4 +1,5 @@
--- The lines that name a file's faults: the file's name, the place, what is wrong, and the fault's number and name.
+-- The lines that name a file's faults. A line has the file's name, the place, what is wrong, and the fault's number and
+-- name.
 -- Test: tests/cases/curator-look.toml
 use Rattle.std.specs.Prelude.{codes, ◌≡◌, ℕ, ◌++◌, List, [], ◌∷◌, Option, Some, Result, Ok, Err}
 use Rattle.std.specs.Option.{option_map_or}
@@ -19,18 +20,18 @@ use Rattle.kd_look.specs.Warnings.{AreKeyWarnings}
 abbrev pub fault_end : SheetFault → List ℕ
 fault_end fault = codes " (" ++ sheet_fault_text fault ++ codes ")\n"
 
--- the words for a line's number, if it is known
+-- the words for a line's number; empty if the number isn't known
 unfoldable pub line_words : Option ℕ → List ℕ
 line_words line = option_map_or (titled (codes ", line ")) line []
 
--- the line of a fault; `wrong` are the words for what is wrong
+-- the line of a fault; `wrong` are the words that say what is wrong
 unfoldable pub fault_line : List ℕ → Place → Option ℕ → List ℕ → SheetFault → List ℕ
 fault_line name place line wrong fault =
     name ++ entry_words place.day place.entry ++ line_words line ++ codes ", " ++ key_name place.key ++ wrong
     ++ fault_end fault
 
--- The text is a line that names the fault and its place: the day or the entry, the line of the file if it is known, and
--- the key.
+-- The text is a line that names the fault and its place. The place is the day or the entry, the line of the file if it
+-- is known, and the key.
 pub record IsLineAt (name : List ℕ) (place : Place) (line : Option ℕ) (fault : SheetFault) (text : List ℕ) : Type 0 where
   pub wrong : List ℕ
   pub plain : IsInOneLine wrong
@@ -40,32 +41,33 @@ pub record IsLineAt (name : List ℕ) (place : Place) (line : Option ℕ) (fault
 abbrev pub IsFaultLine : List ℕ → List ℕ → Place → SheetFault → List ℕ → Type 0
 IsFaultLine name bytes place fault text = IsLineAt name place (line_of_fault bytes place fault) fault text
 
--- The text has a line for each of the faults, in their order.
+-- The text has a line for each fault, in the order of the faults.
 abbrev pub AreFaultLines : List ℕ → List ℕ → List (Place × SheetFault) → List ℕ → Type 0
 AreFaultLines name bytes [] text = text ≡ []
 AreFaultLines name bytes (found ∷ rest) text = BeginsWith (IsFaultLine name bytes found.0 found.1)
     (λ others. AreFaultLines name bytes rest others) text
 
--- The text has a line for each of the document's faults, and `fault` is the first of them.
+-- The text has a line for each of the document's faults. `fault` is the first of these faults.
 pub record NamesFaults (name bytes : List ℕ) (document : Members) (fault : SheetFault) (text : List ℕ) : Type 0 where
   pub found : List (Place × SheetFault)
   pub are : AreFaults document found
   pub first : first_fault found ≡ Some fault
   pub lines : AreFaultLines name bytes found text
 
--- The text is one line for a file that isn't TOML: the file's name, the place at which TOML ends, and the fault.
+-- The text is the line for a file that isn't TOML. The line has the file's name, the place at which TOML ends, and the
+-- fault.
 pub record IsPlainLine (name bytes : List ℕ) (fault : SheetFault) (text : List ℕ) : Type 0 where
   pub words : List ℕ
   pub place : SaysNotToml bytes words
   pub whole : text ≡ name ++ words ++ fault_end fault
 
--- The text has the lines for a file's faults: for a document, a line for each fault; for a file that isn't TOML, a
--- single line.
+-- The text has the lines for a file's faults. A document has a line for each fault. A file that isn't TOML has a single
+-- line.
 abbrev pub AreLinesFor : List ℕ → List ℕ → Result Members SheetFault → SheetFault → List ℕ → Type 0
 AreLinesFor name bytes (Ok document) fault text = NamesFaults name bytes document fault text
 AreLinesFor name bytes (Err _) fault text = IsPlainLine name bytes fault text
 
--- The text has the lines for a file's faults, of which `fault` is the first, and then the warnings on its keys.
+-- The text has the lines for a file's faults, and then the warnings about its keys. `fault` is the first of the faults.
 pub record NamesFault (name bytes : List ℕ) (fault : SheetFault) (text : List ℕ) : Type 0 where
   pub lines : List ℕ
   pub warnings : List ℕ

@@ -1,5 +1,5 @@
--- The line of a value: the first line up to whose end the file is a document with this value. If the array `day` is
--- missing, it is the line of the file's first key.
+-- The line of a value. It is the first line for which the file, up to the line's end, is a document with this value. If
+-- the array `day` is missing, it is the line of the file's first key.
 -- Code: the document is parsed up to the end of each line in turn, once for all faults.
 -- Test: tests/cases/curator-look.toml
 use Rattle.std.specs.Prelude.{ℕ, ◌+◌, ◌==◌, ◌||◌, ◌&&◌, nat_lt, Bool, true, false, List, find, length, take, count_by}
@@ -21,11 +21,11 @@ use Rattle.kd_findings.specs.declared.place.Place.{Place}
 use Rattle.kd_look.specs.declared.line.Sought.{Sought}
 use Rattle.kd_look.specs.declared.line.Sought.TheVariants as soughts
 
--- entry `entry` of `items`, counted from 1, if it is a table
+-- the item of `items` with the number `entry`, counted from 1, if it is a table
 abbrev pub entry_of : List Data → ℕ → Option Members
 entry_of items entry = option_and_then as_table (numbered_item items entry)
 
--- the table in which a value stands: the document, or entry `entry` of its list `day`
+-- the table in which a value stands: the document, or the item `entry` of its array `day`
 unfoldable pub table_at : Members → Option ℕ → Option Members
 table_at document None = Some document
 table_at document (Some entry) = option_and_then (λ items. entry_of items entry) (entries_of document)
@@ -35,7 +35,7 @@ abbrev pub has_any_key : Members → Bool
 has_any_key no_members = false
 has_any_key (member name value rest) = true
 
--- whether the document has what is looked for: an entry, a key of the document or of an entry, or any key
+-- Whether the document has what is looked for. This is an entry, a key of the document or of an entry, or any key.
 unfoldable pub has_value : Sought → Members → Bool
 has_value (soughts.Entry entry) document = is_some (table_at document (Some entry))
 has_value (soughts.Key entry key) document = option_map_or (is_given key) (table_at document entry) false
@@ -45,34 +45,36 @@ has_value soughts.AnyKey document = has_any_key document
 abbrev pub reads_value : Sought → List ℕ → Bool
 reads_value sought text = option_map_or (has_value sought) (result_ok (document_of text)) false
 
--- whether a line ends after the byte at `index`: this byte is LF, or the text's last byte
+-- whether a line ends after the byte at `index`: the byte is LF, or the text's last byte
 abbrev pub ends_line : List ℕ → ℕ → Bool
 ends_line text index = slice_index text index == 10 || index + 1 == length text
 
--- whether a line ends after the byte at `index`, and the text up to there is a document that has what is looked for
+-- Whether a line ends after the byte at `index`. Moreover, the text up to there is a document that has what is looked
+-- for.
 unfoldable pub has_value_at : List ℕ → Sought → ℕ → Bool
 has_value_at text sought index = ends_line text index && reads_value sought (take (index + 1) text)
 
--- the number of the first line that ends before `end`, and up to whose end the text has what is looked for
+-- The number of the first line at whose end the text so far has what is looked for. The line ends before `end`.
 abbrev pub line_before : List ℕ → ℕ → Sought → Option ℕ
 line_before text end sought = option_map (line_at text) (find (has_value_at text sought) (range_with_len 0 end))
 
--- whether the text is too long to look for lines: it has more than 65,536 bytes, or more than 2,048 line ends
+-- Whether the text is too long to look for lines in it. It has more than 65,536 bytes, or more than 2,048 line ends.
 abbrev pub is_too_long : List ℕ → Bool
 is_too_long text = nat_lt 65536 (length text) || nat_lt 2048 (count_by (λ byte. byte == 10) text)
 
--- the number of the first line up to whose end the text has what is looked for; `None` if there is none, or the text is
--- too long
+-- The number of the first line at whose end the text so far has what is looked for. `None` if there is no such line, or
+-- the text is too long.
 abbrev pub line_number : List ℕ → Sought → Option ℕ
 line_number text sought = if is_too_long text then None else line_before text (length text) sought
 
--- what to look for if a key is missing: the entry without it; if the array `day` is missing, the file's first key
+-- What to look for if a key is missing. It is the entry that lacks the key. If the array `day` is missing, it is the
+-- file's first key.
 abbrev pub sought_without : Option ℕ → Key → Option Sought
 sought_without (Some entry) key = Some (soughts.Entry entry)
 sought_without None keys.Day = Some soughts.AnyKey
 sought_without None key = None
 
--- what to look for to find the line of a fault
+-- what to look for in order to find the line of a fault
 abbrev pub sought_for : Place → SheetFault → Option Sought
 sought_for place (Missing key) = sought_without place.entry key
 sought_for place fault = Some (soughts.Key place.entry place.key)
@@ -91,7 +93,7 @@ line_of text finding = line_of_fault text finding.place finding.fault
 unfoldable pub line_so_far : List ℕ → ℕ → Finding → Option ℕ
 line_so_far text end finding = option_and_then (line_before text end) (sought_for finding.place finding.fault)
 
--- the first line, if it is known; otherwise the second
+-- the first line or, if it isn't known, the second
 abbrev pub or_line : Option ℕ → Option ℕ → Option ℕ
 or_line (Some line) later = Some line
 or_line None later = later

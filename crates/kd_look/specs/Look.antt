@@ -1,4 +1,5 @@
--- The text that `look_at` writes, a report on each file, and its answer, the first fault of all.
+-- The text that `look_at` writes, and the answer that it gives. The text has a report on each file. The answer is the
+-- first fault of all files.
 -- Test: tests/cases/curator-look.toml
 use Rattle.std.specs.Prelude.{◌≡◌, ◌⊎◌, ℕ, ◌++◌, List, [], ◌∷◌, Bool, false, true, Result, Err, OnErr, IfOk}
 use Rattle.kd_tables.specs.Ports.{Port}
@@ -21,34 +22,35 @@ pub record NamedText : Type 0 where
 abbrev pub named_text : NamedFile → NamedText
 named_text file = record { name = file.name.now; bytes = file.bytes.now }
 
--- the first outcome; the later one if the first is `Faultless`
+-- the first outcome or, if it is `Faultless`, the later outcome
 abbrev pub or_later : Outcome → Outcome → Outcome
 or_later outcomes.Faultless later = later
 or_later (outcomes.Faulty fault) later = outcomes.Faulty fault
 
--- the outcome for all files: the first fault of the first file that has any
+-- the outcome for all files: the first fault of the first file that has a fault
 abbrev pub outcome_of_all : List NamedText → Outcome
 outcome_of_all [] = outcomes.Faultless
 outcome_of_all (file ∷ rest) = or_later (outcome_of (file_of file.bytes)) (outcome_of_all rest)
 
--- The text has a report on each of the files, in their order.
+-- The text has a report on each file, in the order of the files.
 abbrev pub AreReports : List NamedText → List ℕ → Type 0
 AreReports [] text = text ≡ []
 AreReports (file ∷ rest) text = BeginsWith (IsReport file.name file.bytes) (λ others. AreReports rest others) text
 
--- The text has a report on each of the files; then warnings may follow that concern several files.
+-- The text has a report on each file. Then warnings may follow, which concern several files.
 pub record IsWholeReport (files : List NamedText) (text : List ℕ) : Type 0 where
   pub reports : List ℕ
   pub warnings : List ℕ
   pub made : AreReports files reports
   pub whole : text ≡ reports ++ warnings
 
--- whether the answer is that the sink failed
+-- whether the answer is the fault that the sink failed
 abbrev pub is_device : Result Outcome LookFault → Bool
 is_device (Err Device) = true
 is_device _ = false
 
--- A report on the files was written, or a prefix of it if the sink failed. The answer is the outcome for all files.
+-- A report on the files was written. If the sink failed, only a prefix of it was. The answer is the outcome for all
+-- files.
 pub record WritesReport (files : List NamedText) (sink : Port) (answer : Result Outcome LookFault) : Type 0 where
   pub text : List ℕ
   pub made : IsWholeReport files text
@@ -56,6 +58,6 @@ pub record WritesReport (files : List NamedText) (sink : Port) (answer : Result 
   pub answered : IfOk answer (λ found. found ≡ outcome_of_all files)
   pub device : OnErr answer (answer ≡ Err Device)
 
--- A report on the files was written; or the answer is that memory ran out, which may always be.
+-- Either a report on the files was written, or the answer is that memory ran out, which may always happen.
 abbrev pub IsLookAnswer : List NamedText → Port → Result Outcome LookFault → Type 0
 IsLookAnswer files sink answer = WritesReport files sink answer ⊎ (answer ≡ Err NoMemory)

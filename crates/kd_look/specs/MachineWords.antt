@@ -1,4 +1,4 @@
--- A machine in words: one line for each thing that a person compares with the real machine.
+-- A machine in words. There is one line for each thing that a person compares with the real machine.
 -- Test: tests/cases/curator-look.toml
 use Rattle.std.specs.Prelude.{codes, ℕ, ◌+◌, ◌++◌, false, List, [], ◌∷◌, Option, Some, None, decimal, if◌then◌else◌}
 use Rattle.std.specs.List.{flat_map, range_with_len}
@@ -18,7 +18,7 @@ use Rattle.kd_look.specs.declared.machine_words.Thing.TheVariants as things
 unfoldable pub label : List ℕ → ℕ → List ℕ
 label name number = name ++ codes " " ++ decimal number ++ codes ": "
 
--- the letter; nothing without a letter
+-- the letter as text; empty if there is no letter
 abbrev pub letter_words : Option ℕ → List ℕ
 letter_words letter = option_map_or (λ one. letters_text (one ∷ [])) letter []
 
@@ -27,19 +27,19 @@ unfoldable pub ring_words : Option ℕ → List ℕ
 ring_words ring = option_map_or
     (λ one. letters_text (one ∷ []) ++ codes " (" ++ two_digits (one + 1) ++ codes ")") ring []
 
--- the words for a wheel in a slot: its name, its ring and its window letter
+-- the words for a wheel in a slot: the wheel's name, its ring and its window letter
 unfoldable pub wheel_words : Parts → Wheel → List ℕ
 wheel_words machine wheel =
     codes "wheel " ++ wheel_text wheel ++ codes ", ring " ++ ring_words (machine_ring machine wheel)
     ++ codes ", window " ++ letter_words (machine_letter machine wheel) ++ codes "\n"
 
--- the line of a slot; nothing if the machine has no such slot
+-- the line of a slot; empty if the machine has no such slot
 unfoldable pub slot_words : Parts → ℕ → List ℕ
 slot_words machine slot = option_map_or
     (λ held. label (codes "slot") slot ++ option_map_or (wheel_words machine) held (codes "empty\n"))
     (machine_slot machine slot) []
 
--- the line of a cable with these ends; nothing if neither has a letter
+-- the line of a cable with these ends; empty if neither end has a letter
 unfoldable pub cable_line : ℕ → Option ℕ → Option ℕ → List ℕ
 cable_line cable (Some one) (Some other) =
     label (codes "cable") cable ++ letters_text (one ∷ []) ++ letters_text (other ∷ []) ++ codes "\n"
@@ -50,7 +50,7 @@ cable_line cable None None = []
 unfoldable pub cable_words : Parts → ℕ → List ℕ
 cable_words machine cable = option_map_or (λ ends. cable_line cable ends.0 ends.1) (machine_cable machine cable) []
 
--- a space and the letter, if this pin of the wheel is effective; otherwise nothing
+-- a space and the letter, if the pin at this letter is effective; otherwise nothing
 unfoldable pub pin_words : Parts → ℕ → ℕ → List ℕ
 pin_words machine wheel letter =
     if option_map_or (λ effective. effective) (machine_pin machine wheel letter) false
@@ -68,7 +68,7 @@ unfoldable pub bar_words : Parts → ℕ → List ℕ
 bar_words machine bar = option_map_or (λ standing. label (codes "bar") bar ++ standing_text standing ++ codes "\n")
     (machine_standing machine bar) []
 
--- the line of a slot, cable, pin wheel or bar; nothing if the machine has no thing with this number
+-- the line of a slot, cable, pin wheel or bar; empty if the machine has none with this number
 unfoldable pub thing_words : Parts → Thing → ℕ → List ℕ
 thing_words machine things.Slot number = slot_words machine number
 thing_words machine things.Cable number = cable_words machine number
@@ -79,7 +79,7 @@ thing_words machine things.Bar number = bar_words machine number
 abbrev pub things_words : Parts → Thing → ℕ → List ℕ
 things_words machine thing count = flat_map (thing_words machine thing) (range_with_len 1 count)
 
--- the line of the reflector; nothing if the machine has none
+-- the line of the reflector; empty if the machine has no reflector
 unfoldable pub reflector_words : Parts → List ℕ
 reflector_words machine = option_map_or
     (λ reflector. codes "reflector " ++ reflector_text reflector ++ codes "\n") (machine_reflector machine) []

@@ -12,7 +12,7 @@ use Rattle.kd_look.specs.declared.file.File.TheVariants as files
 use Rattle.kd_look.specs.declared.outcome.Outcome.{Outcome}
 use Rattle.kd_look.specs.declared.outcome.Outcome.TheVariants as outcomes
 
--- the outcome for a file: faultless, or the first fault
+-- the outcome for a file: `Faultless`, or the file's first fault
 abbrev pub outcome_of : Result File SheetFault → Outcome
 outcome_of (Ok file) = outcomes.Faultless
 outcome_of (Err fault) = outcomes.Faulty fault
@@ -22,8 +22,8 @@ unfoldable pub file_words : List ℕ → File → List ℕ
 file_words name (files.Machine machine) = name ++ codes ": a machine file without a fault\n" ++ machine_words machine
 file_words name (files.Sheet month) = name ++ codes ": a key sheet without a fault\n" ++ sheet_words month
 
--- The text has the words for the file's content, then the warnings on its keys, then warnings on days, if there are
--- any.
+-- The text has the words for the file's content, and the warnings about its keys. Then come warnings about days, if
+-- there are any.
 pub record Describes (name bytes : List ℕ) (file : File) (text : List ℕ) : Type 0 where
   pub keys : List ℕ
   pub days : List ℕ
@@ -31,7 +31,7 @@ pub record Describes (name bytes : List ℕ) (file : File) (text : List ℕ) : T
   pub of_days : WarnsOfDays name days
   pub whole : text ≡ file_words name file ++ (keys ++ days)
 
--- The text has the words for the file's content or, if it has faults, the lines for them.
+-- The text has the words for the file's content. If the file has faults, it has the lines that name them.
 abbrev pub SaysOrNames : List ℕ → List ℕ → Result File SheetFault → List ℕ → Type 0
 SaysOrNames name bytes (Ok file) text = Describes name bytes file text
 SaysOrNames name bytes (Err fault) text = NamesFault name bytes fault text

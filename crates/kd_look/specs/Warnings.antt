@@ -1,4 +1,4 @@
--- The warnings on a file: on a byte order mark, on its keys, and on a key sheet's days.
+-- The warnings about a file. They are about a byte order mark, the file's keys, and a key sheet's days.
 -- Test: tests/cases/curator-look.toml
 use Rattle.std.specs.Prelude.{codes, ◌≡◌, ℕ, ◌++◌, ◌==◌, ◌&&◌, Bool, List, [], MatchResult, slice_index, if◌then◌else◌}
 use Rattle.kd_sheet.specs.Document.{document_of}
@@ -9,27 +9,27 @@ use Rattle.kd_findings.specs.Warnings.{AreWarnings}
 unfoldable pub has_mark : List ℕ → Bool
 has_mark bytes = slice_index bytes 0 == 239 && slice_index bytes 1 == 187 && slice_index bytes 2 == 191
 
--- the warning on a byte order mark; nothing if the file has none
+-- the warning about a byte order mark; empty if the file has none
 unfoldable pub mark_words : List ℕ → List ℕ → List ℕ
 mark_words name bytes = if has_mark bytes
     then name ++ codes ": warning: the file begins with a byte order mark, which the desk passes over\n" else []
 
--- The text has the warning on a byte order mark and, if the file is a document, the warnings on its keys.
+-- The text has the warning about a byte order mark. If the file is a document, it also has the warnings about its keys.
 pub record AreKeyWarnings (name bytes text : List ℕ) : Type 0 where
   pub lines : List ℕ
   pub told : MatchResult (document_of bytes) (λ document. AreWarnings name document lines) (λ fault. lines ≡ [])
   pub whole : text ≡ mark_words name bytes ++ lines
 
--- a warning on days: the file's name, `day`, then `words`
+-- a warning about days: the file's name, `day`, and then `words`
 unfoldable pub day_line : List ℕ → List ℕ → List ℕ
 day_line name words = name ++ codes ": warning: day" ++ words ++ codes "\n"
 
--- The text is a warning on days with the words `words`, which have no line end.
+-- The text is a warning about days, with the words `words`. These words have no line end.
 pub record IsDayLine (name words text : List ℕ) : Type 0 where
   pub plain : IsInOneLine words
   pub whole : text ≡ day_line name words
 
--- The text consists of warnings on days.
+-- The text consists of warnings about days.
 pub record WarnsOfDays (name text : List ℕ) : Type 0 where
   pub words : List (List ℕ)
   pub are : ArePieces (IsDayLine name) words text

@@ -24,7 +24,7 @@ fn have_same_pins(one: &SheetDay, other: &SheetDay) -> bool {
     }
 }
 
-/// Whether both days have the same pairs and groups or, on a Converter, the same rows and key list.
+/// Whether both days have the same pairs and groups or, on a Converter, the same rows and list letters.
 fn have_same_lists(one: &SheetDay, other: &SheetDay) -> bool {
     one.pairs() == other.pairs()
         && one.groups() == other.groups()
@@ -46,7 +46,7 @@ fn are_alike(one: &SheetDay, other: &SheetDay) -> bool {
         && have_same_lists(one, other)
 }
 
-/// The first day before day `number` that differs from it only in the number.
+/// The first day before the day `number` that differs from it only in its number.
 fn first_alike(sheet: &Sheet, number: u8) -> Option<u8> {
     let day = sheet.day(number)?;
     for earlier in 1..number {
@@ -59,7 +59,7 @@ fn first_alike(sheet: &Sheet, number: u8) -> Option<u8> {
     None
 }
 
-/// Appends a warning if day `number` differs from an earlier day only in the number.
+/// Appends a warning if the day `number` differs from an earlier day only in its number.
 fn push_alike(
     lines: &mut String,
     alloc: Global,
@@ -77,7 +77,7 @@ fn push_alike(
     push_day_line(lines, name, words.as_str())
 }
 
-/// Appends a warning for each day that differs from an earlier day only in the number.
+/// Appends a warning for each day that differs from an earlier day only in its number.
 pub fn push_alike_days(
     lines: &mut String,
     alloc: Global,

@@ -1,4 +1,4 @@
-//! The warnings on days.
+//! The warnings about days.
 ghost use Rattle.std.specs.Prelude.{◌≡◌, ◌++◌, OnOk};
 ghost use Rattle.std.specs.String.{string_bytes};
 ghost use Rattle.kd_look.specs.Warnings.{WarnsOfDays, day_line};
@@ -6,7 +6,7 @@ ghost use Rattle.kd_look.specs.Warnings.{WarnsOfDays, day_line};
 use kd_findings::first_line;
 use std::alloc::AllocError;
 
-/// Appends a warning on days: the file's name, `day`, then `words`.
+/// Appends a warning about days: the file's name, `day`, and then `words`.
 #[tactic(auto, using(std::proofs::Common::append_assoc), unfolding(crate::specs::Warnings::day_line))]
 fn push_line(lines: &mut String, name: &str, words: &str) -> Result<(), AllocError>
     ensures { OnOk result (string_bytes lines.new
@@ -18,7 +18,7 @@ fn push_line(lines: &mut String, name: &str, words: &str) -> Result<(), AllocErr
     lines.push_str("\n")
 }
 
-/// Appends a warning on days: the file's name, `day`, then the first line of `words`.
+/// Appends a warning about days: the file's name, `day`, and then the first line of `words`.
 pub fn push_day_line(lines: &mut String, name: &str, words: &str) -> Result<(), AllocError>
     ensures { OnOk result (WarnsOfDays name.now (string_bytes lines.old)
         → WarnsOfDays name.now (string_bytes lines.new)) }

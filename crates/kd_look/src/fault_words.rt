@@ -40,7 +40,7 @@ fn push_line(text: &mut String, line: Option<usize>) -> Result<(), AllocError>
     }
 }
 
-/// Appends the line of a fault; `wrong` are the words for what is wrong.
+/// Appends the line of a fault. `wrong` are the words that say what is wrong.
 #[tactic(auto, using(std::proofs::Common::append_assoc), unfolding(crate::specs::FaultWords::fault_line))]
 fn push_fault_line(
     text: &mut String,
@@ -62,7 +62,7 @@ fn push_fault_line(
     push_fault(text, fault)
 }
 
-/// Appends the line for `finding`, which stands in line `line` of the file.
+/// Appends the line for `finding`, which is in line `line` of the file.
 fn push_finding(
     text: &mut String,
     alloc: Global,
@@ -84,7 +84,7 @@ fn push_finding(
     )
 }
 
-/// Appends a line for each of `findings`, which stand in the lines `lines` of the file.
+/// Appends a line for each of `findings`. `lines` says in which line of the file each of them is.
 fn push_findings(
     text: &mut String,
     alloc: Global,
@@ -123,7 +123,7 @@ fn plain_line(
     Ok(text)
 }
 
-/// The lines for the faults of a file; `fault` is the first of them.
+/// The lines for the faults of a file. `fault` is the first of these faults.
 fn fault_lines(
     alloc: Global,
     bytes: &[u8],
@@ -153,7 +153,7 @@ fn fault_lines(
     }
 }
 
-/// The lines for the faults of a file, of which `fault` is the first, then the warnings on its keys.
+/// The lines for the faults of a file, and then the warnings about its keys. `fault` is the first of the faults.
 pub fn refusal(
     alloc: Global,
     bytes: &[u8],

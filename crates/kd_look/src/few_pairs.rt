@@ -8,14 +8,14 @@ use kd_sheet::Sheet;
 use kd_tables::Model;
 use std::alloc::{AllocError, Global};
 
-/// A day with its number of pairs.
+/// A day, and the number of its pairs.
 #[derive(Clone, Copy)]
 struct Pairs {
     day: u8,
     count: usize,
 }
 
-/// How many pairs day `number` has, if it is a day of `model`.
+/// How many pairs the day `number` has, if it is a day of `model`.
 fn pairs_of(sheet: &Sheet, model: Model, number: u8) -> Option<Pairs> {
     let day = sheet.day(number)?;
     if day.model() != model {
@@ -27,7 +27,7 @@ fn pairs_of(sheet: &Sheet, model: Model, number: u8) -> Option<Pairs> {
     })
 }
 
-/// The first day of `model` that has the most pairs, of all its days.
+/// The day of `model` with the most pairs. If several have the most, it is the first of them.
 fn most_pairs(sheet: &Sheet, model: Model) -> Option<Pairs> {
     let mut most: Option<Pairs> = None;
     for number in 1..32 {
@@ -41,7 +41,7 @@ fn most_pairs(sheet: &Sheet, model: Model) -> Option<Pairs> {
     most
 }
 
-/// Appends a warning if day `number` has fewer pairs than another day of its model.
+/// Appends a warning if the day `number` has fewer pairs than another day of its model.
 fn push_few(
     lines: &mut String,
     alloc: Global,

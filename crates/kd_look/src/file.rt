@@ -1,4 +1,4 @@
-//! `File`: the content of a file, a machine or a key sheet.
+//! `File`: the content of a file, which is a machine or a key sheet.
 ghost use Rattle.kd_tables.specs.Answers.{AgreesOrNoMemory};
 ghost use Rattle.kd_look.specs.File.{file_of};
 

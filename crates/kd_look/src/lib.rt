@@ -1,4 +1,4 @@
-//! Puts machine files and key sheets into words, or names their faults.
+//! Says in words what machine files and key sheets have, or names their faults.
 #![tactic(auto)]
 
 mod alike;

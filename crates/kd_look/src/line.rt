@@ -17,21 +17,21 @@ use toml::{Table, Value};
 /// The most bytes of a file in which the lines of faults are looked for.
 const MOST_BYTES: usize = 65_536;
 
-/// The most line ends of a file in which the lines of faults are looked for: it is parsed up to each line end.
+/// The most line ends of a file in which the lines of faults are looked for. The file is parsed up to each line end.
 const MOST_LINES: usize = 2_048;
 
-/// What to look for in a document, to find the line of a fault.
+/// What to look for in a document, in order to find the line of a fault.
 #[derive(Clone, Copy)]
 enum Sought {
     /// The entry of a key sheet with this number, counted from 1.
     Entry(usize),
-    /// A key in the entry with this number; without a number, in the document itself.
+    /// A key in the entry with this number. If there is no number, a key of the document itself.
     Key(Option<usize>, Key),
     /// Any key of the document.
     AnyKey,
 }
 
-/// Entry `entry` of `items`, counted from 1, if it is a table.
+/// The item of `items` with the number `entry`, counted from 1, if it is a table.
 fn entry_of(items: &[Value], entry: usize) -> Option<&Table>
     ensures { option_map (λ table. table_view table.now) result ≡ entry_of (map view items.now) entry }
 {
@@ -40,7 +40,7 @@ fn entry_of(items: &[Value], entry: usize) -> Option<&Table>
     item.as_table()
 }
 
-/// The table in which a value stands: `document`, or entry `entry` of its list `day`.
+/// The table in which a value stands: `document`, or the item `entry` of its array `day`.
 #[tactic(auto, unfolding(crate::specs::Line::table_at))]
 fn table_at(document: &Table, entry: Option<usize>) -> Option<&Table>
     ensures { option_map (λ table. table_view table.now) result
@@ -59,7 +59,7 @@ fn has_any_key(document: &Table) -> bool
     !document.is_empty()
 }
 
-/// Whether the document, or the entry with this number, has `key`.
+/// Whether the document has `key`. If there is a number, whether the entry with this number has it.
 fn has_key(document: &Table, entry: Option<usize>, key: Key) -> bool
     ensures { result
         ≡ option_map_or (is_given key) (table_at (table_view document.now) entry) false }
@@ -82,7 +82,8 @@ fn has_value(document: &Table, sought: Sought) -> bool
     }
 }
 
-/// What to look for if `key` is missing: the entry without it; if the array `day` is missing, the file's first key.
+/// What to look for if `key` is missing. It is the entry that lacks the key. If the array `day` is missing, it is the
+/// file's first key.
 fn sought_without(entry: Option<usize>, key: Key) -> Option<Sought>
     ensures { result ≡ sought_without entry key }
 {
@@ -93,7 +94,7 @@ fn sought_without(entry: Option<usize>, key: Key) -> Option<Sought>
     }
 }
 
-/// What to look for to find the line of `finding`.
+/// What to look for in order to find the line of `finding`.
 fn sought_for(finding: &Finding) -> Option<Sought>
     ensures { result ≡ sought_for finding.now.place finding.now.fault }
 {
@@ -117,7 +118,7 @@ fn line_in(document: &Table, line: usize, finding: &Finding) -> Option<usize>
     }
 }
 
-/// The line `known`, if there is one; otherwise `line`, if `document` has what `finding` looks for.
+/// The line `known`, if there is one. Otherwise `line`, if `document` has what `finding` looks for.
 fn known_line(
     known: Option<usize>,
     document: &Table,
@@ -132,7 +133,8 @@ fn known_line(
     }
 }
 
-/// The lines of `findings`: the known ones in `lines`; for the others `line`, if `document` has what they look for.
+/// The lines of `findings`. Known lines are taken from `lines`. Any other finding has the line `line`, if `document`
+/// has what it looks for.
 fn next_lines(
     alloc: Global,
     document: &Table,
@@ -152,7 +154,8 @@ fn next_lines(
     Ok(next)
 }
 
-/// The lines of `findings`: the known ones in `lines`; for the others `line`, if `text` has what they look for.
+/// The lines of `findings`. Known lines are taken from `lines`. Any other finding has the line `line`, if `text` has
+/// what it looks for.
 fn lines_with(
     alloc: Global,
     text: &[u8],
@@ -180,7 +183,7 @@ fn ends_line(text: &[u8], index: usize) -> bool
     text[index] == b'\n' || index + 1 == text.len()
 }
 
-/// The lines of `findings` in the text up to the byte at `index`. `lines` has those before this byte.
+/// The lines of `findings` in the text up to the byte at `index`. `lines` has their lines in the text before this byte.
 fn lines_after(
     alloc: Global,
     text: &[u8],
@@ -219,7 +222,7 @@ fn no_lines(alloc: Global, findings: &[Finding]) -> Result<Vec<Option<usize>>, A
     Ok(lines)
 }
 
-/// The line of each of `findings`, looked for in the whole `text`.
+/// The line of each of `findings`. It is looked for in the whole of `text`.
 fn seek_lines(
     alloc: Global,
     text: &[u8],
@@ -239,9 +242,10 @@ fn seek_lines(
     Ok(lines)
 }
 
-/// The line of each of `findings`: the first line up to whose end `text` is a document with what the finding looks for.
+/// The line of each of `findings`. It is the first line at whose end the text so far is a document with what the
+/// finding looks for.
 ///
-/// `None` if there is none, or `text` is too long.
+/// `None` if there is no such line, or `text` is too long.
 pub fn lines_of(
     alloc: Global,
     text: &[u8],

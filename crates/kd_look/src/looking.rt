@@ -1,4 +1,4 @@
-//! `look_at`: puts files into words, or names their faults.
+//! `look_at`: says in words what files have, or names their faults.
 ghost use Rattle.std.specs.Prelude.{◌≡◌, ◌||◌, map, Err, IfOk, OnOk};
 ghost use Rattle.std.specs.String.{string_bytes};
 ghost use Rattle.kd_tables.specs.Ports.{port};
@@ -17,7 +17,7 @@ use std::alloc::{AllocError, Global};
 /// A file to look at.
 #[derive(Clone, Copy)]
 pub struct NamedFile<'f> {
-    /// The name of the file, with which the lines on it begin.
+    /// The name of the file, with which each line about the file begins.
     pub name: &'f str,
     /// The file's content.
     pub bytes: &'f [u8],
@@ -54,7 +54,7 @@ impl From<Device> for LookFault {
     }
 }
 
-/// Appends the report on `file`, and records which models it is for.
+/// Appends the report on `file`, and records the models in the file.
 fn push_report<'f>(
     text: &mut String,
     summaries: &mut Vec<FileSummary<'f>>,
@@ -78,7 +78,7 @@ fn push_report<'f>(
     Ok(outcome)
 }
 
-/// Appends the reports on `files`, and records which models each of them is for.
+/// Appends the reports on `files`, and records the models in each file.
 fn push_reports<'f>(
     text: &mut String,
     summaries: &mut Vec<FileSummary<'f>>,
@@ -106,7 +106,7 @@ struct WholeReport {
     outcome: Outcome,
 }
 
-/// Makes the report on `files`: a report on each of them, then the warnings on missing days.
+/// Makes the report on `files`. It has a report on each file, then the warnings about missing days.
 fn report_all(alloc: Global, files: &[NamedFile<'_>]) -> Result<WholeReport, AllocError>
     ensures report { IfOk result (λ made.
         IsWholeReport (map named_text files.now) (string_bytes made.text)) }

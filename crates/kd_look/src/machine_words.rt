@@ -1,4 +1,4 @@
-//! A machine in words: a line for each slot, cable, pin wheel and bar.
+//! A machine in words. There is a line for each slot, cable, pin wheel and bar.
 ghost use Rattle.std.specs.Prelude.{codes, ◌≡◌, ◌<◌, ◌++◌, ◌∷◌, [], OnOk, Some, None};
 ghost use Rattle.std.specs.List.{flat_map, range_with_len};
 ghost use Rattle.std.specs.String.{string_bytes};
@@ -12,7 +12,7 @@ use kd_state::Machine;
 use kd_tables::{Letter, Wheel};
 use std::alloc::AllocError;
 
-/// A sort of things of which a machine has several, numbered from 1.
+/// A sort of things. A machine has several things of the sort, numbered from 1.
 #[derive(Clone, Copy)]
 pub enum Thing {
     Slot,
@@ -32,7 +32,7 @@ fn push_label(text: &mut String, name: &str, number: u8) -> Result<(), AllocErro
     text.push_str(": ")
 }
 
-/// Appends the letter; nothing without a letter.
+/// Appends the letter. If there is no letter, appends nothing.
 fn push_optional_letter(text: &mut String, letter: Option<Letter>) -> Result<(), AllocError>
     ensures { OnOk result (string_bytes text.new ≡ string_bytes text.old ++ letter_words letter) }
 {
@@ -86,7 +86,7 @@ fn push_slot(text: &mut String, machine: &Machine, slot: u8) -> Result<(), Alloc
     }
 }
 
-/// Appends the line of a cable with the ends `one` and `other`, unless both are free.
+/// Appends the line of a cable with the ends `one` and `other`. If neither end has a letter, appends nothing.
 #[tactic(auto, using(std::proofs::Common::append_assoc), unfolding(crate::specs::MachineWords::cable_line))]
 fn push_cable_line(
     text: &mut String,
@@ -133,7 +133,7 @@ fn push_loose_cable(text: &mut String, cable: u8, letter: Letter) -> Result<(), 
     text.push_str(", one end free\n")
 }
 
-/// Appends the line of cable `cable`, if the machine has this cable and a letter is in it.
+/// Appends the line of cable `cable`, if the machine has this cable, and the cable has a letter.
 #[tactic(auto, unfolding(crate::specs::MachineWords::cable_words))]
 fn push_cable(text: &mut String, machine: &Machine, cable: u8) -> Result<(), AllocError>
     ensures { OnOk result
@@ -155,7 +155,7 @@ fn push_spaced_letter(text: &mut String, letter: Letter) -> Result<(), AllocErro
     push_letter(text, letter)
 }
 
-/// Appends a space and `letter`, if this pin of pin wheel `wheel` is effective.
+/// Appends a space and `letter`, if the pin at this letter of pin wheel `wheel` is effective.
 #[tactic(auto, using(std::proofs::Common::append_assoc), unfolding(crate::specs::MachineWords::pin_words))]
 fn push_pin(
     text: &mut String,
@@ -213,7 +213,7 @@ fn push_bar(text: &mut String, machine: &Machine, bar: u8) -> Result<(), AllocEr
     text.push_str("\n")
 }
 
-/// Appends the line of the thing of this sort with the number `number`, if the machine has it.
+/// Appends the line of the thing of this sort with the number `number`, if the machine has this thing.
 #[tactic(auto, unfolding(crate::specs::MachineWords::thing_words))]
 fn push_thing(
     text: &mut String,

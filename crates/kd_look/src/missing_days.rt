@@ -1,10 +1,10 @@
-//! Warnings on a machine for which no key sheet has a day.
+//! Warnings about a machine for which no key sheet has a day.
 
 use kd_slips::model_name;
 use kd_tables::Model;
 use std::alloc::{AllocError, Global};
 
-/// The models that a file is for.
+/// The models in a file.
 #[derive(Drop)]
 pub enum Contents {
     /// A machine file, of this model.
@@ -15,7 +15,7 @@ pub enum Contents {
     Unknown,
 }
 
-/// The models that a file is for, with the file's name.
+/// A file's name, and the models in the file.
 #[derive(Drop)]
 pub struct FileSummary<'f> {
     /// The file's name.
@@ -35,7 +35,7 @@ fn has_day(summaries: &[FileSummary<'_>], model: Model) -> bool {
     false
 }
 
-/// A warning for each sheet: it has no day for the machine `name` of this model.
+/// A warning for each sheet. It says that the sheet has no day for the machine `name`, which is of this model.
 fn sheet_lines(
     alloc: Global,
     name: &str,
@@ -56,7 +56,7 @@ fn sheet_lines(
     Ok(lines)
 }
 
-/// The warnings on machines for which no sheet has a day; none if there is no sheet.
+/// The warnings about machines for which no sheet has a day. None if there is no sheet.
 pub fn missing_day_warnings(
     alloc: Global,
     summaries: &[FileSummary<'_>],

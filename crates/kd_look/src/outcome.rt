@@ -9,12 +9,12 @@ use kd_sheet::SheetFault;
 pub enum Outcome {
     /// No file has a fault.
     Faultless,
-    /// The first fault of the first file that has any.
+    /// The first fault of the first file that has a fault.
     Faulty(SheetFault),
 }
 
 impl Outcome {
-    /// This outcome or, if it is `Faultless`, the outcome `later` of the following files.
+    /// This outcome or, if it is `Faultless`, the outcome `later` of the files after it.
     pub fn or(self, later: Outcome) -> Outcome
         ensures { result ≡ or_later self later }
     {

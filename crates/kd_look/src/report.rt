@@ -17,7 +17,7 @@ use std::alloc::{AllocError, Global};
 /// The report on a file.
 #[derive(Drop)]
 pub struct Report {
-    /// The lines on the file.
+    /// The lines about the file.
     pub text: String,
     pub outcome: Outcome,
     pub contents: Contents,
@@ -42,7 +42,7 @@ fn push_file(text: &mut String, name: &str, file: &File) -> Result<(), AllocErro
     }
 }
 
-/// The words for the content of the file `name`, then its warnings.
+/// The words for the content of the file `name`, and then the file's warnings.
 fn description(alloc: Global, bytes: &[u8], name: &str, file: &File) -> Result<String, AllocError>
     ensures { IfOk result (λ text. Describes name.now bytes.now file.now (string_bytes text)) }
 {
@@ -55,7 +55,7 @@ fn description(alloc: Global, bytes: &[u8], name: &str, file: &File) -> Result<S
     Ok(text)
 }
 
-/// The models that `file` is for.
+/// The model of the machine in `file`, or the models of the key sheet's days.
 fn contents_of(alloc: Global, file: &File) -> Result<Contents, AllocError> {
     match file {
         File::Machine(machine) => Ok(Contents::Machine(machine.model())),

@@ -1,4 +1,4 @@
-//! A key sheet in words: the days of each model, and the days without groups.
+//! A key sheet in words. It has lines for the days of each model, and for the days without groups.
 ghost use Rattle.std.specs.Prelude.{codes, ◌≡◌, ◌<◌, ◌++◌, true, false, OnOk};
 ghost use Rattle.std.specs.String.{string_bytes};
 ghost use Rattle.kd_look.specs.SheetWords.{is_of_sort, has_day, day_words, numbered_day_words, sort_words};
@@ -32,7 +32,7 @@ fn is_of_sort(sort: Sort, day: &SheetDay) -> bool
     }
 }
 
-/// Whether `sheet` has day `number`, and the day is of this sort.
+/// Whether `sheet` has the day `number`, and the day is of this sort.
 #[tactic(auto, unfolding(crate::specs::SheetWords::has_day))]
 fn has_day(sheet: &Sheet, sort: Sort, number: u8) -> bool
     ensures { result ≡ has_day sheet.now sort number }
@@ -55,7 +55,7 @@ fn push_first_day(text: &mut String, title: &str, after: bool, number: u8) -> Re
     text.push_str(if after { " to " } else { "\n" })
 }
 
-/// Appends the end of a line, its last day, unless the next day is in the line, too.
+/// Appends the end of a line: its last day. If the next day is in the line, too, appends nothing.
 #[tactic(auto, using(std::proofs::Common::append_assoc), unfolding(crate::specs::SheetWords::day_words))]
 fn push_last_day(text: &mut String, title: &str, after: bool, number: u8) -> Result<(), AllocError>
     ensures { OnOk result
@@ -68,7 +68,7 @@ fn push_last_day(text: &mut String, title: &str, after: bool, number: u8) -> Res
     text.push_str("\n")
 }
 
-/// Appends the words that day `number` adds to the lines of this sort.
+/// Appends the words that the day `number` adds to the lines of this sort.
 #[tactic(auto, unfolding(crate::specs::SheetWords::numbered_day_words))]
 fn push_day(
     text: &mut String,
@@ -111,7 +111,7 @@ fn push_model(text: &mut String, sheet: &Sheet, model: Model) -> Result<(), Allo
     push_sort(text, sheet, model.text().as_str(), Sort::Of(model))
 }
 
-/// Appends the days of each model, and the days without groups.
+/// Appends the lines for the days of each model, and for the days without groups.
 #[tactic(auto, using(std::proofs::Common::append_assoc), unfolding(crate::specs::SheetWords::sheet_words))]
 pub fn push_sheet(text: &mut String, sheet: &Sheet) -> Result<(), AllocError>
     ensures { OnOk result (string_bytes text.new ≡ string_bytes text.old ++ sheet_words sheet.now) }

@@ -1,4 +1,4 @@
-//! The warnings on a file: things that the desk accepts, but that may not have been meant.
+//! The warnings about a file. The desk accepts these things, but perhaps they weren't meant.
 ghost use Rattle.std.specs.Prelude.{◌≡◌, ◌++◌, [], IfOk, MatchResult, OnOk};
 ghost use Rattle.std.specs.String.{string_bytes};
 ghost use Rattle.kd_sheet.specs.Document.{document_of};
@@ -21,7 +21,7 @@ fn has_mark(bytes: &[u8]) -> bool
     bytes.len() > 2 && bytes[0] == 239 && bytes[1] == 187 && bytes[2] == 191
 }
 
-/// Appends the warning on a byte order mark, if the file begins with one.
+/// Appends the warning about a byte order mark, if the file begins with one.
 #[tactic(auto, using(std::proofs::Common::append_assoc), unfolding(crate::specs::Warnings::mark_words))]
 fn push_mark(lines: &mut String, bytes: &[u8], name: &str) -> Result<(), AllocError>
     ensures { OnOk result (string_bytes lines.new
@@ -37,7 +37,7 @@ fn push_mark(lines: &mut String, bytes: &[u8], name: &str) -> Result<(), AllocEr
     }
 }
 
-/// The warnings on the keys of a file, if it is a document.
+/// The warnings about the keys of a file, if it is a document.
 fn document_warnings(alloc: Global, bytes: &[u8], name: &str) -> Result<String, AllocError>
     ensures { IfOk result (λ lines. MatchResult (document_of bytes.now)
         (λ document. AreWarnings name.now document (string_bytes lines)) (λ fault. string_bytes lines ≡ [])) }
@@ -49,7 +49,7 @@ fn document_warnings(alloc: Global, bytes: &[u8], name: &str) -> Result<String, 
     }
 }
 
-/// The warnings on a byte order mark and on the keys of a file, a line for each.
+/// The warnings about a byte order mark and the keys of a file. Each is a line.
 pub fn key_warnings(alloc: Global, bytes: &[u8], name: &str) -> Result<String, AllocError>
     ensures { IfOk result (λ lines. AreKeyWarnings name.now bytes.now (string_bytes lines)) }
 {
@@ -60,7 +60,7 @@ pub fn key_warnings(alloc: Global, bytes: &[u8], name: &str) -> Result<String, A
     Ok(lines)
 }
 
-/// The warnings on the days of `sheet`, a line for each.
+/// The warnings about the days of `sheet`. Each is a line.
 fn sheet_warnings(alloc: Global, name: &str, sheet: &Sheet) -> Result<String, AllocError>
     ensures { IfOk result (λ lines. WarnsOfDays name.now (string_bytes lines)) }
 {
@@ -70,7 +70,7 @@ fn sheet_warnings(alloc: Global, name: &str, sheet: &Sheet) -> Result<String, Al
     Ok(lines)
 }
 
-/// The warnings on the days of a key sheet, a line for each.
+/// The warnings about the days of a key sheet. Each is a line.
 pub fn day_warnings(alloc: Global, name: &str, file: &File) -> Result<String, AllocError>
     ensures { IfOk result (λ lines. WarnsOfDays name.now (string_bytes lines)) }
 {
