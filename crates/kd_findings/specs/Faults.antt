@@ -1,4 +1,4 @@
--- The faults of a machine file: for each key, in the order of testing, the fault with which the desk refuses its value.
+-- The faults of a machine file. Each key, in the order of testing, has the fault with which the desk refuses its value.
 -- The desk stops at a file's first fault; here, each key is judged separately.
 -- Test: tests/cases/curator-look.toml
 use Rattle.std.specs.Prelude.{ℕ, nat_le, true, List, [], ◌∷◌, ◌++◌, length, map, slice_get, Option, None, Result, Ok, Err}
@@ -32,24 +32,24 @@ use Rattle.kd_findings.specs.declared.place.Place.{Place}
 abbrev pub in_file : Key → Place
 in_file key = record { entry = None; day = None; key = key }
 
--- a place beside this one, at another key
+-- the place of another key, beside this place
 abbrev pub at_key : Place → Key → Place
 at_key place key = record place { key = key }
 
--- the list of this fault at this place; empty without a fault
+-- the list with this fault at this place; empty if there is no fault
 abbrev pub at_place : Place → Option SheetFault → List (Place × SheetFault)
 at_place place fault = option_to_list (option_map (λ one. (place, one)) fault)
 
--- the fault with which the desk refuses the value at a place; none if it reads the value
+-- the fault with which the desk refuses the value at a place; empty if the desk reads the value
 abbrev pub fault_at : {A : Type 0} → Place → Result A SheetFault → List (Place × SheetFault)
 fault_at place reading = at_place place (result_err reading)
 
--- the fault of the model; if the model is read, the faults of the keys that it needs
+-- The fault of the model. If the model is read, the faults of the keys that this model needs.
 abbrev pub after_model : Place → (Model → List (Place × SheetFault)) → Result Model SheetFault → List (Place × SheetFault)
 after_model place faults (Ok model) = faults model
 after_model place faults (Err fault) = (place, fault) ∷ []
 
--- the faults of a rotor machine's keys after `model`
+-- the faults of a rotor machine's keys, which are tested after `model`
 unfoldable pub rotor_file_faults : Model → Members → List (Place × SheetFault)
 rotor_file_faults model table =
     fault_at (in_file keys.Reflector) (reflector_in model table)
@@ -58,7 +58,7 @@ rotor_file_faults model table =
     ++ (fault_at (in_file keys.Letters) (letters_at keys.Letters (length (box_of model)) table)
     ++ fault_at (in_file keys.Cables) (cables_in table))))
 
--- the faults of a Converter's keys after `model`
+-- the faults of a Converter's keys, which are tested after `model`
 unfoldable pub pin_file_faults : Members → List (Place × SheetFault)
 pin_file_faults table =
     fault_at (in_file keys.Letters) (shown_letters_in keys.Letters table)
@@ -71,7 +71,7 @@ model_file_faults table model = rotor_file_faults model table
 abbrev pub version_in : Members → Result ℕ SheetFault
 version_in table = read_at keys.Version (number_up_to 2) table
 
--- the model in a machine file. The file's version must know the model; a version with a fault counts as one that does.
+-- The model in a machine file. The file's version must have this model; a version that is refused has each model.
 unfoldable pub file_model : Members → Result Model SheetFault
 file_model table = do
   model ← model_in table
@@ -84,7 +84,7 @@ machine_faults table =
     fault_at (in_file keys.Version) (version_in table)
     ++ after_model (in_file keys.Model) (model_file_faults table) (file_model table)
 
--- the faults in findings, with their places, but without the words
+-- the faults in findings, each with its place
 abbrev pub faults_of : List Finding → List (Place × SheetFault)
 faults_of findings = map (λ finding. (finding.place, finding.fault)) findings
 
@@ -94,8 +94,8 @@ first_fault faults = option_map (λ fault. fault.1) (slice_get faults 0)
 
 -- ---- What inner functions answer. No public contract cites this definition.
 
--- the number of the item that the words for a fault are about: the item in the slip of `checked`, if the slip has this
--- fault
+-- The number of the item that the words for a fault are about. It is the item in the slip of `checked`, if the slip has
+-- this fault.
 abbrev pub told_item : SheetFault → Result (Unit {0}) Slip → Option ℕ
 told_item fault (Err (slips.Fault found item words)) = if (fault_eq.ghosts).eq found fault then item else None
 told_item fault checked = None

@@ -1,4 +1,4 @@
--- The words for a file that isn't TOML: the line and the column at which the parser found a fault.
+-- The words for a file that isn't TOML. They have the line and the column at which the parser found a fault.
 -- Source: TOML 1.1, toml.io; UTF-8, RFC 3629.
 -- Test: tests/cases/curator-look.toml
 use Rattle.std.specs.Prelude.{codes, ◌≡◌, ◌≤◌, ℕ, ◌+◌, ◌++◌, ◌==◌, ◌||◌, nat_lt, Bool, List, [], ◌∷◌, count_by}
@@ -9,7 +9,7 @@ use Rattle.kd_findings.specs.Texts.{IsInOneLine, titled}
 abbrev pub line_at : List ℕ → ℕ → ℕ
 line_at text index = count_by (λ byte. byte == 10) (take index text) + 1
 
--- whether a character begins with the byte: in UTF-8, bytes from 128 to 191 continue a character
+-- Whether a character begins with the byte. In UTF-8, bytes from 128 to 191 continue a character.
 abbrev pub begins_character : ℕ → Bool
 begins_character byte = nat_lt byte 128 || nat_lt 191 byte
 
@@ -23,11 +23,11 @@ characters_to_feed (byte ∷ rest) = if byte == 10 then 0
 abbrev pub column_at : List ℕ → ℕ → ℕ
 column_at text index = characters_to_feed (reverse (take index text)) + 1
 
--- the words for a place: the line, the column, and `reason`, which says what is wrong there
+-- the words for a place: its line, its column, and `reason`, which says what is wrong there
 unfoldable pub place_words : ℕ → ℕ → List ℕ → List ℕ
 place_words line column reason = titled (codes ", line ") line ++ titled (codes ", column ") column ++ codes ": " ++ reason
 
--- The words are the line and the column of the byte at `start`, then a reason without a line end.
+-- The words are the line and the column of the byte at `start`, then a reason. The reason has no line end.
 pub record NamesPlace (text : List ℕ) (start : ℕ) (words : List ℕ) : Type 0 where
   pub reason : List ℕ
   pub plain : IsInOneLine reason

@@ -1,5 +1,5 @@
--- The faults of a key sheet: for each entry, and each of its keys in the order of testing, the fault with which the
--- desk refuses the key's value. The desk stops at a sheet's first fault; here, the later entries are judged, too.
+-- The faults of a key sheet. Each key of each entry, in the order of testing, has the fault with which the desk refuses
+-- its value. The desk stops at a sheet's first fault; here, the later entries are judged, too.
 -- Test: tests/cases/curator-look.toml
 use Rattle.std.specs.Prelude.{◌≡◌, ◌⊎◌, ℕ, ◌+◌, ◌≤◌, ◌==◌, Bool, false, not, List, [], ◌∷◌, ◌++◌, length, take}
 use Rattle.std.specs.Prelude.{Option, Some, None, Result, Ok, true, if◌then◌else◌}
@@ -27,11 +27,11 @@ use Rattle.kd_findings.specs.Faults.{after_model, at_key, fault_at, in_file, mac
 use Rattle.kd_findings.specs.Kind.{entries_of, is_given, is_machine_file}
 use Rattle.kd_findings.specs.declared.place.Place.{Place}
 
--- the place of a key in entry `entry`, counted from 1; `day` is the entry's day, if it is known
+-- The place of a key in the entry `entry`, counted from 1. `day` is the entry's day, if it is known.
 abbrev pub in_entry : ℕ → Option ℕ → Key → Place
 in_entry entry day key = record { entry = Some entry; day = day; key = key }
 
--- the number of the day in an entry
+-- the day in an entry
 abbrev pub number_in : Members → Result ℕ SheetFault
 number_in table = read_at keys.Day (number_up_to 31) table
 
@@ -40,14 +40,14 @@ abbrev pub has_number : ℕ → Data → Bool
 has_number number item =
     option_map_or (λ day. day == number) (option_and_then (λ table. result_ok (number_in table)) (as_table item)) false
 
--- the day of an entry, or its fault; an earlier entry with the same day is a fault, too
+-- The day of an entry, or its fault. If an earlier entry has the same day, that is a fault, too.
 unfoldable pub new_day : List Data → Members → Result ℕ SheetFault
 new_day earlier table = do
   number ← number_in table
   demand (not (list_any (has_number number) earlier)) (DayTwice number)
   Ok number
 
--- the faults of a rotor machine's day, at the keys after `model`
+-- the faults of a rotor machine's day, at the keys that are tested after `model`
 unfoldable pub rotor_day_faults : Place → Model → Members → List (Place × SheetFault)
 rotor_day_faults place model table =
     fault_at (at_key place keys.Reflector) (reflector_in model table)
@@ -56,7 +56,7 @@ rotor_day_faults place model table =
     ++ (fault_at (at_key place keys.Window) (letters_at keys.Window (slots_of model) table)
     ++ (fault_at (at_key place keys.Plugs) (pairs_in table) ++ fault_at (at_key place keys.Groups) (groups_in table)))))
 
--- the faults of a Converter's day, at the keys after `model`
+-- the faults of a Converter's day, at the keys that are tested after `model`
 unfoldable pub pin_day_faults : Place → Members → List (Place × SheetFault)
 pin_day_faults place table =
     fault_at (at_key place keys.Rows) (rows_in table)
@@ -89,31 +89,30 @@ abbrev pub faults_after : List Data → List Data → List (Place × SheetFault)
 faults_after earlier [] = []
 faults_after earlier (item ∷ rest) = entry_faults earlier item ++ faults_after (earlier ++ item ∷ []) rest
 
--- The list has the faults of the first entries. It has those of all entries, unless it has at least 300 faults: a
--- month of 31 days with at most 8 keys each has fewer.
+-- The list has the faults of the first entries. If it has fewer than 300 faults, it has the faults of all entries. A
+-- month of 31 days, with at most 8 keys each, has fewer.
 pub record AreSheetFaults (items : List Data) (faults : List (Place × SheetFault)) : Type 0 where
   pub count : ℕ
   pub within : count ≤ length items
   pub are : faults ≡ faults_after [] (take count items)
   pub many : (count ≡ length items) ⊎ (300 ≤ length faults)
 
--- the fault of a document that should be a key sheet, but has no array `day`
+-- the fault of a document without the array `day` that should be a key sheet
 abbrev pub day_fault : Members → SheetFault
 day_fault document = if is_given keys.Day document then BadValue keys.Day else Missing keys.Day
 
--- the list has the faults of the document. The Bool says whether it is a machine file; the items are those of its array
--- `day`.
+-- The list has the faults of the document. The Bool says whether the document is a machine file. The items are the
+-- items of its array `day`, if it has one.
 abbrev pub AreFaultsOf : Bool → Option (List Data) → Members → List (Place × SheetFault) → Type 0
 AreFaultsOf true entries document faults = faults ≡ machine_faults document
 AreFaultsOf false (Some items) document faults = AreSheetFaults items faults
 AreFaultsOf false None document faults = faults ≡ (in_file keys.Day, day_fault document) ∷ []
 
--- The list has the faults of the document: those of a machine file, those of a key sheet's entries, or the missing
--- array `day`.
+-- The list has the faults of the document. It is a machine file, a key sheet with entries, or it lacks the array `day`.
 abbrev pub AreFaults : Members → List (Place × SheetFault) → Type 0
 AreFaults document faults = AreFaultsOf (is_machine_file document) (entries_of document) document faults
 
--- the first fault with which the desk refuses a file, as a machine file if it is one, otherwise as a key sheet
+-- The first fault with which the desk refuses a file. If the document isn't a machine file, it is read as a key sheet.
 abbrev pub file_fault : List ℕ → Members → Option SheetFault
 file_fault bytes document =
     if is_machine_file document then result_err (machine_of bytes) else result_err (sheet_of bytes)

@@ -1,8 +1,8 @@
--- Texts that are made of pieces, and the words for a place in a file.
+-- Texts that are made of pieces. Then the words for a place in a file.
 use Rattle.std.specs.Prelude.{codes, ◌≡◌, ◌≢◌, ◌⊎◌, ℕ, ◌++◌, List, [], ◌∷◌, Option, Some, None, decimal, slice_index, EachIndex}
 use Rattle.std.specs.Option.{option_map_or}
 
--- The text is a piece that satisfies `First`, then a rest that satisfies `Others`.
+-- The text begins with a piece that satisfies `First`. The rest satisfies `Others`.
 pub record BeginsWith (First Others : List ℕ → Type 0) (text : List ℕ) : Type 0 where
   pub piece : List ℕ
   pub others : List ℕ
@@ -10,7 +10,7 @@ pub record BeginsWith (First Others : List ℕ → Type 0) (text : List ℕ) : T
   pub after : Others others
   pub whole : text ≡ piece ++ others
 
--- The text has a piece for each item of a list, in their order. `IsPiece` relates an item to its piece.
+-- The text has a piece for each item of a list, in the order of the items. `IsPiece` relates an item to its piece.
 abbrev pub ArePieces : {A : Type 0} → (A → List ℕ → Type 0) → List A → List ℕ → Type 0
 ArePieces IsPiece [] text = text ≡ []
 ArePieces IsPiece (first ∷ rest) text = BeginsWith (IsPiece first) (λ others. ArePieces IsPiece rest others) text
@@ -19,7 +19,7 @@ ArePieces IsPiece (first ∷ rest) text = BeginsWith (IsPiece first) (λ others.
 abbrev pub IsInOneLine : List ℕ → Type 0
 IsInOneLine text = EachIndex text (λ index. slice_index text index ≢ 10)
 
--- The line is the text up to its first line feed, or the whole text.
+-- The line is the text up to the first line feed. If there is none, it is the whole text.
 abbrev pub EndsAtFeed : List ℕ → List ℕ → Type 0
 EndsAtFeed text line = (text ≡ line) ⊎ ((rest : List ℕ) × (text ≡ line ++ 10 ∷ rest))
 
@@ -27,7 +27,7 @@ EndsAtFeed text line = (text ≡ line) ⊎ ((rest : List ℕ) × (text ≡ line 
 unfoldable pub titled : List ℕ → ℕ → List ℕ
 titled title number = title ++ decimal number
 
--- the words for an item's number; nothing without a number
+-- the words for an item's number; empty if there is no number
 abbrev pub item_words : Option ℕ → List ℕ
 item_words item = option_map_or (titled (codes " ")) item []
 

@@ -17,14 +17,14 @@ use Rattle.kd_findings.specs.Kind.{entries_of, is_machine_file}
 use Rattle.kd_findings.specs.SheetFaults.{number_in}
 use Rattle.kd_findings.specs.declared.unread.Unread.{Unread}
 
--- An unread key: its name; the entry of the key sheet in which it stands, counted from 1, or `None` for the file
--- itself; and the entry's day, if it is known.
+-- An unread key: its name, and the entry of the key sheet in which it stands, counted from 1. `entry` is `None` for a
+-- key at the top of the file. `day` is the entry's day, if it is known.
 pub record UnreadKey : Type 0 where
   pub entry : Option ℕ
   pub day : Option ℕ
   pub name : List ℕ
 
--- the keys of a rotor machine's file; then those of a Converter's file
+-- the keys of a rotor machine's file; then the keys of a Converter's file
 abbrev pub rotor_file_keys : List Key
 rotor_file_keys =
     keys.Version ∷ keys.Model ∷ keys.Reflector ∷ keys.Slots ∷ keys.Rings ∷ keys.Letters ∷ keys.Cables ∷ []
@@ -38,7 +38,7 @@ file_keys (Some M209) = pin_file_keys
 file_keys (Some model) = rotor_file_keys
 file_keys None = rotor_file_keys ++ pin_file_keys
 
--- the keys of a rotor machine's day; then those of a Converter's day
+-- the keys of a rotor machine's day; then the keys of a Converter's day
 abbrev pub rotor_day_keys : List Key
 rotor_day_keys =
     keys.Day ∷ keys.Model ∷ keys.Reflector ∷ keys.Wheels ∷ keys.Rings ∷ keys.Window ∷ keys.Plugs ∷ keys.Groups ∷ []
@@ -61,12 +61,12 @@ abbrev pub names_in : Members → List (List ℕ)
 names_in no_members = []
 names_in (member name value rest) = name ∷ names_in rest
 
--- the keys of a table that aren't `known`, with the entry and the day of the table
+-- the keys of a table that aren't in `known`, each with the entry and the day of the table
 unfoldable pub unread_in : Option ℕ → Option ℕ → List Key → Members → List UnreadKey
 unread_in entry day known table = map (λ name. record { entry = entry; day = day; name = name })
     (filter (λ name. not (is_name_of known name)) (names_in table))
 
--- the unread keys of an entry; none if it isn't a table
+-- the unread keys of an entry; empty if the entry isn't a table
 unfoldable pub unread_in_entry : ℕ → Data → List UnreadKey
 unread_in_entry number item = option_map_or (λ table.
     unread_in (Some number) (result_ok (number_in table)) (day_keys (result_ok (model_in table))) table) (as_table item) []
@@ -76,13 +76,13 @@ abbrev pub unread_in_entries : List Data → List UnreadKey
 unread_in_entries items = flat_map (λ number. option_map_or (unread_in_entry number) (numbered_item items number) [])
     (range_with_len 1 (length items))
 
--- the known keys of a document without the array `day`. In a machine file, these are the keys of its model; otherwise
--- all keys, as a key sheet without its first line `[[day]]` has a day's keys at the top.
+-- The known keys of a document without the array `day`. In a machine file, these are the keys of its model. In other
+-- documents, these are all keys, as a key sheet without its first `[[day]]` has a day's keys at the top.
 abbrev pub top_keys : Members → List Key
 top_keys document = if is_machine_file document then file_keys (result_ok (model_in document))
     else rotor_file_keys ++ pin_file_keys ++ rotor_day_keys ++ pin_day_keys
 
--- the unread keys of a document. At the top of a key sheet, only `day` is known.
+-- The unread keys of a document. In a key sheet, only `day` is known at the top.
 unfoldable pub unread_keys : Members → List UnreadKey
 unread_keys document = option_map_or
     (λ items. unread_in None None (keys.Day ∷ []) document ++ unread_in_entries items) (entries_of document)

@@ -1,5 +1,5 @@
--- The warnings on a machine file or a key sheet: a line for each unread key, and a line for each cable whose letters
--- the desk writes in the other order.
+-- The warnings about a machine file or a key sheet. Each unread key has a line. Each cable whose letters the desk
+-- writes in the other order has a line, too.
 -- Test: tests/cases/curator-look.toml
 use Rattle.std.specs.Prelude.{codes, ◌≡◌, ℕ, ◌++◌, ◌&&◌, nat_le, nat_lt, Bool, List, [], ◌∷◌, Option}
 use Rattle.std.specs.Prelude.{if◌then◌else◌}
@@ -22,12 +22,12 @@ use Rattle.kd_findings.specs.Unread.{UnreadKey, unread_keys}
 unfoldable pub warning_start : List ℕ → Option ℕ → Option ℕ → List ℕ
 warning_start name day entry = name ++ entry_words day entry ++ codes ": warning: "
 
--- the warning on an unread key of the file `name`, with advice
+-- the warning about an unread key of the file `name`, with advice
 unfoldable pub unread_line : List ℕ → UnreadKey → List ℕ → List ℕ
 unread_line name key advice =
     warning_start name key.day key.entry ++ codes "nobody reads the key " ++ shown_text key.name ++ advice ++ codes "\n"
 
--- The text is the warning on this unread key of the file `name`. Advice may follow, such as which key was meant.
+-- The text is the warning about this unread key of the file `name`. Advice may follow, for example which key was meant.
 pub record TellsUnread (name : List ℕ) (key : UnreadKey) (text : List ℕ) : Type 0 where
   pub advice : List ℕ
   pub plain : IsInOneLine advice
@@ -37,7 +37,7 @@ pub record TellsUnread (name : List ℕ) (key : UnreadKey) (text : List ℕ) : T
 abbrev pub is_capital : ℕ → Bool
 is_capital byte = nat_le 65 byte && nat_le byte 90
 
--- the warning on a cable, if it consists of two capital letters in falling order
+-- the warning about a cable; empty unless the cable is two capital letters in falling order
 unfoldable pub order_line : List ℕ → List ℕ → List ℕ
 order_line name (one ∷ other ∷ []) =
     if is_capital one && is_capital other && nat_lt other one
@@ -46,27 +46,27 @@ order_line name (one ∷ other ∷ []) =
     else []
 order_line name cable = []
 
--- the warning on a cable, if the cable is a text
+-- the warning about a cable; empty if the cable isn't a text
 abbrev pub cable_line : List ℕ → Data → List ℕ
 cable_line name item = option_map_or (order_line name) (as_str item) []
 
--- the warnings on the cables in the list at the key `cables`
+-- the warnings about the cables in the array at the key `cables`
 unfoldable pub cable_lines : List ℕ → Members → List ℕ
 cable_lines name document = option_map_or (flat_map (cable_line name))
     (option_and_then as_items (get_member (key_name keys.Cables) document)) []
 
--- the warnings on the cables of a machine of this model; a Converter has none
+-- the warnings about the cables of a machine of this model; a Converter has none
 abbrev pub model_lines : List ℕ → Members → Model → List ℕ
 model_lines name document M209 = []
 model_lines name document model = cable_lines name document
 
--- the warnings on the cables of a document; none if it isn't a machine file, or its model isn't known
+-- The warnings about the cables of a document. Empty if it isn't a machine file, or its model isn't known.
 unfoldable pub order_lines : List ℕ → Members → List ℕ
 order_lines name document = if is_machine_file document
     then option_map_or (model_lines name document) (result_ok (model_in document)) [] else []
 
--- The text has exactly one warning for each unread key of the document, then a warning for each cable that the desk
--- writes in the other order.
+-- The text has exactly one warning for each unread key of the document. Then it has a warning for each cable whose
+-- letters the desk writes in the other order.
 pub record AreWarnings (name : List ℕ) (document : Members) (text : List ℕ) : Type 0 where
   pub unread : List ℕ
   pub told : ArePieces (TellsUnread name) (unread_keys document) unread

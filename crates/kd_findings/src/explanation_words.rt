@@ -1,4 +1,4 @@
-//! The words for what is wrong with a value, after the number of its list item.
+//! The words that say what is wrong with a value, after the number of its list item.
 ghost use Rattle.std.specs.Prelude.{◌≡◌, ◌++◌, codes, IfOk};
 ghost use Rattle.std.specs.String.{string_bytes};
 ghost use Rattle.kd_findings.specs.Texts.{item_words};

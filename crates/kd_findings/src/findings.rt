@@ -19,13 +19,13 @@ pub struct Finding {
 /// What is wrong with a value.
 #[derive(Drop)]
 pub struct Explanation {
-    /// The number of the item with the fault in the key's list, counted from 1; `None` if the words are about the whole
-    /// value.
+    /// The number of the item with the fault, in the list at the key, counted from 1. `None` if the words are about the
+    /// whole value.
     pub item: Option<usize>,
     pub words: String,
 }
 
-/// The words that `checked` has for `fault`; general words if it has none.
+/// The words for `fault` from `checked`. If `checked` has none, general words.
 fn explain(
     alloc: Global,
     fault: SheetFault,
@@ -43,7 +43,7 @@ fn explain(
     }
 }
 
-/// Appends `fault` to `list`, with the words that `checked` has for it.
+/// Appends `fault` to `list`, with the words for it from `checked`.
 fn push_fault(
     list: &mut Vec<Finding>,
     alloc: Global,
@@ -63,8 +63,8 @@ fn push_fault(
     Ok(())
 }
 
-/// Appends the fault with which the desk refuses the value at `place`, if it does, with the words that `checked` has
-/// for it.
+/// Appends the fault with which the desk refuses the value at `place`, if there is one. The words for it are from
+/// `checked`.
 pub fn note(
     list: &mut Vec<Finding>,
     alloc: Global,

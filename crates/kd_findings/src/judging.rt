@@ -21,7 +21,7 @@ use kd_slips::values::kind_of;
 use std::alloc::{AllocError, Global};
 use toml::{Table, Value};
 
-/// The items of the array at `key`; `None` if the table has no such array.
+/// The items of the array at `key`. `None` if the table has no such array.
 #[tactic(auto, using(kd_sheet::proofs::ReadBack::Described::KeyValues::Steps::items_found))]
 pub fn items_at(table: &Table, key: Key) -> Option<&[Value]>
     ensures { option_map (λ items. map view items.now) result
@@ -32,7 +32,7 @@ pub fn items_at(table: &Table, key: Key) -> Option<&[Value]>
     Some(items.as_slice())
 }
 
-/// The entries of a key sheet: the items of the array `day`; `None` if the document has no such array.
+/// The entries of a key sheet, which are the items of the array `day`. `None` if the document has no such array.
 pub fn entries_of(document: &Table) -> Option<&[Value]>
     ensures { option_map (λ items. map view items.now) result ≡ entries_of (table_view document.now) }
 {
@@ -49,7 +49,7 @@ pub fn is_machine_file(document: &Table) -> bool
             || (find_at(document, Key::Model).is_some() && find_at(document, Key::Day).is_none()))
 }
 
-/// The fault of a document that should be a key sheet, but has no array `day`.
+/// The fault of a document without the array `day` that should be a key sheet.
 fn day_fault(document: &Table) -> SheetFault
     ensures { result ≡ day_fault (table_view document.now) }
 {
@@ -59,7 +59,7 @@ fn day_fault(document: &Table) -> SheetFault
     }
 }
 
-/// Explains why a document is refused that is neither a machine file nor has the array `day`.
+/// Explains why a document is refused that isn't a machine file, and has no array `day`.
 fn check_day(alloc: Global, document: &Table) -> Result<(), Slip> {
     match find_at(document, Key::Day) {
         Some(value) => refuse(
@@ -79,7 +79,7 @@ fn check_day(alloc: Global, document: &Table) -> Result<(), Slip> {
     }
 }
 
-/// Finds the fault of a document that is neither a machine file nor has the array `day`.
+/// Finds the fault of a document that isn't a machine file, and has no array `day`.
 fn find_day_fault(alloc: Global, document: &Table) -> Result<Vec<Finding>, AllocError>
     ensures { IfOk result (λ list. faults_of list.items
         ≡ (in_file keys.Day, day_fault (table_view document.now)) ∷ []) }

@@ -4,7 +4,7 @@ ghost use Rattle.kd_findings.specs.Unread.{is_name_of};
 
 use kd_sheet::Key;
 
-/// Other names for keys, from other files, or in common use.
+/// Other names of keys: from other files, or in common use.
 const OTHER_NAMES: [(&str, Key); 12] = [
     ("plugs", Key::Cables),
     ("plugboard", Key::Cables),
@@ -27,7 +27,7 @@ pub fn is_known(keys: &[Key], name: &str) -> bool
     keys.iter().any(|key| key.name() == name)
 }
 
-/// How many bytes at their starts `one` and `other` share, capital and small letters counting as equal.
+/// How many bytes `one` and `other` share at their starts. Small letters count as capitals.
 fn common_start(one: &[u8], other: &[u8]) -> usize {
     let mut count = 0usize;
     for (byte, another) in one.iter().zip(other) {
@@ -39,7 +39,7 @@ fn common_start(one: &[u8], other: &[u8]) -> usize {
     count
 }
 
-/// How many bytes at their ends `one` and `other` share, capital and small letters counting as equal.
+/// How many bytes `one` and `other` share at their ends. Small letters count as capitals.
 fn common_end(one: &[u8], other: &[u8]) -> usize {
     let mut count = 0usize;
     for (byte, another) in one.iter().rev().zip(other.iter().rev()) {
@@ -51,14 +51,13 @@ fn common_end(one: &[u8], other: &[u8]) -> usize {
     count
 }
 
-/// Whether adding, dropping or changing one byte makes `one` equal to `other`, capital and small letters counting as
-/// equal.
+/// Whether adding, dropping or changing one byte of `one` gives `other`. Small letters count as capitals.
 pub fn is_near(one: &[u8], other: &[u8]) -> bool {
     let common = common_start(one, other).saturating_add(common_end(one, other));
     one.len().max(other.len()) <= common.saturating_add(1)
 }
 
-/// The key of `keys` for which `name` is another name.
+/// The key in `keys` for which `name` is another name.
 fn named_elsewhere(keys: &[Key], name: &str) -> Option<Key> {
     for (other, key) in &OTHER_NAMES {
         if *other == name && keys.contains(key) {
@@ -68,7 +67,7 @@ fn named_elsewhere(keys: &[Key], name: &str) -> Option<Key> {
     None
 }
 
-/// The key of `keys` with nearly the name `name`; if there is none, the key for which `name` is another name.
+/// The key in `keys` whose name is nearly `name`. If there is none, the key for which `name` is another name.
 pub fn meant_key(keys: &[Key], name: &str) -> Option<Key> {
     match keys
         .iter()

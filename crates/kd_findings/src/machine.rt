@@ -39,7 +39,7 @@ fn file_version(model: Model) -> u8
     }
 }
 
-/// Whether machine files of this version can have `model`; without a version, whether those of any version can.
+/// Whether machine files of this version can have `model`. If there is no version, files of any version count.
 fn has_model(version: Option<u8>, model: Model) -> bool
     ensures { result ≡ option_map_or (nat_le (file_version model)) version true }
 {
@@ -98,7 +98,7 @@ fn judge_box_letters(
     note(list, alloc, Place::in_file(key), fault, checked)
 }
 
-/// Appends the faults at the keys of a rotor machine's file, except version and model.
+/// Appends the faults at the keys of a rotor machine's file, except `version` and `model`.
 fn judge_rotors(
     list: &mut Vec<Finding>,
     alloc: Global,
@@ -128,7 +128,7 @@ fn judge_rotors(
     note(list, alloc, Place::in_file(Key::Cables), cables, checked)
 }
 
-/// Appends the faults at the keys of a Converter's file, except version and model.
+/// Appends the faults at the keys of a Converter's file, except `version` and `model`.
 #[tactic(auto, using(std::proofs::Common::append_assoc), unfolding(crate::specs::Faults::pin_file_faults))]
 fn judge_converter(list: &mut Vec<Finding>, alloc: Global, table: &Table) -> Result<(), AllocError>
     ensures { OnOk result (faults_of list.new.items
@@ -155,7 +155,8 @@ fn judge_converter(list: &mut Vec<Finding>, alloc: Global, table: &Table) -> Res
     )
 }
 
-/// Appends the fault of a machine file's model; if the model is read, the faults at the keys that it needs.
+/// Appends the fault of a machine file's model. If the model is read, appends the faults at the keys that this model
+/// needs.
 fn judge_model(list: &mut Vec<Finding>, alloc: Global, table: &Table) -> Result<(), AllocError>
     ensures { OnOk result (faults_of list.new.items ≡ faults_of list.old.items
         ++ after_model (in_file keys.Model) (model_file_faults (table_view table.now))

@@ -1,4 +1,4 @@
-//! The words for a file that isn't TOML: the place, what the parser says, and the likely mistake.
+//! The words for a file that isn't TOML. They say the place, what the parser says, and the likely mistake.
 ghost use Rattle.std.specs.Prelude.{◌≡◌, ◌+◌, ◌==◌, count_by, reverse, IfOk, None};
 ghost use Rattle.std.specs.Result.{result_ok};
 ghost use Rattle.std.specs.String.{string_bytes};
@@ -43,18 +43,18 @@ fn place_after(before: &[u8]) -> TextPlace
     TextPlace { line, column }
 }
 
-/// Line `line` of `bytes`, counted from 1, without its end.
+/// The line of `bytes` with the number `line`, counted from 1, without its line end.
 fn numbered_line(bytes: &[u8], line: usize) -> &[u8] {
     let mut lines = bytes.split(|byte| *byte == b'\n');
     lines.nth(line.saturating_sub(1)).unwrap_or(bytes)
 }
 
-/// Whether `line` has a curly quote, in UTF-8.
+/// Whether `line` has a character from U+2000 to U+203F, in UTF-8. Curly quotes are among them.
 fn has_curly_quote(line: &[u8]) -> bool {
     line.windows(2).any(|pair| matches!(pair, [0xE2, 0x80]))
 }
 
-/// Whether a number in `line` begins with a 0, as in `05`.
+/// Whether a number in `line` begins with a 0, for example `05`.
 fn has_leading_zero(line: &[u8]) -> bool {
     line.windows(3).any(|three| match three {
         [before, b'0', digit] => !before.is_ascii_alphanumeric()
@@ -64,7 +64,7 @@ fn has_leading_zero(line: &[u8]) -> bool {
     })
 }
 
-/// The likely mistake in a line about which the parser says `message`.
+/// The likely mistake in `line`, in which the parser found the fault `message`.
 fn hint(line: &[u8], message: &str) -> &'static str {
     let quotes = line.iter().filter(|byte| **byte == b'"').count();
     if message == "invalid UTF-8" {
@@ -86,7 +86,7 @@ fn hint(line: &[u8], message: &str) -> &'static str {
     }
 }
 
-/// The words for a file that is an order or a form; `None` for any other file.
+/// The words for a file that is an order or a form. `None` for any other file.
 fn message_words(bytes: &[u8]) -> Option<&'static str> {
     match bytes.strip_prefix(b"PART ")? {
         [b'0'..=b'9', ..] => Some(
@@ -98,7 +98,7 @@ fn message_words(bytes: &[u8]) -> Option<&'static str> {
     }
 }
 
-/// What is wrong in line `line`: what the parser says, and the likely mistake.
+/// The words that say what is wrong in line `line`: what the parser says, and the likely mistake.
 fn reason_for(
     alloc: Global,
     bytes: &[u8],
@@ -112,7 +112,7 @@ fn reason_for(
     format!(in alloc; "this isn't TOML: {message}; {advice}")
 }
 
-/// The words for a place, and for what is wrong there.
+/// The words for a place, which also say what is wrong there.
 #[tactic(auto, using(std::proofs::Common::append_assoc), unfolding(crate::specs::NotToml::place_words))]
 fn place_words(alloc: Global, place: TextPlace, reason: &str) -> Result<String, AllocError>
     ensures { IfOk result (λ words. string_bytes words
@@ -126,7 +126,7 @@ fn place_words(alloc: Global, place: TextPlace, reason: &str) -> Result<String, 
     Ok(words)
 }
 
-/// The words for the place of the parser's fault, and for what is wrong there.
+/// The words for the place of the parser's fault, which also say what is wrong there.
 fn words_at(alloc: Global, bytes: &[u8], error: &Error) -> Result<String, AllocError>
     requires { IsWithin bytes.now error.now }
     ensures { IfOk result (λ words. NamesPlace bytes.now (span_start error.now) (string_bytes words)) }
@@ -139,7 +139,7 @@ fn words_at(alloc: Global, bytes: &[u8], error: &Error) -> Result<String, AllocE
     place_words(alloc, place, first_line(reason.as_str()))
 }
 
-/// The words for the place at which `bytes` stop being TOML, and for what is wrong there.
+/// The words for the place at which `bytes` stop being TOML, which also say what is wrong there.
 pub fn toml_words(alloc: Global, bytes: &[u8]) -> Result<String, AllocError>
     requires { result_ok (document_of bytes.now) ≡ None }
     ensures { IfOk result (λ words. SaysNotToml bytes.now (string_bytes words)) }

@@ -8,7 +8,7 @@ use kd_sheet::Key;
 /// Where in a file a value stands.
 #[derive(Clone, Copy)]
 pub struct Place {
-    /// The number of the entry in a key sheet, counted from 1; `None` in a machine file.
+    /// The number of the entry in a key sheet, counted from 1. `None` in a machine file.
     pub entry: Option<usize>,
     /// The entry's day, if it can be read.
     pub day: Option<u8>,
@@ -27,7 +27,7 @@ impl Place {
         }
     }
 
-    /// The place of `key` in entry `entry` of a key sheet.
+    /// The place of `key` in the entry `entry` of a key sheet.
     pub fn in_entry(entry: usize, day: Option<u8>, key: Key) -> Self
         ensures { result ≡ in_entry entry day key }
     {
@@ -38,7 +38,7 @@ impl Place {
         }
     }
 
-    /// The place of another key beside this place.
+    /// The place of another key, beside this place.
     pub fn at(self, key: Key) -> Self
         ensures { result ≡ at_key self key }
     {

@@ -57,7 +57,7 @@ fn have_number(items: &[Value], number: u8) -> bool
     }
 }
 
-/// The day of an entry, or the fault with which the desk refuses it; `earlier` are the items before the entry.
+/// The day of an entry, or the fault with which the desk refuses it. `earlier` are the items before the entry.
 #[tactic(auto, unfolding(crate::specs::SheetFaults::new_day))]
 fn new_day(earlier: &[Value], table: &Table) -> Result<u8, SheetFault>
     ensures { result ≡ new_day (map view earlier.now) (table_view table.now) }
@@ -69,7 +69,7 @@ fn new_day(earlier: &[Value], table: &Table) -> Result<u8, SheetFault>
     Ok(number)
 }
 
-/// The number, counted from 1, of the first of `items` that is an entry with the day `number`.
+/// The number of the first entry in `items` with the day `number`, counted from 1.
 fn entry_with(items: &[Value], number: u8) -> usize {
     let mut entry = 1usize;
     for item in items {
@@ -81,7 +81,7 @@ fn entry_with(items: &[Value], number: u8) -> usize {
     entry
 }
 
-/// Explains why the day of an entry is refused; `earlier` are the items before the entry.
+/// Explains why the day of an entry is refused. `earlier` are the items before the entry.
 fn check_day(alloc: Global, earlier: &[Value], table: &Table) -> Result<(), Slip> {
     check_number(alloc, table, Key::Day, DAYS)?;
     let Ok(day) = number_at(table, Key::Day, DAYS) else {
@@ -143,7 +143,7 @@ fn judge_rotors(
     )
 }
 
-/// Appends the faults at the keys of a Converter's day, except day and model.
+/// Appends the faults at the keys of a Converter's day, except `day` and `model`.
 fn judge_converter(
     list: &mut Vec<Finding>,
     alloc: Global,
@@ -183,7 +183,7 @@ fn check_model(alloc: Global, table: &Table) -> Result<(), Slip> {
     Ok(())
 }
 
-/// Appends the fault of an entry's model; if the model is read, the faults at the keys that it needs.
+/// Appends the fault of an entry's model. If the model is read, appends the faults at the keys that this model needs.
 fn judge_model(
     list: &mut Vec<Finding>,
     alloc: Global,
@@ -206,7 +206,7 @@ fn judge_model(
     }
 }
 
-/// Appends the faults of the entry `table`; `earlier` are the items before it.
+/// Appends the faults of the entry `table`. `earlier` are the items before it.
 fn judge_table(
     list: &mut Vec<Finding>,
     alloc: Global,
@@ -223,7 +223,7 @@ fn judge_table(
     judge_model(list, alloc, table, place)
 }
 
-/// Explains why an item of the list `day` is refused that isn't a table.
+/// Explains why an item of the array `day` that isn't a table is refused.
 fn refuse_entry(alloc: Global, item: &Value) -> Result<(), Slip> {
     refuse(
         SheetFault::BadValue(Key::Day),
@@ -234,7 +234,7 @@ fn refuse_entry(alloc: Global, item: &Value) -> Result<(), Slip> {
     )
 }
 
-/// Appends the faults of the entry `item`; `earlier` are the items before it.
+/// Appends the faults of the entry `item`. `earlier` are the items before it.
 fn judge_entry(
     list: &mut Vec<Finding>,
     alloc: Global,
@@ -254,7 +254,7 @@ fn judge_entry(
     }
 }
 
-/// Finds the faults of a key sheet's entries. The entry with fault number 300 is the last that is judged.
+/// Finds the faults of a key sheet's entries. Once there are 300 faults, no later entry is judged.
 pub fn sheet_faults(alloc: Global, items: &[Value]) -> Result<Vec<Finding>, AllocError>
     ensures { IfOk result (λ list. AreSheetFaults (map view items.now) (faults_of list.items)) }
 {

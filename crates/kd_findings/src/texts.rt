@@ -27,7 +27,7 @@ pub fn push_titled(text: &mut String, title: &str, number: usize) -> Result<(), 
     text.push_str(buffer.format(number))
 }
 
-/// Appends the words for an item's number; nothing without a number.
+/// Appends the words for an item's number. If there is no number, appends nothing.
 pub fn push_item(text: &mut String, item: Option<usize>) -> Result<(), AllocError>
     ensures { OnOk result (string_bytes text.new ≡ string_bytes text.old ++ item_words item) }
 {

@@ -116,7 +116,8 @@ static ANY_DAY: [Key; 14] = [
 /// A key of a file that the desk doesn't know, and so doesn't read.
 #[derive(Clone, Copy)]
 pub struct Unread<'t> {
-    /// The number of the entry of a key sheet in which the key stands, counted from 1; `None` for the file itself.
+    /// The number of the entry of a key sheet in which the key stands, counted from 1. `None` for a key at the top of
+    /// the file.
     pub entry: Option<usize>,
     /// The entry's day, if it can be read.
     pub day: Option<u8>,
@@ -124,18 +125,18 @@ pub struct Unread<'t> {
     pub meant: Meant,
 }
 
-/// What an unread key may have been meant to be.
+/// What may have been meant by an unread key.
 #[derive(Clone, Copy)]
 pub enum Meant {
     /// Another key.
     Key(Key),
     /// The entries of a key sheet.
     Entries,
-    /// Nothing that this crate knows.
+    /// Nothing known to this crate.
     Unknown,
 }
 
-/// What the key `name` with the value `value` may have been meant to be, in a table with the keys `keys`.
+/// What may have been meant by the key `name` with the value `value`. The keys of its table are `keys`.
 fn meant_by(keys: &[Key], name: &str, value: &Value) -> Meant {
     if (value.is_table() || value.is_array()) && is_near(name.as_bytes(), b"day") {
         return Meant::Entries;
@@ -146,7 +147,7 @@ fn meant_by(keys: &[Key], name: &str, value: &Value) -> Meant {
     }
 }
 
-/// The keys of a machine file of this model.
+/// The keys of a machine file of this model. If the model isn't known, the keys of all machine files.
 fn file_keys(model: Option<Model>) -> &'static [Key]
     ensures { result.now ≡ file_keys model }
 {
@@ -157,7 +158,7 @@ fn file_keys(model: Option<Model>) -> &'static [Key]
     }
 }
 
-/// The keys of an entry of this model.
+/// The keys of an entry of this model. If the model isn't known, the keys of all entries.
 fn day_keys(model: Option<Model>) -> &'static [Key]
     ensures { result.now ≡ day_keys model }
 {
@@ -206,7 +207,7 @@ fn push_unread<'t>(
     Ok(())
 }
 
-/// Appends the unread keys of entry `entry`, if it is a table.
+/// Appends the unread keys of the entry `entry`, if it is a table.
 #[tactic(auto, unfolding(crate::specs::Unread::unread_in_entry))]
 fn push_entry_keys<'t>(
     list: &mut Vec<Unread<'t>>,

@@ -1,4 +1,4 @@
-//! Warnings on things that the desk accepts, but that may not have been meant.
+//! Warnings about things that the desk accepts, though they may not have been meant.
 ghost use Rattle.std.specs.Prelude.{◌≡◌, ◌++◌, IfOk, OnOk, map};
 ghost use Rattle.std.specs.List.{flat_map};
 ghost use Rattle.std.specs.String.{string_bytes};
@@ -34,7 +34,7 @@ fn push_start(
     text.push_str(": warning: ")
 }
 
-/// The advice for an unread key: what to write in its place.
+/// The advice for an unread key. It says what to write in its place.
 fn advice_of(alloc: Global, meant: Meant) -> Result<String, AllocError> {
     match meant {
         Meant::Key(key) => format!(in alloc; ": write `{}`", key.name()),
@@ -45,7 +45,7 @@ fn advice_of(alloc: Global, meant: Meant) -> Result<String, AllocError> {
     }
 }
 
-/// Appends the warning on an unread key, with `advice`.
+/// Appends the warning about an unread key, with `advice`.
 #[tactic(auto, using(std::proofs::Common::append_assoc), unfolding(crate::specs::Warnings::unread_line))]
 fn push_told(
     text: &mut String,
@@ -65,7 +65,7 @@ fn push_told(
     text.push_str("\n")
 }
 
-/// Appends the warning on an unread key, with advice on what to write.
+/// Appends the warning about an unread key, with advice on what to write.
 fn push_unread(
     text: &mut String,
     alloc: Global,
@@ -79,7 +79,7 @@ fn push_unread(
     push_told(text, alloc, name, key, first_line(advice.as_str()))
 }
 
-/// Appends a warning on each unread key.
+/// Appends a warning about each unread key.
 fn push_all_unread(
     text: &mut String,
     alloc: Global,
@@ -102,7 +102,7 @@ fn is_capital(byte: u8) -> bool
     65 <= byte && byte <= 90
 }
 
-/// Appends the warning on a cable, if the desk writes its letters in the other order.
+/// Appends the warning about a cable, if the desk writes its letters in the other order.
 #[tactic(auto, using(std::proofs::Common::append_assoc), unfolding(crate::specs::Warnings::order_line))]
 fn push_order(lines: &mut String, name: &str, cable: &str) -> Result<(), AllocError>
     ensures { OnOk result (string_bytes lines.new
@@ -123,7 +123,7 @@ fn push_order(lines: &mut String, name: &str, cable: &str) -> Result<(), AllocEr
     }
 }
 
-/// Appends the warning on the cable `item`, if it is a text whose letters the desk writes in the other order.
+/// Appends the warning about the cable `item`, if it is a text, and the desk writes its letters in the other order.
 fn push_cable(lines: &mut String, name: &str, item: &Value) -> Result<(), AllocError>
     ensures { OnOk result (string_bytes lines.new
         ≡ string_bytes lines.old ++ cable_line name.now (view item.now)) }
@@ -134,7 +134,7 @@ fn push_cable(lines: &mut String, name: &str, item: &Value) -> Result<(), AllocE
     }
 }
 
-/// Appends a warning on each of these cables whose letters the desk writes in the other order.
+/// Appends a warning about each of these cables whose letters the desk writes in the other order.
 fn push_cables(lines: &mut String, name: &str, items: &[Value]) -> Result<(), AllocError>
     ensures { OnOk result (string_bytes lines.new
         ≡ string_bytes lines.old ++ flat_map (cable_line name.now) (map view items.now)) }
@@ -145,7 +145,7 @@ fn push_cables(lines: &mut String, name: &str, items: &[Value]) -> Result<(), Al
     Ok(())
 }
 
-/// Appends a warning on each cable of a rotor machine's file whose letters the desk writes in the other order.
+/// Appends a warning about each cable of a rotor machine's file whose letters the desk writes in the other order.
 #[tactic(auto, unfolding(crate::specs::Warnings::cable_lines))]
 fn push_file_cables(lines: &mut String, name: &str, document: &Table) -> Result<(), AllocError>
     ensures { OnOk result (string_bytes lines.new
@@ -157,7 +157,8 @@ fn push_file_cables(lines: &mut String, name: &str, document: &Table) -> Result<
     }
 }
 
-/// Appends a warning on each cable whose letters the desk writes in the other order, if the document is a machine file.
+/// Appends a warning about each cable whose letters the desk writes in the other order. If the document isn't a machine
+/// file, appends nothing.
 #[tactic(auto, unfolding(crate::specs::Warnings::order_lines))]
 fn push_orders(lines: &mut String, name: &str, document: &Table) -> Result<(), AllocError>
     ensures { OnOk result (string_bytes lines.new
@@ -172,8 +173,8 @@ fn push_orders(lines: &mut String, name: &str, document: &Table) -> Result<(), A
     }
 }
 
-/// The warnings on a document: a line for each unread key, and for each cable whose letters the desk writes in the
-/// other order.
+/// The warnings about a document. Each unread key has a line. Each cable whose letters the desk writes in the other
+/// order has a line, too.
 pub fn warning_lines(alloc: Global, name: &str, document: &Table) -> Result<String, AllocError>
     ensures { IfOk result (λ lines. AreWarnings name.now (table_view document.now) (string_bytes lines)) }
 {
