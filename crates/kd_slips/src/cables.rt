@@ -11,7 +11,7 @@ use kd_sheet::{Key, SheetFault};
 use std::alloc::Global;
 use toml::{Table, Value};
 
-/// Refuses a letter that stands twice in `text`.
+/// Refuses a cable that has the same letter at both ends.
 fn check_twice_within(alloc: Global, text: &str) -> Result<(), Slip>
     ensures { IfErr result (HasFault LetterTwice None) }
 {
@@ -42,7 +42,7 @@ fn check_apart(alloc: Global, earlier: &str, text: &str, byte: u8) -> Result<(),
     )
 }
 
-/// Refuses the cable `text` at place `place` of `items`, if it shares a letter with an earlier item.
+/// Refuses the cable `text` at place `place` of `items`, if it has a letter twice, or shares one with an earlier item.
 fn check_new(alloc: Global, items: &[Value], place: usize, text: &str) -> Result<(), Slip>
     ensures { IfErr result (HasFault LetterTwice None) }
 {
@@ -57,7 +57,8 @@ fn check_new(alloc: Global, items: &[Value], place: usize, text: &str) -> Result
     Ok(())
 }
 
-/// Checks the items of a list of cables: each must have `count` letters, or at most two if `count` is `None`.
+/// Checks the items of a list of cables. Each must have `count` letters or, if `count` is `None`, at most two. No
+/// letter may be there twice.
 fn check_cables(
     alloc: Global,
     key: Key,
@@ -74,7 +75,7 @@ fn check_cables(
     Ok(())
 }
 
-/// Checks the text of a cable: it must have `count` capital letters, or at most two if `count` is `None`.
+/// Checks the text of a cable. It must have `count` capital letters or, if `count` is `None`, at most two.
 fn check_ends(
     alloc: Global,
     text: &str,

@@ -1,4 +1,4 @@
-//! Refuses texts that don't have the right capital letters.
+//! Refuses texts with other letters than the right capital letters.
 ghost use Rattle.std.specs.Prelude.{◌≡◌, length, IfErr, None, OnOk};
 ghost use Rattle.kd_slips.specs.Items.{HasFault};
 
@@ -50,7 +50,7 @@ pub fn check_capitals(alloc: Global, text: &str, fault: SheetFault) -> Result<()
     )
 }
 
-/// Checks that the text at `key` has exactly `count` capital letters. `of` names what they stand for.
+/// Checks that the text at `key` has exactly `count` capital letters. `of` says what they stand for.
 pub fn check_letters(
     alloc: Global,
     table: &Table,
@@ -62,7 +62,7 @@ pub fn check_letters(
     check_text(alloc, text, SheetFault::BadValue(key), count, of)
 }
 
-/// Checks that `text` has exactly `count` capital letters. `of` names what they stand for.
+/// Checks that `text` has exactly `count` capital letters. `of` says what they stand for.
 pub fn check_text(
     alloc: Global,
     text: &str,
@@ -124,7 +124,7 @@ pub fn check_on_wheel(
     )
 }
 
-/// Checks that the text at `key` has a letter for each pin wheel, and that each is on its wheel.
+/// Checks that the text at `key` has a letter for each pin wheel, and that this wheel has the letter.
 pub fn check_shown(alloc: Global, table: &Table, key: Key) -> Result<(), Slip> {
     let text = text_at(alloc, table, key)?;
     let fault = SheetFault::BadValue(key);

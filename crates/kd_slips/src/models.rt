@@ -1,4 +1,4 @@
-//! Refuses models, reflectors and wheels that the desk doesn't know, or that don't fit together.
+//! Refuses models, reflectors and wheels. Either the desk doesn't know them, or they don't fit together.
 ghost use Rattle.std.specs.Prelude.{IfErr, IsErr, None};
 ghost use Rattle.kd_sheet.specs.declared.fault.SheetFault.TheVariants.{BadValue, UnknownModel, WheelNotAllowed};
 ghost use Rattle.kd_sheet.specs.declared.fault.SheetFault.TheVariants.{WheelTwice};
@@ -51,7 +51,7 @@ fn reflector_words(model: Model) -> &'static str {
     }
 }
 
-/// Refuses `name`, which differs from `right` only in capital and small letters.
+/// Refuses `name`, which is `right`, but with other capital and small letters.
 fn refuse_case<T>(alloc: Global, fault: SheetFault, name: &str, right: &str) -> Result<T, Slip>
     ensures refused { IsErr result }
     ensures slip { IfErr result (HasFault fault None) }
@@ -62,7 +62,7 @@ fn refuse_case<T>(alloc: Global, fault: SheetFault, name: &str, right: &str) -> 
     )
 }
 
-/// The model with this name, whether in capital or small letters.
+/// The model with this name. Capital and small letters count as equal.
 fn near_model(name: &str) -> Option<Model> {
     for model in [Model::EnigmaI, Model::M3, Model::M4, Model::M209] {
         if model.text().as_str().eq_ignore_ascii_case(name) {
@@ -72,7 +72,7 @@ fn near_model(name: &str) -> Option<Model> {
     None
 }
 
-/// The model's reflector with this name, whether in capital or small letters.
+/// The model's reflector with this name. Capital and small letters count as equal.
 fn near_reflector(model: Model, name: &str) -> Option<Reflector> {
     for reflector in model.reflectors() {
         if reflector.text().as_str().eq_ignore_ascii_case(name) {
@@ -82,7 +82,7 @@ fn near_reflector(model: Model, name: &str) -> Option<Reflector> {
     None
 }
 
-/// The wheel with this name, whether in capital or small letters.
+/// The wheel with this name. Capital and small letters count as equal.
 fn near_wheel(name: &str) -> Option<Wheel> {
     for wheel in Model::M4.wheels() {
         if wheel.text().as_str().eq_ignore_ascii_case(name) {
@@ -201,7 +201,7 @@ fn check_allowed(alloc: Global, model: Model, slot: u8, wheel: Wheel) -> Result<
     )
 }
 
-/// Checks that no slot before `slot` has the wheel named `name`, too.
+/// Refuses the wheel `name` in slot `slot`, if an earlier slot has it, too.
 fn check_first(alloc: Global, items: &[Value], slot: u8, name: &str) -> Result<(), Slip>
     ensures { IfErr result (HasFault WheelTwice None) }
 {
@@ -220,7 +220,7 @@ fn check_first(alloc: Global, items: &[Value], slot: u8, name: &str) -> Result<(
     Ok(())
 }
 
-/// Checks the item `name` for slot `slot` in the list `items` at `key`.
+/// Checks the wheel `name` for slot `slot`, in the list `items` at `key`.
 fn check_wheel(
     alloc: Global,
     items: &[Value],
@@ -240,7 +240,7 @@ fn check_wheel(
     check_first(alloc, items, slot, name)
 }
 
-/// Checks that the list at `key` has a valid wheel for each slot of the model.
+/// Checks that the list at `key` has a valid wheel for each slot of the model. In a machine file, a slot may be empty.
 pub fn check_wheels(alloc: Global, table: &Table, key: Key, model: Model) -> Result<(), Slip> {
     let items = items_at(alloc, table, key)?;
     check_count(alloc, key, items.len(), usize::from(model.slots()), "slots")?;

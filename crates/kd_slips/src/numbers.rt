@@ -1,4 +1,4 @@
-//! Refuses values that aren't the right whole numbers.
+//! Refuses values that aren't whole numbers in their range.
 ghost use Rattle.std.specs.Prelude.{◌≡◌, IfErr, IfOk, None, OnErr, Some};
 ghost use Rattle.toml.specs.View.{view};
 ghost use Rattle.kd_sheet.specs.Numbers.{number_up_to};

@@ -1,4 +1,4 @@
-//! Refuses pins, bars and rows that aren't those of a Converter M-209.
+//! Refuses pins, bars and rows that a Converter M-209 can't have.
 ghost use Rattle.std.specs.Prelude.{◌≡◌, ◌≤◌, ℕ, length, map, Err, IfErr, IsErr, IsOk, None, OnOk, Some};
 ghost use Rattle.toml.specs.View.{table_view, view};
 ghost use Rattle.kd_slips.specs.Items.{HasFault, IsOfItem, IsOfItsRow, first_refused, reads_pins, refused_pins};
@@ -18,8 +18,8 @@ use toml::{Table, Value};
 /// The number of bars of the drum.
 const BARS: usize = 27;
 
-/// Adds the item's number to the slip in `checked`. If there is no slip, makes one with general words, as the desk
-/// refuses the item anyway.
+/// Adds the item's number to the slip in `checked`. If there is no slip, makes one with general words. The desk refuses
+/// the item in any case.
 fn at_item(alloc: Global, checked: Result<(), Slip>, item: usize) -> Result<(), Slip>
     ensures refused { IsErr result }
     ensures slip { IfErr result (IsOfItem (Some item)) }
@@ -35,7 +35,7 @@ fn at_item(alloc: Global, checked: Result<(), Slip>, item: usize) -> Result<(), 
     }
 }
 
-/// Checks that the pins in `text` are on pin wheel `wheel`, each at most once.
+/// Checks that the pins in `text` are on pin wheel `wheel`, and that each is there at most once.
 fn check_wheel_pins(alloc: Global, wheel: u8, text: &str) -> Result<(), Slip>
     ensures { IfErr result (HasFault (BadValue keys.Pins) None) }
 {
@@ -114,13 +114,14 @@ pub fn check_pins(alloc: Global, table: &Table) -> Result<(), Slip>
     check_pin_items(alloc, items)
 }
 
-/// Item `number` of the list at `key`, counted from 1.
+/// The item of the list at `key` with the number `number`, counted from 1.
 fn numbered_item(table: &Table, key: Key, number: u8) -> Option<&Value> {
     let items = find_at(table, key)?.as_array()?;
     items.as_slice().get(usize::from(number).checked_sub(1)?)
 }
 
-/// Refuses item `number` of the list at `key`. If the item is a text, the words are the text, then `advice`.
+/// Refuses the item with the number `number` of the list at `key`. If the item is a text, the words are this text, then
+/// `advice`.
 fn refuse_row(alloc: Global, table: &Table, key: Key, number: u8, advice: &str) -> Result<(), Slip>
     ensures refused { IsErr result }
     ensures slip { IfErr result (HasFault (BadRow number) (Some number)) }
@@ -139,7 +140,7 @@ fn refuse_row(alloc: Global, table: &Table, key: Key, number: u8, advice: &str) 
     )
 }
 
-/// Refuses the value at `key`, which isn't a list with an item for each bar.
+/// Refuses the value at `key`. It isn't a list with an item for each bar.
 fn refuse_list(alloc: Global, table: &Table, key: Key) -> Result<(), Slip>
     ensures refused { IsErr result }
     ensures slip { IfErr result IsOfItsRow }

@@ -8,8 +8,8 @@ use std::alloc::AllocError;
 /// The reason why a value is refused.
 #[derive(Drop)]
 pub enum Slip {
-    /// The desk's name of the fault; the number of the list item with this fault, if the words are about an item; and
-    /// words for the fault.
+    /// The fault, the number of the list item, and words. The fault is the one that the desk names. If the words aren't
+    /// about an item, there is no number.
     Fault(SheetFault, Option<usize>, String),
     /// Memory ran out.
     NoMemory,
@@ -26,7 +26,7 @@ impl From<AllocError> for Slip {
     }
 }
 
-/// Refuses a value: makes a slip with this fault and these words.
+/// Refuses a value: returns a slip with this fault and these words.
 pub fn refuse<T>(fault: SheetFault, words: Result<String, AllocError>) -> Result<T, Slip>
     ensures refused { IsErr result }
     ensures slip { IfErr result (HasFault fault None) }
@@ -34,7 +34,7 @@ pub fn refuse<T>(fault: SheetFault, words: Result<String, AllocError>) -> Result
     Err(Slip::Fault(fault, None, words?))
 }
 
-/// Refuses item `item` of a list: makes a slip with this fault and these words. Items are counted from 1.
+/// Refuses the item of a list with the number `item`, counted from 1: returns a slip with this fault and these words.
 pub fn refuse_item<T>(
     fault: SheetFault,
     item: usize,

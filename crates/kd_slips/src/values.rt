@@ -72,7 +72,7 @@ pub fn text_at(alloc: Global, table: &Table, key: Key) -> Result<&str, Slip>
     }
 }
 
-/// The text of item `number` of the list at `key`, or a slip with `fault`.
+/// The text of `item`, or a slip with `fault`. The item has the number `number` in its list.
 pub fn item_text(
     alloc: Global,
     item: &Value,
@@ -136,7 +136,7 @@ fn items_words(alloc: Global, len: usize) -> Result<String, AllocError> {
     }
 }
 
-/// Checks that a list of `len` items has exactly `count`. `of` names what they are.
+/// Checks that a list of `len` items has exactly `count` items. `of` says what they are.
 pub fn check_count(alloc: Global, key: Key, len: usize, count: usize, of: &str) -> Result<(), Slip>
     ensures same { OnOk result (len ≡ count) }
     ensures other { OnErr result (len ≢ count) }
@@ -154,7 +154,7 @@ pub fn check_count(alloc: Global, key: Key, len: usize, count: usize, of: &str) 
     )
 }
 
-/// Checks that a list of `len` items has at most `most`. `of` names what they are.
+/// Checks that a list of `len` items has at most `most` items. `of` says what they are.
 pub fn check_at_most(alloc: Global, key: Key, len: usize, most: usize, of: &str) -> Result<(), Slip>
     ensures few { OnOk result (len ≤ most) }
     ensures many { OnErr result (most < len) }
@@ -172,7 +172,7 @@ pub fn check_at_most(alloc: Global, key: Key, len: usize, most: usize, of: &str)
     )
 }
 
-/// Whether `byte` can be printed: it isn't a control character.
+/// Whether `byte` can be printed, as it isn't a control character.
 fn is_printed(byte: u8) -> bool
     ensures { result ≡ is_printed byte }
 {
@@ -194,7 +194,7 @@ fn can_be_shown(text: &str) -> bool
     text.len() <= SHOWN && are_printed(text.as_bytes())
 }
 
-/// `text` in backticks; but of a long text, or one with control characters, only its length in bytes.
+/// `text` in backticks. If it is long, or has control characters, only its length in bytes.
 #[tactic(auto, using(std::proofs::Common::append_assoc), unfolding(crate::specs::Shown::shown_text))]
 pub fn shown(alloc: Global, text: &str) -> Result<String, AllocError>
     ensures { IfOk result (λ words. string_bytes words ≡ shown_text text.now) }
