@@ -1,4 +1,4 @@
--- How the program ends: the text that it writes to standard error, and its exit status.
+-- How the program ends. It writes a text to standard error, and has an exit status.
 -- Test: tests/cases/curator-pages.toml
 use Rattle.std.specs.Prelude.{codes, decimal, ◌≡◌, ◌⊎◌, ℕ, List, [], ◌∷◌, ◌++◌, Option, Some, None, Result, Ok, Err}
 use Rattle.std.specs.Prelude.{string_bytes}
@@ -13,7 +13,7 @@ use Rattle.kd_curator.specs.declared.fault.Refused.{Refused}
 use Rattle.kd_curator.specs.declared.stop.Stop.{Stop}
 use Rattle.kd_curator.specs.declared.stop.Stop.TheVariants as stops
 
--- the words for the day that a refusal names; empty if it names none
+-- the words for the day that a refusal names; empty if the refusal names no day
 abbrev pub day_prefix : Option ℕ → List ℕ
 day_prefix None = []
 day_prefix (Some day) = codes "day " ++ decimal day ++ codes ": "
@@ -22,38 +22,39 @@ day_prefix (Some day) = codes "day " ++ decimal day ++ codes ": "
 abbrev pub refusal_line : Refused → List ℕ
 refusal_line refused = day_prefix refused.day ++ refused_line (page_fault_text refused.fault)
 
--- the text on standard error: why the program stops, or nothing if all went well
+-- the text on standard error: why the program stops; empty if all went well
 abbrev pub error_text : Result (Unit {0}) Stop → List ℕ
 error_text (Ok done) = []
 error_text (Err (stops.Usage text)) = string_bytes text
 error_text (Err (stops.Unread fault)) = refused_line (file_fault_text fault)
 error_text (Err (stops.Refused refused)) = refusal_line refused
 
--- the exit status: 0 if all went well, 2 if the words aren't a command, 1 for a refusal
+-- the exit status: 0 if all went well, 2 if the words don't mean a command, 1 for a refusal
 abbrev pub status_of : Result (Unit {0}) Stop → ℕ
 status_of (Ok done) = 0
 status_of (Err (stops.Usage text)) = 2
 status_of (Err _) = 1
 
--- The program ends with the text and the exit status for `answer`; if standard error failed, with a prefix of the text.
+-- The program ends with the text and the exit status for `answer`. If standard error failed, it took a prefix of the
+-- text.
 abbrev pub EndsAs : Result (Unit {0}) Stop → Port → ℕ → Type 0
 EndsAs answer errors status = EndsWithLine (error_text answer) (status_of answer) errors status
 
--- the program's answer after a command's answer
+-- the program's answer, if a command gave this answer
 abbrev pub stop_after : Result (Unit {0}) Refused → Result (Unit {0}) Stop
 stop_after (Ok done) = Ok done
 stop_after (Err refused) = Err (stops.Refused refused)
 
 -- ---- Why the words of the command line can't be read.
 
--- The program stops with the text that a word isn't UTF-8.
+-- The program stops with the text that says that a word isn't UTF-8.
 abbrev pub IsWordsText : Stop → Type 0
 IsWordsText (stops.Usage text) =
     string_bytes text ≡ codes "error: a word of the command line isn't UTF-8" ++ 10 ∷ []
 IsWordsText _ = ⊥
 
--- Why the program stops if the words can't be read, by the kind of the error: memory ran out, or a word isn't UTF-8.
--- Memory may run out for the text, too.
+-- Why the program stops if the words can't be read. The kind of the error says whether memory ran out, or a word isn't
+-- UTF-8. Memory may also run out for the text.
 abbrev pub IsWordsStop : ErrorKind → Stop → Type 0
 IsWordsStop OutOfMemory stop = stop ≡ stops.Unread NoMemory
 IsWordsStop _ stop = (stop ≡ stops.Unread NoMemory) ⊎ IsWordsText stop

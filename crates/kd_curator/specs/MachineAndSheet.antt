@@ -1,4 +1,4 @@
--- The answers of commands that read a machine file, or a machine file and a key sheet.
+-- The answers of commands that read a machine file, alone or with a key sheet.
 -- Test: tests/cases/curator-pages.toml
 use Rattle.std.specs.Prelude.{◌≡◌, ◌⊎◌, ℕ, List, Option, Result, Ok, Err, MatchResult}
 use Rattle.std.specs.Result.{result_map_both}
@@ -13,26 +13,28 @@ use Rattle.kd_curator.specs.declared.fault.PageFault.TheVariants.{File}
 use Rattle.kd_curator.specs.declared.fault.Refused.{Refused}
 use Rattle.kd_curator.specs.Refusals.{refused_whole}
 
--- The answer is that memory ran out, which may always be.
+-- The answer is that memory ran out, which may always happen.
 abbrev pub LacksMemory : {A : Type 0} → Result A Refused → Type 0
 LacksMemory answer = answer ≡ Err (refused_whole (File NoMemory))
 
 abbrev pub or_refused : {A : Type 0} → Result A SheetFault → Result A Refused
 or_refused read = result_map_both (λ value. value) (λ fault. refused_whole (File fault)) read
 
--- the machine in a machine file and the month in a key sheet, or the first fault of the two files
+-- The machine in a machine file, and the month in a key sheet. If they can't be read, the first fault of the two files.
 unfoldable pub machine_and_month : List ℕ → List ℕ → Result (Parts × List (Option Day)) Refused
 machine_and_month machine sheet = do
   m ← or_refused (machine_of machine)
   month ← or_refused (sheet_of sheet)
   Ok (m, month)
 
--- The machine satisfies `Holds`; or the answer is the first fault of the machine file, or that memory ran out.
+-- `Holds` holds of the machine. Or the answer is the first fault of the machine file. Or the answer is that memory ran
+-- out.
 abbrev pub IsAnswerOnMachine : List ℕ → (Parts → Type 0) → Result (Unit {0}) Refused → Type 0
 IsAnswerOnMachine machine Holds answer =
     MatchResult (or_refused (machine_of machine)) Holds (λ refused. answer ≡ Err refused) ⊎ LacksMemory answer
 
--- The machine and the month satisfy `Holds`; or the answer is the first fault of the two files, or that memory ran out.
+-- `Holds` holds of the machine and the month. Or the answer is the first fault of the two files. Or the answer is that
+-- memory ran out.
 abbrev pub IsAnswerOnSheet : List ℕ → List ℕ → (Parts → List (Option Day) → Type 0) → Result (Unit {0}) Refused
     → Type 0
 IsAnswerOnSheet machine sheet Holds answer =

@@ -1,5 +1,5 @@
--- The output file that the option `-o` names: it is there exactly if the whole output was written.
--- Code: the command writes to a new file under another name, which then gets its own name, or is removed.
+-- The output file that the option `-o` names. It is there exactly if the whole output was written.
+-- Code: the command writes to a new file under another name. This file then gets its own name, or is removed.
 -- Test: tests/new-files
 use Rattle.std.specs.Prelude.{codes, ◌≡◌, ◌⊎◌, ℕ, Bool, true, false, List, [], ◌∷◌, ◌++◌, Option, Some, None, option_map}
 use Rattle.std.specs.Prelude.{Result, Ok, Err}
@@ -19,18 +19,18 @@ use Rattle.kd_curator.specs.Program.{HasEnded, IsRun, at_first, at_last, is_whol
 use Rattle.kd_curator.specs.declared.stop.Stop.{Stop}
 use Rattle.kd_curator.specs.declared.stop.Stop.TheVariants as stops
 
--- the words for why there is no new file; the file's name follows them
+-- the words that say why there is no new file; the name of the file follows them
 abbrev pub unwritten_words : NewFileFault → List ℕ
 unwritten_words new_files.Taken = codes "refused because there is already a file "
 unwritten_words new_files.Device = codes "refused " ++ (refusal_name refusals.Device ++ codes ": can't write ")
 unwritten_words new_files.NoMemory = codes "refused " ++ (refusal_name refusals.NoMemory ++ codes ": can't write ")
 
--- the line on standard error for why there is no new file `name`
+-- the line on standard error that says why there is no new file `name`
 abbrev pub unwritten_line : List ℕ → NewFileFault → List ℕ
 unwritten_line name fault = unwritten_words fault ++ (name ++ 10 ∷ [])
 
--- The command's output went to a new file, which was empty: `written` is this file before and after the command. The
--- command's answer is `answer`; the file didn't take the bytes `left`.
+-- The command's output went to a new file, which was empty. `written` is this file before and after the command. The
+-- command's answer is `answer`. The file didn't take the bytes `left`.
 pub record IsRunToFile (l : Language) (words : List (List ℕ)) (known : Option (List ℕ → Option (List ℕ)))
     (asked : List AskedName) (before : Option FilesByName) (written errors : Port) (left : List ℕ)
     (answer : Result (Unit {0}) Stop) : Type 0 where
@@ -40,7 +40,7 @@ pub record IsRunToFile (l : Language) (words : List (List ℕ)) (known : Option 
 
 -- How the program ends if the command line names the output file `name`. `before` and `after` are all files before and
 -- after the call. `NotBegun`: no new file could be made, and no file was read. `Published`: the whole output was
--- written, and is in the new file `name`. `Discarded`: the command was refused before the whole output was written.
+-- written, and is in the new file `name`. `Discarded`: the command stopped before the whole output was written.
 -- `Unwritten`: a write failed, or the file couldn't get its name. Except for `Published`, the files are as before.
 pub data EndsWithFile (l : Language) (words : List (List ℕ)) (known : Option (List ℕ → Option (List ℕ)))
     (asked : List AskedName) (before after : Option FilesByName) (name : List ℕ) (errors : Port) (status : ℕ)
@@ -64,7 +64,7 @@ pub data EndsWithFile (l : Language) (words : List (List ℕ)) (known : Option (
       → (fault : NewFileFault) → EndsWithLine (unwritten_line name fault) 1 (at_last errors told failed) status
       → EndsWithFile l words known asked before after name errors status
 
--- Why the output goes to the sink: the words name no output file, or don't mean a command; or memory ran out.
+-- Why the output goes to the sink. The words name no output file, or they don't mean a command, or memory ran out.
 abbrev pub GoesToSink : List (List ℕ) → Result (Unit {0}) Stop → Type 0
 GoesToSink words answer =
     (output_of words ≡ None) ⊎ (IsNoCommandLine words ⊎ (answer ≡ Err (stops.Unread files.NoMemory)))
@@ -83,13 +83,13 @@ pub data RunsTo (l : Language) (words : List (List ℕ)) (known : Option (List �
 
 -- ---- What inner functions require and answer. No public contract cites these definitions.
 
--- The command is the meaning of some command line.
+-- Some command line means the command.
 abbrev pub IsMeantBySome : NamedCommand → Type 0
 IsMeantBySome command = (words : List (List ℕ)) × IsCommandLineOf words command
 
 -- How a command that wrote `bytes` to a new file changes the files from `before` to `after`. The first Bool says
--- whether a write failed, the second whether the whole output was written. If it was, and there is no fault, the new
--- file is there, with the name `name`. Otherwise, the files are as before.
+-- whether a write failed, the second whether the whole output was written. If it was, and there is no fault, there is a
+-- new file with the name `name`. Otherwise, the files are as before.
 abbrev pub EndsFile : Option FilesByName → Option FilesByName → List ℕ → Option (List ℕ) → Bool → Bool
     → Result (Unit {0}) NewFileFault → Type 0
 EndsFile before after name bytes failed true (Ok done) = AddsFile before after name bytes

@@ -1,4 +1,4 @@
--- The program: which command the words mean, which files are read, and what is written.
+-- The program. It says which command the words mean, which files are read, and what is written.
 -- Code: `run_curator` parses the words; `run_command` reads the files, and carries the command out.
 -- Test: tests/cases/curator-pages.toml
 use Rattle.std.specs.Prelude.{◌≡◌, ◌⊎◌, ◌≤◌, ◌||◌, not, ℕ, Bool, true, false, List, [], ◌∷◌, length, Option, Some, None, IfSome}
@@ -52,12 +52,12 @@ abbrev pub with_file : {A X : Type 0} → Result A FileFault → (A → Result X
 with_file (Ok bytes) made = made bytes
 with_file (Err fault) made = Err fault
 
--- the bytes of the file with this name, or its fault; `None` without a name
+-- the bytes of the file with this name, or the file's fault; `None` if there is no name
 abbrev pub known_other : (List ℕ → Option (List ℕ)) → Option (List ℕ) → Result (Option (List ℕ)) FileFault
 known_other held None = Ok None
 known_other held (Some name) = with_file (content_of (held name)) (λ bytes. Ok (Some bytes))
 
--- the bytes of one, two or three files, or the fault of the first one that can't be read
+-- the bytes of one, two or three files, or the fault of the first file that can't be read
 abbrev pub known_three : (List ℕ → Option (List ℕ)) → UpToThree (List ℕ) → Result (UpToThree (List ℕ)) FileFault
 known_three held names =
     with_file (content_of (held names.first)) (λ first. with_file (known_other held names.second)
@@ -82,7 +82,7 @@ known_command held (commands.Look names files) =
     with_file (known_three held files) (λ contents. Ok (commands.Look names contents))
 known_command held (commands.EmptySheet model days) = Ok (commands.EmptySheet model days)
 
--- The two commands are the same, except that the first has the names of files, and the second their bytes.
+-- The two commands are the same, but for their files. The first has the names of the files, the second their bytes.
 abbrev pub AreAlike : NamedCommand → ReadCommand → Type 0
 AreAlike (commands.OnMachine machine sheet task) (commands.OnMachine bytes more same) = task ≡ same
 AreAlike (commands.Message machine sheet message task) (commands.Message bytes more text same) = task ≡ same
@@ -103,8 +103,8 @@ names_of (commands.Sheet table options) = table ∷ []
 names_of (commands.Look names files) = list_of_three files
 names_of (commands.EmptySheet model days) = []
 
--- The task writes its output from the bytes of a machine file and of a key sheet, and gives this answer. Words are in
--- language `l`, unless the task asks for another.
+-- The task writes its output, and gives this answer. It has the bytes of a machine file and of a key sheet. Words are
+-- in language `l`, unless the task asks for another language.
 abbrev pub DoesTask : Language → Task → List ℕ → List ℕ → Port → Result (Unit {0}) Refused → Type 0
 DoesTask l (tasks.Page days chosen) machine sheet sink answer = IsAnswerOnSheet machine sheet
     (λ m month. WritesPages (unwrap_or chosen l) month m (wanted_days days (model_of m) month) sink answer) answer
@@ -117,14 +117,14 @@ abbrev pub WritesMessage : MessageKind → Language → List (Option Day) → Pa
 WritesMessage kinds.Order l month m number order sink answer = WritesSendPage l month m number order sink answer
 WritesMessage kinds.Form l month m number form sink answer = WritesReceivePage l month m number form sink answer
 
--- The task writes its output from the bytes of a machine file, a key sheet and a message, and gives this answer. Words
--- are in language `l`, unless the task asks for another.
+-- The task writes its output, and gives this answer. It has the bytes of a machine file, a key sheet and a message.
+-- Words are in language `l`, unless the task asks for another language.
 abbrev pub WorksMessage : Language → MessageTask → List ℕ → List ℕ → List ℕ → Port → Result (Unit {0}) Refused → Type 0
 WorksMessage l task machine sheet message sink answer = IsAnswerOnSheet machine sheet
     (λ m month. WritesMessage task.kind (unwrap_or task.language l) month m task.day message sink answer) answer
 
--- The command writes its output from the bytes of its files, and gives this answer. Words are in language `l`, unless
--- the command asks for another.
+-- The command writes its output, and gives this answer. It has the bytes of its files. Words are in language `l`,
+-- unless the command asks for another language.
 abbrev pub DoesCommand : Language → ReadCommand → Port → Result (Unit {0}) Refused → Type 0
 DoesCommand l (commands.OnMachine machine sheet task) sink answer = DoesTask l task machine sheet sink answer
 DoesCommand l (commands.Message machine sheet message task) sink answer =
@@ -137,43 +137,45 @@ DoesCommand l (commands.Look names files) sink answer = Looks (named_texts names
 DoesCommand l (commands.EmptySheet model days) sink answer =
     WritesText refused_device (empty_month_text model days) sink answer
 
--- Nothing was written to the port, and it didn't fail.
+-- Nothing was written to the port, and it didn't fail in the meantime.
 pub record IsLeftAlone (p : Port) : Type 0 where
   pub same : p.has ≡ p.had
   pub failed : p.has_failed ≡ p.had_failed
 
 -- ---- The program's answer.
 
--- whether the whole output was written: after success, and if files that were looked at have faults, or a form isn't
--- read completely
+-- Whether the whole output was written. It was after success. It also was if files that were looked at have faults, or
+-- if a form isn't read completely.
 abbrev pub is_whole : Result (Unit {0}) Stop → Bool
 is_whole (Ok done) = true
 is_whole (Err (stops.Refused refused)) = is_after_all refused.fault
 is_whole (Err _) = false
 
--- The answer after a flush: `first` if no bytes are left, or `Device` if the sink didn't take the bytes `left`.
+-- The answer after a flush. It is `first` if no bytes are left. It is `Device` if the sink didn't take the bytes
+-- `left`.
 abbrev pub IsFlushed : List ℕ → Result (Unit {0}) Stop → Result (Unit {0}) Stop → Type 0
 IsFlushed left first answer =
     ((answer ≡ first) × (left ≡ [])) ⊎ ((answer ≡ Err (stops.Refused refused_device)) × (1 ≤ length left))
 
--- The answer after a command: the one after a flush, if the Bool says that there was a flush; otherwise `first`.
+-- The answer after a command. If there was a flush, as the Bool says, it is the answer after the flush. Otherwise it is
+-- `first`.
 abbrev pub AnswersAfter : Bool → List ℕ → Result (Unit {0}) Stop → Result (Unit {0}) Stop → Type 0
 AnswersAfter true left first answer = IsFlushed left first answer
 AnswersAfter false left first answer = answer ≡ first
 
 -- The program's answer after a command with the answer `first`. If the whole output was written, the gathered bytes are
--- passed on. `left` are those that the sink didn't take; if there are any, the answer is `Device`.
+-- passed on. `left` are the bytes that the sink didn't take. If there are any, the answer is `Device`.
 abbrev pub IsAnswerAfterFlush : List ℕ → Result (Unit {0}) Stop → Result (Unit {0}) Stop → Type 0
 IsAnswerAfterFlush left first answer = AnswersAfter (is_whole first) left first answer
 
--- A command satisfied `Does` with its answer `told`, and the program's answer after it is `answer`.
+-- A command gave the answer `told`, for which `Does` holds. After it, the program's answer is `answer`.
 pub record IsTold (Does : Result (Unit {0}) Refused → Type 0) (left : List ℕ) (answer : Result (Unit {0}) Stop)
     : Type 0 where
   pub told : Result (Unit {0}) Refused
   pub does : Does told
   pub answers : IsAnswerAfterFlush left (stop_after told) answer
 
--- whether the answer is a text on words that don't mean a command
+-- whether the answer says that the words don't mean a command
 abbrev pub is_usage : Result (Unit {0}) Stop → Bool
 is_usage (Err (stops.Usage text)) = true
 is_usage _ = false
@@ -204,15 +206,15 @@ abbrev pub is_stopped_by_device : Result (Unit {0}) Stop → Bool
 is_stopped_by_device (Err (stops.Refused refused)) = is_device_fault refused.fault
 is_stopped_by_device _ = false
 
--- whether the program stopped before it wrote anything
+-- whether the program stopped before it wrote anything to the sink
 abbrev pub is_stopped_before_writing : Result (Unit {0}) Stop → Bool
 is_stopped_before_writing (Ok done) = false
 is_stopped_before_writing (Err (stops.Refused refused)) = not (comes_after_writing refused.fault)
 is_stopped_before_writing (Err stop) = true
 
--- The notes on standard error that were written before the program's answer was known. There may be notes on a table,
--- if the words mean the command `sheet` and the table was read; or on a form, if they mean `receive` and the files were
--- read. Otherwise there are none.
+-- The notes that were on standard error before the program's answer was known. There may be notes on a table, if the
+-- words mean the command `sheet`, and the table was read. There may be notes on a form, if the words mean `receive`,
+-- and the files were read. Otherwise there are none.
 pub data HasNotes (words : List (List ℕ)) (asked : List AskedName) (errors : Port) : Type 0 where
   NoNotes : IsLeftAlone errors → HasNotes words asked errors
   TableNotes : (table : List ℕ) (options : OptionTexts) → IsCommandLineOf words (commands.Sheet table options)
@@ -222,8 +224,8 @@ pub data HasNotes (words : List (List ℕ)) (asked : List AskedName) (errors : P
       → AreAskedFor (machine ∷ sheet ∷ message ∷ []) [] asked true → Tells errors → HasNotes words asked errors
 
 -- The program's answer to a command line. `carried`: how the command line is carried out. `untouched`: if the program
--- stops before it writes, the sink is untouched. `failed`: the sink has failed exactly if the answer says so, or it had
--- failed before. `noted`: the notes on standard error, before the text for the answer.
+-- stops before it writes, the sink is untouched. `failed`: the sink has failed if the answer says so, or if it had
+-- failed before, and only then. `noted`: the notes on standard error, before the text for the answer.
 pub record IsRun (l : Language) (words : List (List ℕ)) (known : Option (List ℕ → Option (List ℕ))) (asked : List AskedName)
     (sink : Port) (Untouched : Type 0) (errors : Port) (left : List ℕ) (answer : Result (Unit {0}) Stop)
     : Type 0 where
@@ -232,7 +234,7 @@ pub record IsRun (l : Language) (words : List (List ℕ)) (known : Option (List 
   pub failed : sink.has_failed ≡ (sink.had_failed || is_stopped_by_device answer)
   pub noted : HasNotes words asked errors
 
--- a sink before and after a call; the gathered bytes `left`, which it hasn't taken, count as taken
+-- A sink before and after a call. The gathered bytes `left`, which the sink hasn't taken, count as taken.
 abbrev pub port_with_untaken : {P : Type 0} → (P → Option (List ℕ)) → (P → Bool) → P → P → List ℕ → Port
 port_with_untaken bytes failed old new left = record {
   had = bytes old;
@@ -241,17 +243,17 @@ port_with_untaken bytes failed old new left = record {
   has_failed = failed new;
 }
 
--- standard error from the start of the call until the answer was known; by then it had taken `told`
+-- Standard error from the start of the call until the answer was known. By then, standard error had taken `told`.
 abbrev pub at_first : Port → Option (List ℕ) → Bool → Port
 at_first errors told failed = record errors { has = told; has_failed = failed }
 
--- standard error from then on until the end of the call
+-- standard error from the time when the answer was known until the end of the call
 abbrev pub at_last : Port → Option (List ℕ) → Bool → Port
 at_last errors told failed = record errors { had = told; had_failed = failed }
 
--- The program's answer satisfies `IsSo`, and the program ends with the text and the exit status for this answer. The
--- sink didn't take the gathered bytes `left`. When the answer was known, standard error had taken the bytes `told`;
--- `failed` says whether it had failed.
+-- `IsSo` holds of the program's answer. The program ends with the text and the exit status for this answer. The sink
+-- didn't take the gathered bytes `left`. When the answer was known, standard error had taken the bytes `told`. `failed`
+-- says whether standard error had failed by then.
 pub record HasEnded (IsSo : Port → List ℕ → Result (Unit {0}) Stop → Type 0) (errors : Port) (status : ℕ)
     : Type 0 where
   pub left : List ℕ
@@ -263,7 +265,8 @@ pub record HasEnded (IsSo : Port → List ℕ → Result (Unit {0}) Stop → Typ
 
 -- ---- What inner functions read and require. No public contract cites these definitions.
 
--- a command with the bytes of its files, with texts in place of borrowed texts; or why a file can't be read
+-- A command with the bytes of its files, in which plain texts stand in place of borrowed texts. Or the reason why a
+-- file can't be read.
 abbrev pub read_with_texts : Result (Command (List ℕ) (Bor (List ℕ))) FileFault → Result ReadCommand FileFault
 read_with_texts read = result_map_both with_texts (λ fault. fault) read
 
@@ -277,13 +280,14 @@ HasMonth (commands.Table sheet form language) = Unit {0}
 HasMonth (commands.Sheet table options) = Unit {0}
 HasMonth (commands.Look names files) = Unit {0}
 
--- Any notes on a form may have been written to standard error; none on an order.
+-- Any notes on a form may have been written to standard error. For an order, none were.
 abbrev pub TellsOfMessage : MessageKind → Port → Type 0
 TellsOfMessage kinds.Order errors = IsLeftAlone errors
 TellsOfMessage kinds.Form errors = Tells errors
 
--- Apart from a refusal's text, only two commands may have written to standard error: `sheet` on unread columns and
--- faults of the table, `receive` on a form.
+-- What was written to standard error before a refusal's text. The command `sheet` may have written notes on unread
+-- columns and faults of the table. The command `receive` may have written notes on a form. Other commands have written
+-- nothing.
 abbrev pub HasTold : ReadCommand → Port → Type 0
 HasTold (commands.Sheet table options) errors = Tells errors
 HasTold (commands.OnMachine machine sheet task) errors = IsLeftAlone errors

@@ -38,12 +38,12 @@ page_fault_text faults.Device = refusal_name refusals.Device
 abbrev pub refused_whole : PageFault → Refused
 refused_whole fault = record { day = None; fault = fault }
 
--- the fault of a refusal, for the reason why a day can't be planned
+-- the fault of a refusal, if a day can't be planned for this reason
 abbrev pub fault_of_plan : NoPlan → PageFault
 fault_of_plan plans.NoSuchDay = faults.NoSuchDay
 fault_of_plan plans.OtherModel = faults.OtherModel
 
--- The refusal of a day that can't be planned. It names the day if several days were asked for.
+-- The refusal of a day that can't be planned. If several days were asked for, it names the day.
 abbrev pub day_refusal : Bool → DayFault → Refused
 day_refusal several fault = record {
   day = if several then Some fault.day else None;
@@ -54,14 +54,16 @@ abbrev pub is_device_fault : PageFault → Bool
 is_device_fault faults.Device = true
 is_device_fault _ = false
 
--- whether a refusal for this fault comes after output was written: a write failed, or the whole output was written
+-- Whether a refusal for this fault comes after output was written. Either a write failed, or the whole output was
+-- written.
 abbrev pub comes_after_writing : PageFault → Bool
 comes_after_writing faults.Device = true
 comes_after_writing faults.FaultyFile = true
 comes_after_writing faults.NotWhole = true
 comes_after_writing _ = false
 
--- whether a refusal for this fault comes after the whole output was written: a report on files, or the page of a form
+-- Whether a refusal for this fault comes after the whole output was written. The output is a report on files, or the
+-- page of a form.
 abbrev pub is_after_all : PageFault → Bool
 is_after_all faults.FaultyFile = true
 is_after_all faults.NotWhole = true
@@ -75,29 +77,29 @@ abbrev pub is_device : Result (Unit {0}) Refused → Bool
 is_device (Ok done) = false
 is_device (Err refused) = is_device_fault refused.fault
 
--- the refusal of the command `table` for a fault
+-- the refusal of the command `table` that names this fault
 abbrev pub refused_table : TableFault → Refused
 refused_table (tables.Sheet fault) = refused_whole (faults.File fault)
 refused_table tables.Device = refused_device
 
--- the refusal of the command `send` for a fault
+-- the refusal of the command `send` that names this fault
 abbrev pub refused_send : SendPageFault → Refused
 refused_send (sends.Order fault) = refused_whole (faults.Message fault)
 refused_send sends.Device = refused_device
 
--- the refusal of the command `receive` for a fault
+-- the refusal of the command `receive` that names this fault
 abbrev pub refused_receive : ReceivePageFault → Refused
 refused_receive receives.NoMemory = refused_whole (faults.File NoMemory)
 refused_receive receives.TooManyParts = refused_whole faults.TooManyParts
 refused_receive receives.Device = refused_device
 
--- the refusal of the command `sheet` for a fault
+-- the refusal of the command `sheet` that names this fault
 abbrev pub refused_spreadsheet : SpreadsheetFault → Refused
 refused_spreadsheet spreadsheets.Refused = refused_whole faults.FaultyTable
 refused_spreadsheet spreadsheets.Device = refused_device
 refused_spreadsheet spreadsheets.NoMemory = refused_whole (faults.File NoMemory)
 
--- the refusal of the command `look` for a fault
+-- the refusal of the command `look` that names this fault
 abbrev pub refused_look : LookFault → Refused
 refused_look looks.Device = refused_device
 refused_look looks.NoMemory = refused_whole (faults.File NoMemory)

@@ -12,9 +12,9 @@ use Rattle.kd_booklet.specs.declared.fault.DayFault.{DayFault}
 use Rattle.kd_curator.specs.Refusals.{day_refusal, refused_device}
 use Rattle.kd_curator.specs.declared.fault.Refused.{Refused}
 
--- The day can't be planned, and the answer says why; or the settings of a plan for the day were written, in the order
--- of a page, or a prefix of them if the device failed. The plan leads from machine `m` to machine `n`. The whole text
--- is read back as its settings.
+-- Either the day can't be planned, and the answer says why. Or the settings of a plan for the day were written, in the
+-- order of a page. If the device failed, only a prefix of them was written. The plan leads from machine `m` to machine
+-- `n`. The whole text is read back as its settings.
 pub data WritesList (month : List (Option Day)) (m : Parts) (number : ℕ) (sink : Port)
     (answer : Result (Unit {0}) Refused) : Type 0 where
   NoList : (fault : DayFault) → IsDayFault (model_of m) month number fault

@@ -27,24 +27,24 @@ is_same_model M4 M4 = true
 is_same_model M209 M209 = true
 is_same_model _ _ = false
 
--- whether the month has day `number`, and this day is of the model
+-- whether the month has the day `number`, and this day is of the model
 unfoldable pub has_day_of : Model → List (Option Day) → ℕ → Bool
 has_day_of model month number = option_map_or (λ s. is_same_model (day_model s) model) (day_of month number) false
 
--- the days that are asked for; if none are, all the month's days of the model
+-- the days that are asked for; if no days are named, all days of the month that are of the model
 abbrev pub wanted_days : Option (List ℕ) → Model → List (Option Day) → List ℕ
 wanted_days (Some days) model month = days
 wanted_days None model month = filter (has_day_of model month) (range_with_len 1 31)
 
--- `refused` is the refusal of the first day that can't be planned.
+-- `refused` is the refusal that names the first day that can't be planned.
 pub record IsDayRefusal (model : Model) (month : List (Option Day)) (numbers : List ℕ) (refused : Refused)
     : Type 0 where
   pub fault : DayFault
   pub first : IsFirstFault model month numbers fault
   pub told : refused ≡ day_refusal (nat_lt 1 (length numbers)) fault
 
--- `NoDays`: there are no days. `NoPage`: the first day that can't be planned is refused. `Pages`: the pages of all days
--- were written, or a prefix of them if the device failed.
+-- `NoDays`: there are no days. `NoPage`: a day can't be planned, and the first such day is refused. `Pages`: the pages
+-- of all days were written. If the device failed, only a prefix of them was written.
 pub data WritesPages (l : Language) (month : List (Option Day)) (m : Parts) (numbers : List ℕ) (sink : Port)
     (answer : Result (Unit {0}) Refused) : Type 0 where
   NoDays : numbers ≡ [] → answer ≡ Err (refused_whole NoSuchDay) → WritesPages l month m numbers sink answer

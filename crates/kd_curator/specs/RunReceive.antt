@@ -18,20 +18,21 @@ use Rattle.kd_curator.specs.Refusals.{has_written, refused_device, refused_recei
 use Rattle.kd_curator.specs.declared.fault.PageFault.TheVariants.{NotWhole, Message, NoSuchDay}
 use Rattle.kd_curator.specs.declared.fault.Refused.{Refused}
 
--- The machine is ready and on the day's key, and `parts` are the parts of the form, as they are read.
+-- The machine is ready, and is on the day's key. `parts` are the parts of the form, as they are read.
 pub record IsFormRead (m : Parts) (s : Day) (form : List ℕ) (parts : List DamagedPart) : Type 0 where
   pub ready : IsReadyOnKey m s
   pub read : AreFormParts s form parts
   pub few : length (damaged_parts_of form) ≤ 255
 
--- The answer after the page of these parts was written: success exactly if they are one whole message of the day.
+-- The answer after the page of these parts was written. It is success exactly if the parts are one whole message of the
+-- day.
 abbrev pub IsReceivedAs : List DamagedPart → Result (Unit {0}) Refused → Type 0
 IsReceivedAs parts answer =
     (IsWhole parts × (answer ≡ Ok tt)) ⊎ (¬ (IsWhole parts) × (answer ≡ Err (refused_whole NotWhole)))
 
--- `NoDay`: the sheet doesn't have the day. `OffKey`: the machine isn't ready, or not on the day's key. `NotRead`: the
+-- `NoDay`: the sheet doesn't have the day. `OffKey`: the machine isn't ready, or isn't on the day's key. `NotRead`: the
 -- form has too many parts, or memory ran out. `Page`: the page of the form's parts was written. `Cut`: only a prefix of
--- it was written, since the device failed.
+-- the page was written, since the device failed.
 pub data WritesReceivePage (l : Language) (month : List (Option Day)) (m : Parts) (number : ℕ) (form : List ℕ)
     (sink : Port) (answer : Result (Unit {0}) Refused) : Type 0 where
   NoDay : day_of month number ≡ None → answer ≡ Err (refused_whole NoSuchDay)
@@ -48,8 +49,8 @@ pub data WritesReceivePage (l : Language) (month : List (Option Day)) (m : Parts
       → IsFormRead m s form parts → TakesPrefix sink.had sink.has (receive_text l s parts)
       → answer ≡ Err refused_device → WritesReceivePage l month m number form sink answer
 
--- The notes on standard error satisfy `Told`. They say what is wrong with the form's parts, and what to ask for. There
--- are none if no page is written.
+-- `Told` holds of the notes on standard error. They say what is wrong with the form's parts, and what to ask for. If no
+-- page is written, there are no notes.
 pub data TellsOfForm (l : Language) (month : List (Option Day)) (m : Parts) (number : ℕ) (form : List ℕ)
     (Told : List ℕ → Type 0) (answer : Result (Unit {0}) Refused) : Type 0 where
   OfParts : (s : Day) → day_of month number ≡ Some s → IsReadyOnKey m s → (parts : List DamagedPart)

@@ -14,8 +14,8 @@ use Rattle.kd_curator.specs.Refusals.{refused_device, refused_whole}
 use Rattle.kd_curator.specs.declared.fault.PageFault.TheVariants.{Message, NoSuchDay}
 use Rattle.kd_curator.specs.declared.fault.Refused.{Refused}
 
--- `NoDay`: the sheet doesn't have the day. `NoPage`: the order is refused on this day, as by `send`. `Page`: its page
--- was written in language `l`, or a prefix of the page if the device failed.
+-- `NoDay`: the sheet doesn't have the day. `NoPage`: the order is refused on this day, as `send` refuses it. `Page`:
+-- the order's page was written in language `l`. If the device failed, only a prefix of the page was written.
 pub data WritesSendPage (l : Language) (month : List (Option Day)) (m : Parts) (number : ℕ) (order : List ℕ)
     (sink : Port) (answer : Result (Unit {0}) Refused) : Type 0 where
   NoDay : day_of month number ≡ None → answer ≡ Err (refused_whole NoSuchDay)

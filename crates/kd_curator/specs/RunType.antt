@@ -13,8 +13,8 @@ use Rattle.kd_curator.specs.Refusals.{refused_device, refused_whole}
 use Rattle.kd_curator.specs.declared.fault.PageFault.TheVariants.{Message}
 use Rattle.kd_curator.specs.declared.fault.Refused.{Refused}
 
--- `NoPage`: the machine isn't ready. `Page`: its page was written, or a prefix of the page if the device failed. Typing
--- on the page's table gives the machine's ciphertext.
+-- `NoPage`: the machine isn't ready. `Page`: the machine's page was written. If the device failed, only a prefix of the
+-- page was written. Typing on the page's table gives the machine's ciphertext.
 pub data WritesTypingPage (l : Language) (m : Parts) (sink : Port) (answer : Result (Unit {0}) Refused) : Type 0 where
   NoPage : ¬ (IsReady m) → answer ≡ Err (refused_whole (Message NotReady)) → WritesTypingPage l m sink answer
   Page : IsReady m → TypesAsMachine m → WritesText refused_device (typing_page l m) sink answer
@@ -22,6 +22,6 @@ pub data WritesTypingPage (l : Language) (m : Parts) (sink : Port) (answer : Res
 
 -- ---- The answer of an inner function. No public contract cites this definition.
 
--- the answer after a page was written; `failed` says whether the sink has failed
+-- The answer after a page was written. `failed` says whether the sink has failed.
 abbrev pub answer_after : Bool → Result (Unit {0}) Refused
 answer_after failed = if failed then Err refused_device else Ok tt

@@ -14,8 +14,8 @@ use Rattle.kd_curator.specs.Refusals.{refused_device, refused_whole}
 use Rattle.kd_curator.specs.declared.fault.PageFault.TheVariants.{FaultyTable}
 use Rattle.kd_curator.specs.declared.fault.Refused.{Refused}
 
--- `Sheet`: the key sheet with the days of the table was written, or a prefix of it if the device failed; the whole
--- sheet is read back as these days. `Faulty`: the table is refused. `NoMemory`: memory ran out.
+-- `Sheet`: the key sheet with the days of the table was written. If the device failed, only a prefix of it was written.
+-- The whole sheet is read back as these days. `Faulty`: the table is refused. `NoMemory`: memory ran out.
 pub data MakesSheet (options : OptionTexts) (table : List ℕ) (sink : Port) (answer : Result (Unit {0}) Refused)
     : Type 0 where
   Sheet : (days : List Day) → TableMeans options table days

@@ -11,8 +11,8 @@ use Rattle.kd_curator.specs.Refusals.{refused_device, refused_whole}
 use Rattle.kd_curator.specs.declared.fault.PageFault.TheVariants.{File}
 use Rattle.kd_curator.specs.declared.fault.Refused.{Refused}
 
--- The tables of the sheet's month were written in this form and in language `l`, or a prefix of them if the device
--- failed; or the answer is the sheet's first fault, or that memory ran out.
+-- Either the tables of the sheet's month were written, in this form and in language `l`. If the device failed, only a
+-- prefix of them was written. Or the answer is the sheet's first fault. Or the answer is that memory ran out.
 abbrev pub WritesTables : Language → TableForm → List ℕ → Port → Result (Unit {0}) Refused → Type 0
 WritesTables l form sheet sink answer =
     MatchResult (sheet_of sheet) (λ month. WritesText refused_device (file_text l form month) sink answer)

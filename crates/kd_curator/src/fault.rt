@@ -11,7 +11,7 @@ use kd_sheet::SheetFault;
 use kd_table::SpreadsheetFault;
 use kd_tables::{Device, Refusal, Text};
 
-/// Why a command is refused, though part of its output may be written.
+/// Why a command is refused. A part of its output may be written even so.
 #[derive(Clone, Copy, Debug, PartialEq, Eq)]
 pub enum PageFault {
     /// The machine file or the key sheet has this fault, or memory ran out.
@@ -20,7 +20,8 @@ pub enum PageFault {
     NoSuchDay,
     /// The machine and the sheet's day are of different models.
     OtherModel,
-    /// The machine isn't ready, or isn't on the day's key; the message has this fault; or memory ran out for it.
+    /// The machine isn't ready, or isn't on the day's key. Or the message has this fault. Or memory ran out for the
+    /// message.
     Message(FormFault),
     /// A spreadsheet's table has faults. Notes on standard error say which.
     FaultyTable,
@@ -28,15 +29,15 @@ pub enum PageFault {
     FaultyFile,
     /// A form would have more than 255 parts.
     TooManyParts,
-    /// A form isn't read as one whole message of the day: letters or parts are missing, or parts aren't of one message or
-    /// of the day. The page is written all the same.
+    /// A form isn't read as one whole message of the day. Letters or parts are missing, or parts are of another message
+    /// or day. Its page is written even so.
     NotWhole,
     /// A write failed.
     Device,
 }
 
 impl PageFault {
-    /// The refusal's number and name, followed by the fault's values, such as a key, if it has any.
+    /// The refusal's number and name. If the fault has values, such as a key, they follow.
     ///
     /// Faults with notes or a report of their own have no number here.
     pub fn text(&self) -> Text
@@ -71,13 +72,13 @@ fn worded_text(words: &str) -> Text
 /// Why a command is refused: the first fault, in the order of testing.
 #[derive(Clone, Copy, Debug, PartialEq, Eq)]
 pub struct Refused {
-    /// The day that has the fault, if several were asked for.
+    /// The day that has the fault, if several days were asked for.
     pub day: Option<u8>,
     pub fault: PageFault,
 }
 
 impl Refused {
-    /// The refusal for a day that can't be planned; it names the day if there are `several`.
+    /// The refusal for a day that can't be planned. It names the day if `several` days were asked for.
     pub(crate) fn of_day(fault: DayFault, several: bool) -> Refused
         ensures { result ≡ day_refusal several fault }
     {

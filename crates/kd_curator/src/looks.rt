@@ -1,4 +1,4 @@
-//! The command `look`: puts files into words, or names their faults.
+//! The command `look`: says in words what files have, or names their faults.
 ghost use Rattle.std.specs.Prelude.{◌≡◌, ◌∷◌, ◌++◌, ◌||◌, false, option_map, Err, IsErr};
 ghost use Rattle.kd_tables.specs.Ports.{port};
 ghost use Rattle.kd_look.specs.Look.{IsLookAnswer, is_device as is_look_device, named_text};
@@ -34,7 +34,7 @@ pub(crate) fn look_at_files<W: Sink>(
     answer_of(look_at_all(alloc, first, second, third, sink))
 }
 
-/// The file with its name; `None` if there is none.
+/// The file, with its name. `None` if there is no file.
 fn named<'a>(name: Option<&'a str>, file: &'a Option<Content>) -> Option<NamedFile<'a>>
     ensures { list_of_option (option_map named_text result)
         ≡ other_text (option_map (λ text. text.now) name.entry) file.entry.now }

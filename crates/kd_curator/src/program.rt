@@ -47,16 +47,16 @@ use std::alloc::Global;
 use std::convert::AsStr;
 
 /// Carries out the command line `words`, which begins with the program's own name. Pages and tables are in `language`,
-/// unless the words ask for another one.
+/// unless the words ask for another language.
 ///
-/// Returns the exit status and the sink. The status is 0 for success, 2 if the words aren't a command, and 1 for a
+/// Returns the exit status and the sink. The status is 0 for success, 2 if the words don't mean a command, and 1 for a
 /// refusal. With status 1 or 2, a text that says why is written to `errors`. Before it, the command `sheet` writes
-/// notes there on a table's faults and unread columns, and `receive` on what is wrong with a form. Each file is read
-/// once, in the order of the command line. If a file can't be read, no later file is asked for, and nothing is written
-/// to `sink`.
+/// notes there on a table's faults and unread columns. The command `receive` writes notes there on what is wrong with a
+/// form. Each file is read once, in the order of the command line. If a file can't be read, no later file is asked for,
+/// and nothing is written to `sink`.
 ///
-/// If the words name an output file, nothing is written to `sink`. The output goes to a new file in `new_files`, which
-/// has this name exactly if the whole output was written.
+/// If the words name an output file, nothing is written to `sink`. The output goes to a new file in `new_files`. The
+/// file has this name exactly if the whole output was written.
 pub fn run_curator<'n, S: AsStr, F: Files<'n>, N: NewFiles, W: Sink + Drop, E: Sink>(
     alloc: Global,
     language: Language,
@@ -121,8 +121,8 @@ fn run_to_file<'n, F: Files<'n>, N: NewFiles, E: Sink>(
 
 /// Publishes the new file `file` as `name`, if `answer` says that the whole output was written. Otherwise removes it.
 ///
-/// The file was begun under the name `other`. Without a fault, it is published exactly if the whole output was written,
-/// and no write to it failed.
+/// The file was begun under the name `other`. If there is no fault, it is published exactly if the whole output was
+/// written. If it is removed without a fault, no write to it failed.
 fn end_file<N: NewFiles>(
     answer: &Result<(), Stop>,
     new_files: &mut N,
@@ -191,7 +191,7 @@ fn run_command<'n, F: Files<'n>, W: Sink, E: Sink>(
     Stop::of_answer(carry_out(alloc, language, command, sink, errors))
 }
 
-/// Answers words that don't mean a command: shows help if they ask for it, otherwise stops for the reason `none`.
+/// Answers words that don't mean a command. If they ask for help, shows it. Otherwise stops for the reason `none`.
 fn answer_other_words<W: Sink>(none: NoCommand, sink: &mut W) -> Result<(), Stop>
     ensures carried { (l : Language) (words : List (List ℕ)) (known : Option (List ℕ → Option (List ℕ)))
         → HasNoCommand words none
@@ -393,7 +393,7 @@ fn read_looked<'n, F: Files<'n>>(
     })
 }
 
-/// Reads the file `name`; `None` without a name.
+/// Reads the file `name`. `None` if there is no name.
 fn read_other<'n, F: Files<'n>>(
     alloc: Global,
     name: Option<&'n str>,
@@ -414,7 +414,7 @@ fn read_other<'n, F: Files<'n>>(
     }
 }
 
-/// Carries out `command`, whose files have been read.
+/// Carries out `command`. Its files have been read.
 fn carry_out<W: Sink, E: Sink>(
     alloc: Global,
     language: Language,
@@ -543,8 +543,8 @@ fn show<W: Sink>(text: &str, sink: &mut W) -> Result<(), Refused>
     Ok(())
 }
 
-/// Passes the gathered bytes on, if the whole output was written. The answer is `Device` if the sink doesn't take all
-/// of them.
+/// Passes the gathered bytes on, if the whole output was written. If the sink doesn't take all of them, the answer is
+/// `Device`.
 fn pass_rest_on<W: Sink + Drop>(
     done: Result<(), Stop>,
     sink: &mut BufferedSink<W>,

@@ -1,4 +1,4 @@
-//! The command `list`: writes the settings of a day's page, as a list.
+//! The command `list`: writes the settings of a day's page as a list.
 ghost use Rattle.std.specs.Prelude.{◌≡◌, ◌||◌, [], ◌∷◌, ◌++◌, false, All, IsErr, OnOk, is_err};
 ghost use Rattle.kd_state.specs.Line.{list_text, setting_line, IsSettingInRange};
 ghost use Rattle.kd_tables.specs.Ports.{port};
@@ -15,11 +15,11 @@ use kd_state::{Machine, Setting};
 use kd_tables::{Device, Sink, put_all};
 use std::alloc::Global;
 
-/// Writes a shortest list from the machine in the file `machine` to day `number` of the sheet `sheet`.
+/// Writes a shortest list from the machine in the file `machine` to the day `number` of the sheet `sheet`.
 ///
-/// The settings are in the order of the day's page. Faults are tested in this order: faults of the machine file, faults
-/// of the sheet, `NoSuchDay` and `OtherModel`. For all of these faults, nothing is written. For `Device`, only a prefix
-/// of the list is written.
+/// The settings are in the order of the day's page. Faults are tested in this order: the machine file's, the sheet's,
+/// `NoSuchDay` and `OtherModel`. For all of these faults, nothing is written. For `Device`, only a prefix of the list
+/// is written.
 pub fn run_list<W: Sink>(
     alloc: Global,
     machine: &[u8],

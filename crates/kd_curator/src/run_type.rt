@@ -51,7 +51,7 @@ pub fn write_typing_page<W: Sink>(
     }
 }
 
-/// The answer after a page was written; `failed` says whether the sink has failed.
+/// The answer after a page was written. `failed` says whether the sink has failed.
 fn answer_after(failed: bool) -> Result<(), Refused>
     ensures { result ≡ answer_after failed }
 {

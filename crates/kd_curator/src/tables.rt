@@ -10,7 +10,7 @@ use kd_key_table::{Language, TableForm};
 use kd_tables::Sink;
 use std::alloc::Global;
 
-/// Writes the tables of the key sheet `sheet`, a page in `language`.
+/// Writes the tables of the key sheet `sheet`. A page is in `language`.
 pub(crate) fn write_tables<W: Sink>(
     alloc: Global,
     language: Language,
