@@ -1,5 +1,5 @@
--- How a part is read by count: the heading's letter count is wrong or damaged. The number of letters that came stands
--- for it.
+-- How a part is read by count, if the letter count in its heading is wrong or damaged. The number of letters that came
+-- stands for the count.
 -- Test: tests/cases/curator-messages.toml
 use Rattle.std.specs.Prelude.{decimal, ◌≡◌, ℕ, ◌+◌, ◌==◌, not, Bool, true, false, if◌then◌else◌, is_some}
 use Rattle.std.specs.Prelude.{List, [], ◌∷◌, ◌++◌, drop, Option, None, Some, IfSome, Result, Ok, Err}

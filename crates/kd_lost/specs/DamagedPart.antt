@@ -46,7 +46,7 @@ is_body_byte byte = is_lost byte || is_text_byte (meant_byte byte)
 -- ---- The letters by which parts are compared.
 
 -- The letter that a byte of a body counts as when parts are compared. A sign that may not be in a body counts as a lost
--- letter, `Some None`. A space or a line end counts as none.
+-- letter, `Some None`. A space or a line end counts as no letter.
 abbrev pub body_letter : ℕ → Option (Option ℕ)
 body_letter byte = if is_body_byte byte then received_letter byte else Some None
 

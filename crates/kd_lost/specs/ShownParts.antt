@@ -47,8 +47,8 @@ times_of parts number = count_by (λ part. is_number number part.numbers) parts
 
 -- ---- Repetitions.
 
--- Whether the second text tells more than the first. It does if there is no first text, or if fewer of its letters are
--- lost. It also does if equally many are lost, and only its count is right (`counted`).
+-- Whether the second text tells more than the first. It does if there is no first text, or if the second text lost
+-- fewer letters. It also does if both lost equally many, and only the second has a right count (`counted`).
 abbrev pub is_text_worse : Bool → Option DamagedText → Option DamagedText → Bool
 is_text_worse counted (Some one) (Some other) =
     nat_lt (lost_in other) (lost_in one) || (counted && lost_in other == lost_in one)

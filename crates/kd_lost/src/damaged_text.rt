@@ -46,7 +46,7 @@ pub enum GroupTest {
     /// These letters aren't the day's. The part was made with another day's settings, or the letters were changed on
     /// the air.
     Wrong,
-    /// They weren't compared: a letter of the group, or a list letter in both copies, is lost.
+    /// These letters weren't compared: a letter of the group, or a list letter in both copies, is lost.
     NotTested,
 }
 

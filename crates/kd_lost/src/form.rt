@@ -28,7 +28,7 @@ const MOST_PARTS: usize = 255;
 pub enum DamagedFormFault {
     /// There was no memory for what is read of the parts.
     NoMemory,
-    /// The form would have more than 255 parts.
+    /// The form has more than 255 parts.
     TooManyParts,
 }
 

@@ -79,8 +79,8 @@ pub fn shown_under(parts: &[DamagedPart], number: u16) -> Option<&DamagedPart>
     }
 }
 
-/// Whether the text of `other` tells more than the text of `one`. It does if `one` has no text, or if fewer of its
-/// letters are lost. It also does if equally many are lost, and only its count is right.
+/// Whether the text of `other` tells more than the text of `one`. It does if `one` has no text, or if `other` lost
+/// fewer letters. It also does if both lost equally many, and only the count of `other` is right.
 fn is_worse(one: &DamagedPart, other: &DamagedPart) -> bool
     ensures { result ≡ is_worse one.now other.now }
 {

@@ -1,11 +1,11 @@
-//! `WrongSign`: the first sign of a body that is neither a letter nor a lost letter.
+//! `WrongSign`: the first sign of a body that may not be in a body.
 ghost use Rattle.std.specs.Prelude.{◌≡◌, ◌+◌, ◌<◌, ◌≤◌, ◌^◌, ◌==◌, if◌then◌else◌, is_some, length, take};
 ghost use Rattle.kd_lost.specs.Lost.{received_letter, received_letters};
 ghost use Rattle.kd_lost.specs.WrongSign.{IsFirstWrongSign};
 
 use crate::received::{is_body_byte, is_received, letter_count};
 
-/// A sign that may not be in a body: no letter, no lost letter, no blank, and no part of a line end.
+/// A sign that may not be in a body. It is no letter, no lost letter, no blank, and no part of a line end.
 #[derive(Clone, Copy, Debug, PartialEq, Eq)]
 pub struct WrongSign {
     /// The line of the part on which the sign stands, counted from 1. On line 1 stands the heading.
