@@ -26,15 +26,15 @@ use Rattle.kd_lost.specs.ShownParts.{IsWhole, is_number, shown_under, times_of, 
 use Rattle.kd_lost.specs.Texts.{lost_in, shown_text}
 use Rattle.kd_message.specs.TextSheet.{came_text, read_text, text_begin, text_part_head}
 
--- The lamps of a row are the cipher of the letters that are pressed in this row. It starts from the windows to which
--- the rows before it lead.
+-- The lamps of a row are the cipher of the letters that are pressed in this row. The cipher starts from the windows to
+-- which the earlier rows lead.
 abbrev pub RowsAreEnciphered : Type 0
 RowsAreEnciphered =
     (s : Day) (start before row : List ℕ)
     → cipher_from s start (before ++ row)
     ≡ cipher_from s start before ++ cipher_from s (letters_after s start (length before)) row
 
--- the letter of a sign; `None` if it is lost, or there is none
+-- the letter of a sign; `None` if the letter is lost, or the sign has none
 abbrev pub letter_of : Sign → Option ℕ
 letter_of signs.Nothing = None
 letter_of signs.Lost = None
@@ -85,8 +85,8 @@ HasLettersOf text other =
     (place letter : ℕ) → slice_get other.letters.items place ≡ Some (Some letter)
     → slice_get text.letters.items place ≡ Some (Some letter)
 
--- The page shows a text for the number of each part with a text, even if this is a text by count. The shown text has
--- each letter of the part's own text, and no more lost letters. `alone` are the parts, each read by itself.
+-- If a part has a text, even if only by count, the page shows a text under the part's number. The shown text has each
+-- letter of the part's own text, and no more lost letters. `alone` are the parts, each read by itself.
 abbrev pub NothingReadIsHidden : Type 0
 NothingReadIsHidden =
     (l : Language) (s : Day) (form : List ℕ) (parts : List DamagedPart) (read : AreFormParts s form parts)
@@ -133,7 +133,7 @@ abbrev pub IsClear : List ℕ → Type 0
 IsClear part = All (λ byte. IsFalse (is_lost byte) × (meant_byte byte ≡ byte)) part
 
 -- Let a form be one whole message, with no lost letter, no small letter, no tab, and no heading with needless blanks.
--- Then `desk receive` reads some parts of the form, one for each number, in the order of their numbers. It gets the
+-- Then `desk receive` reads some parts of the form, one for each number, in the order of their numbers. They give the
 -- letters that the page shows. So once the parts are sorted, and repeated ones left out, the shown text is the one that
 -- `desk receive` gives.
 abbrev pub WholeMessagesAreRead : Type 0

@@ -145,8 +145,8 @@ lost_groups l first before number (group ∷ groups) =
 abbrev pub first_text_group : Model → ℕ
 first_text_group model = if is_converter model then 3 else 2
 
--- The place of this key letter in the first copy of the indicators. The chosen letter, number 0, stands at places 1 and
--- 2.
+-- The place of this key letter in the first copy of the indicators. For the chosen letter, number 0, it is the first of
+-- two places.
 abbrev pub indicator_place : ℕ → ℕ
 indicator_place number = if number == 0 then 1 else number + 2
 

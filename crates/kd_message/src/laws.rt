@@ -42,8 +42,8 @@ pub fn whole_messages_are_on_the_page()
     ensures { WholeMessagesAreOnThePage }
 {}
 
-/// `desk receive` reads the parts of a whole message, once they are sorted, and gets the same text. The form has no
-/// lost letter, no small letter, no tab, and no heading with needless blanks.
+/// Let a form be a whole message with no lost letter, no small letter, no tab, and no heading with needless blanks.
+/// Once its parts are sorted, and repeated ones left out, `desk receive` gets the same text.
 pub fn whole_messages_are_read()
     ensures { WholeMessagesAreRead }
 {}

@@ -245,7 +245,7 @@ pub const SHORT_GROUP: Text = (" Group ", " Gruppe ");
 
 pub const SHORT_GROUP_END: Text = (" hasn’t five letters.", " hat nicht fünf Buchstaben.");
 
-/// Each group has five letters: the words before the number of letters that came, and after it.
+/// Each group but the last has five letters: the words before the number of letters that came, and after it.
 pub const FULL_GROUPS: Text = (
     " Each group but the last has five letters, so ",
     " Jede Gruppe bis auf die letzte hat fünf Buchstaben, also kann ",

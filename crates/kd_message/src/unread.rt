@@ -267,8 +267,8 @@ pub(crate) fn heading_count(numbers: &Option<PartNumbers>) -> usize
     }
 }
 
-/// The place of key letter `number` in the first copy of the indicators. The chosen letter, number 0, stands at places
-/// 1 and 2.
+/// The place of key letter `number` in the first copy of the indicators. For the chosen letter, number 0, it is the
+/// first of two places.
 fn indicator_place(number: u8) -> u16
     ensures { result ≡ indicator_place number }
 {
