@@ -59,7 +59,7 @@ received_cells for_space (key ∷ keys) [] = []
 -- ---- The internal key of a Converter: wheels 1 to 6 each take the next letter that they have.
 
 -- The mark of a printed letter. Wheel `taken` was the last to take a letter. If the next wheel has the printed letter,
--- it takes it; otherwise the letter is struck out. After wheel 6, no letter is needed.
+-- this wheel takes it; otherwise the letter is struck out. After wheel 6, no letter is needed.
 abbrev pub mark_of : ℕ → ℕ → Mark
 mark_of taken letter =
     if taken == 6 then marks.NotNeeded

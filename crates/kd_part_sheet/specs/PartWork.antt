@@ -1,5 +1,5 @@
--- What the sheet of a part shows: the windows to set, the letters to press, and the letters of the lamps that have to
--- light up.
+-- What the sheet of a part shows. It has the windows to set, the letters to press, and the letters of the lamps that
+-- have to light up.
 use Rattle.std.specs.Prelude.{◌≡◌, ℕ, List, ◌++◌, map}
 use Rattle.kd_state.specs.SheetDay.{Day}
 use Rattle.kd_state.specs.EngineKey.{IsWindow}
@@ -13,8 +13,8 @@ use Rattle.kd_form.specs.PartMaking.{cipher_from, enciphered_choice, fill_last_g
 use Rattle.kd_part_sheet.specs.declared.cells.Cell.{Cell}
 use Rattle.kd_part_sheet.specs.Cells.{choice_cells, copied, pressed_cells}
 
--- The letters on the sheet of a part. `ground` are the letters to set before those of `key` are pressed, which find the
--- message key or the internal key. `start` are the letters to set before the text. `body` has the letters of the body.
+-- The letters on the sheet of a part. `ground` are the letters to set first. Then the letters of `key` find the message
+-- key or the internal key. `start` are the letters to set before the text. `body` has the letters of the body.
 pub record Work : Type 0 where
   pub ground : List ℕ
   pub key : List Cell

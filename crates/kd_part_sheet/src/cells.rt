@@ -43,7 +43,7 @@ pub enum Mark {
     Taken(u8),
 }
 
-/// An `ArrayVec` of cells needs a value for its unused places.
+/// A default cell, since an `ArrayVec` of cells needs a value for its unused places.
 impl Default for Cell {
     fn default() -> Self {
         Cell {
@@ -179,7 +179,7 @@ pub fn push_choice<const N: usize>(
 }
 
 /// The mark of a printed letter. Wheel `taken` was the last to take a letter. If the next wheel has the printed letter,
-/// it takes it; otherwise the letter is struck out. After wheel 6, no letter is needed.
+/// this wheel takes it; otherwise the letter is struck out. After wheel 6, no letter is needed.
 fn mark_of(taken: u8, letter: Letter) -> Mark
     requires { taken ≤ 6 }
     ensures { result ≡ mark_of taken letter }
