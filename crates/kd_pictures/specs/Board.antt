@@ -107,7 +107,7 @@ abbrev pub moving_class : Plugs → Class
 moving_class Out = classes.Out
 moving_class In = classes.In
 
--- the class of a cable's line; it is drawn thick if the cable doesn't have all its plugs there on machine `n`
+-- the class of a cable's line; the line is thick if one of the cable's plugs isn't there on machine `n`
 abbrev pub line_class : Plugs → Parts → ℕ → Option ℕ × Option ℕ → Class
 line_class plugs n number cable =
     if end_moves n number cable.0 || end_moves n number cable.1 then moving_class plugs else classes.Plain
@@ -144,8 +144,7 @@ free_socket letter = filled texts.FREE.now (
     decimal (socket_x letter) ∷ decimal (label_y letter) ∷ letter_text letter
     ∷ decimal (socket_x letter) ∷ decimal (socket_y letter) ∷ [])
 
--- The socket of a letter: free, or with a cable's plug. The plug is drawn as moving if the cable has no plug there on
--- machine `n`.
+-- The socket of a letter: free, or with a cable's plug. The plug is drawn as moving if it isn't there on machine `n`.
 abbrev pub socket_holding : Plugs → Parts → ℕ → Option ℕ → List ℕ
 socket_holding plugs n letter None = free_socket letter
 socket_holding plugs n letter (Some number) =

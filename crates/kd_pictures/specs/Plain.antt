@@ -7,7 +7,7 @@ use Rattle.kd_pictures.specs.declared.template.Value.{Value}
 use Rattle.kd_pictures.specs.declared.template.Value.TheVariants as values
 use Rattle.kd_pictures.specs.Template.{value_text}
 
--- whether the byte is plain text; HTML reads `<`, `>` and `&` as markup
+-- whether the byte is none of `<`, `>` and `&`, which HTML reads as markup
 abbrev pub is_plain : ℕ → Bool
 is_plain byte = not (byte == 60 || (byte == 62 || byte == 38))
 

@@ -195,7 +195,7 @@ fn draw_line<W: Sink>(
     draw_cable_line(sink, language, class, lane, cable_of(machine, number));
 }
 
-/// The class of a cable's line. It is drawn thick if the cable doesn't have all its plugs there on `other`.
+/// The class of a cable's line. The line is thick if one of the cable's plugs isn't there on `other`.
 fn line_class(plugs: Plugs, other: &Machine, number: u8, cable: Cable) -> Class
     ensures { result ≡ line_class plugs other.now number cable }
 {

@@ -494,7 +494,7 @@ pub const PLUGS_END: &str = "</table>\n";
 pub const BOARD_STEP_END: &str = "</div>\n</section>\n";
 
 /// The table of the pins. It has the head of a wheel, with the beginning of the wheel's settings lines. Then the cells
-/// of pins: a cell may have a pin to change.
+/// of pins. Some cells have a pin to change.
 pub const PINS: Text = (
     "<table class=pins>\n<caption>Pins after: ~ effective, ~ not. Framed pins are to change: ON makes a pin effective, OFF not.</caption>\n",
     "<table class=pins>\n<caption>Stifte nachher: ~ wirksam, ~ unwirksam. Umrahmte Stifte umstellen: EIN macht wirksam, AUS unwirksam.</caption>\n",

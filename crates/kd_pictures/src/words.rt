@@ -6,7 +6,8 @@ use crate::language::Language;
 use crate::texts;
 use kd_tables::Model;
 
-/// A fixed word: the language's code, a name of a step, a slot, a picture or a lug, or which way a pin is set.
+/// A fixed word. It is the language's code, or which way a pin is set. Or it is the name of a step, a slot, a picture
+/// or a lug.
 #[derive(Clone, Copy)]
 pub enum Word {
     Language,
