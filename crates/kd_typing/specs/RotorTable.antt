@@ -44,8 +44,8 @@ abbrev pub window_by : RotorTable → List ℕ → List ℕ
 window_by table window =
     with_last_moved (slice_index table.steps (26 * letter_in window 1 + letter_in window 0)) window
 
--- The letter that lights up for `key` while the windows show `window`. The current comes out of the core at a place.
--- The current of the letter's own key would reach this place through the right wheel.
+-- The letter that lights up for `key` while the windows show `window`. The letter's own key leads the current into the
+-- core where the current of `key` comes out.
 abbrev pub lamp_by : RotorTable → List ℕ → ℕ → ℕ
 lamp_by table window key =
     let into = slice_index_or table.into (letter_in window 0) [] in
