@@ -1,4 +1,4 @@
-//! A law of the page's templates.
+//! A law about the page's templates.
 ghost use Rattle.kd_typing_page.specs.Plain.{TemplatesTakeTheirValues};
 
 /// Each template takes the values that the page fills into it, in both languages.

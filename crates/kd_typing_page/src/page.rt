@@ -82,7 +82,7 @@ fn draw_desk<W: Sink>(sink: &mut W, language: Language, machine: &Machine)
     }
 }
 
-/// Writes the data that the script reads before the table: the letters that the machine shows, and words to show.
+/// Writes the data that the script reads before the table: the letters that the machine shows, and the script's words.
 fn draw_data<W: Sink>(sink: &mut W, language: Language, model: Model, rows: &MachineRows)
     ensures { Draws W.taken W.has_failed sink.old sink.new
         (data_text language model (shown_letters (rows_key rows.now))) }

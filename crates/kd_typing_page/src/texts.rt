@@ -3,8 +3,8 @@
 
 use kd_pictures::texts::Text;
 
-/// The file's title, with the model. Then the policy: the page may use only the script and the style sheet with these
-/// SHA-256. Then the start of the body.
+/// The file's title, with the model. Then the policy: the page may use only the script and the style sheet whose
+/// SHA-256 the policy names. Then the start of the body.
 pub const TITLE: Text = ("~: typing", "~: Tippen");
 
 pub const POLICY: &str =
