@@ -177,12 +177,13 @@ abbrev pub HasArguments : List Row → Task → Type 0
 HasArguments rows (tasks.Page days language) = HasDays rows days × HasLanguage rows language
 HasArguments rows (tasks.List day) = HasDay rows day
 
--- `said` means the task `task`. It has the command's name, and the values of its arguments.
+-- `said` means the task `task`. `said` has the command's name, and the values of the command's arguments.
 pub record IsTaskOf (said : List ℕ × List Row) (task : Task) : Type 0 where
   pub name : said.0 ≡ task_name task
   pub arguments : HasArguments said.1 task
 
--- `said` means the task `its_task` with these files. It has the command's name, and the values of its arguments.
+-- `said` means the task `its_task` with these files. `said` has the command's name, and the values of the command's
+-- arguments.
 pub record IsTaskWith (said : List ℕ × List Row) (machine_file key_sheet : List ℕ) (its_task : Task) : Type 0 where
   pub machine : first_of (codes "MACHINE") said.1 ≡ Some machine_file
   pub sheet : first_of (codes "SHEET") said.1 ≡ Some key_sheet
@@ -276,7 +277,7 @@ pub record IsLookOf (said : List ℕ × List Row) (names files : UpToThree (List
   pub third : first_of (codes "FILE3") said.1 ≡ names.third
   pub same : files ≡ names
 
--- `said` means the command `command`. It has the command's name, and the values of its arguments.
+-- `said` means the command `command`. `said` has the command's name, and the values of its arguments.
 abbrev pub IsCommandOf : List ℕ × List Row → NamedCommand → Type 0
 IsCommandOf said (commands.OnMachine machine sheet task) = IsTaskWith said machine sheet task
 IsCommandOf said (commands.Message machine sheet message task) = IsMessageOf said machine sheet message task
@@ -286,11 +287,11 @@ IsCommandOf said (commands.Sheet table options) = IsSheetOf said table options
 IsCommandOf said (commands.Look names files) = IsLookOf said names files
 IsCommandOf said (commands.EmptySheet model days) = IsEmptySheetOf said model days
 
--- There is `said`, and it means the command `command`.
+-- There is a command `said`, and it means `command`.
 abbrev pub IsMeant : Option (List ℕ × List Row) → NamedCommand → Type 0
 IsMeant said command = IsSomeAnd said (λ x. IsCommandOf x command)
 
--- The command line `words` fits the grammar, and means `command`. Its first word is the program's own name.
+-- The command line `words` fits the grammar, and means `command`. The first word is the program's own name.
 pub record IsCommandLineOf (words : List (List ℕ)) (command : NamedCommand) : Type 0 where
   pub taken : fault_of curator_grammar words ≡ []
   pub said : IsMeant (subcommand_of curator_grammar words) command

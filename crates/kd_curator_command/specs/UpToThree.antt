@@ -3,7 +3,7 @@ use Rattle.std.specs.Prelude.{◌≡◌, ℕ, List, [], ◌∷◌, ◌++◌, Opt
 use Rattle.std.specs.Borrow.{Bor}
 use Rattle.kd_curator_command.specs.declared.up_to_three.UpToThree.{UpToThree}
 
--- the texts, in place of borrowed texts
+-- the plain texts, in place of borrowed texts
 abbrev pub unborrowed_three : UpToThree (Bor (List ℕ)) → UpToThree (List ℕ)
 unborrowed_three texts = record {
   first = texts.first.now;

@@ -85,7 +85,7 @@ pub enum Command<F, T> {
         /// The texts for cells that are blank or missing in the table.
         options: TableOptions<T>,
     },
-    /// Says in words what machine files and key sheets say, or what their faults are.
+    /// Describes machine files and key sheets in words, or names their faults.
     Look {
         /// The names of the files.
         names: UpToThree<T>,
@@ -147,7 +147,7 @@ pub struct CommandLine<'a> {
 /// Why a command line doesn't mean a command.
 #[derive(Drop)]
 pub enum NoCommand {
-    /// The words ask for help, or for the version. The text is the one to show.
+    /// The words ask for help, or for the version. This is the text to show.
     Asked(String),
     /// The words don't mean a command. The text says why.
     Usage(String),

@@ -30,7 +30,7 @@ pub(crate) enum Sort<'a> {
 pub(crate) struct Argument<'a> {
     pub(crate) name: &'a str,
     pub(crate) sort: Sort<'a>,
-    /// The words on the argument that help shows.
+    /// What help says about the argument.
     pub(crate) help: &'a str,
 }
 
@@ -38,7 +38,7 @@ pub(crate) struct Argument<'a> {
 #[derive(Clone, Copy)]
 pub(crate) struct CommandWords<'a> {
     pub(crate) name: &'a str,
-    /// The words on the command that help shows.
+    /// What help says about the command.
     pub(crate) about: &'a str,
     pub(crate) arguments: &'a [Argument<'a>],
 }
