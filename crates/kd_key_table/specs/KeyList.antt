@@ -1,4 +1,4 @@
--- The key list of a Converter's day, as the manual shows it: the lugs of the bars, the effective pins, and the
+-- The key list of a Converter's day, as the manual shows it. It has the lugs of the bars, the effective pins, and the
 -- 26-letter check. Words are in language `l`.
 -- Source: War Department TM 11-380.
 use Rattle.std.specs.Prelude.{decimal, ℕ, ◌+◌, nat_lt, Bool, if◌then◌else◌, List, [], ◌∷◌, ◌++◌, flat_map, replicate}

@@ -16,7 +16,7 @@ is_device (Ok done) = false
 is_device (Err Device) = true
 is_device (Err (Sheet fault)) = false
 
--- Either the tables of the sheet's month were written in this form and language; if the sink failed, only a prefix of
+-- Either the tables of the sheet's month were written in this form and language. If the sink failed, only a prefix of
 -- them was. Or the answer is the sheet's first fault. Or the answer is that memory ran out, which may always happen.
 abbrev pub IsTableAnswer : Language → TableForm → List ℕ → Port → Result (Unit {0}) TableFault → Type 0
 IsTableAnswer l form sheet sink answer =
