@@ -65,8 +65,8 @@ pub record IsPinOrder (settings : List Setting) : Type 0 where
   pub lugs : IsRanked row_of 1 28 (settings_at (step_spot Lugs) settings)
   pub turns : IsRanked row_of 1 7 (settings_at (step_spot Turns) settings)
 
--- If settings are in the order of a page, the page's checkboxes, from the top, are for exactly these settings, in this
--- order.
+-- Let settings be in the order of a page. Then the page's checkboxes, from the top, are for exactly these settings, in
+-- this order.
 abbrev pub RotorBoxesAreTheSettings : Type 0
 RotorBoxesAreTheSettings = (settings : List Setting) → IsRotorOrder settings → rotor_boxes settings ≡ settings
 
