@@ -22,7 +22,7 @@ abbrev pub lug_at : Parts → ℕ → Lug → Option Place
 lug_at m bar Left = option_map (λ standing. standing.0) (machine_standing m bar)
 lug_at m bar Right = option_map (λ standing. standing.1) (machine_standing m bar)
 
--- The value is `due` after a list, and wasn't before.
+-- The value is `due` after a list, but wasn't `due` before it.
 abbrev pub Becomes : {A : Type 0} → A → A → A → Type 0
 Becomes before after due = (before ≢ due) × (after ≡ due)
 
