@@ -1,4 +1,5 @@
--- The cells of a table's row, one for each value of a day. Each has a column, and its text can be read, or can't.
+-- The cells of a table's row, one for each value of a day. This file says which column each cell has, and whether its
+-- text can be read.
 -- Test: tests/cases/curator-sheet.toml
 use Rattle.std.specs.Prelude.{ℕ, nat_le, ◌&&◌, ◌||◌, not, Bool, true, false, List, [], ◌∷◌, is_some, slice_index_or, Option, Some, None, if◌then◌else◌}
 use Rattle.std.specs.List.{list_all}

@@ -74,7 +74,8 @@ fn tell_words<T: FromWord + Copy>(lines: &mut Words, words: &[&[u8]], what: &str
     }
 }
 
-/// Says that there are `found` things, where `count` are needed. `one` and `many` are the name of these things.
+/// Says that there are `found` things, where `count` are needed. `one` is the name of one such thing, `many` of
+/// several.
 fn count_words(lines: &mut Words, found: usize, count: usize, one: &str, many: &str) {
     lines.begin();
     lines.add_number(found as u64);

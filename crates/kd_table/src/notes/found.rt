@@ -27,8 +27,7 @@ impl Found {
         }
     }
 
-    /// Says which columns the row needs, though the table doesn't have them. This is said only at the first row of each
-    /// model.
+    /// Says which columns the row needs, but the table lacks. This is said only at the first row of each model.
     pub fn missing(&mut self, head: &Head<'_>, row: &ByteRecord) -> Words {
         match row_model(head.options(), head.columns(), row) {
             Some(model) if !self.models.as_slice().contains(&Some(model)) => {

@@ -23,8 +23,8 @@ fn is_near_column(cell: Cell, name: &[u8]) -> bool {
         || is_near(name, short_name(cell).as_bytes())
 }
 
-/// Whether `name` differs from `known` in at most two successive letters. If `known` has fewer than five, it may differ
-/// in one letter.
+/// Whether `name` differs from `known` in at most two successive letters. If `known` has fewer than five letters,
+/// `name` may differ in only one.
 fn is_near(name: &[u8], known: &[u8]) -> bool {
     let slips = if known.len() < 5 { 1 } else { 2 };
     let explained = alike_at_start(name, known)
