@@ -54,7 +54,8 @@ ends_line text index = slice_index text index == 10 || index + 1 == length text
 unfoldable pub has_value_at : List ℕ → Sought → ℕ → Bool
 has_value_at text sought index = ends_line text index && reads_value sought (take (index + 1) text)
 
--- The number of the first line at whose end the text so far has what is looked for. The line ends before `end`.
+-- The number of the first line for which the text, up to the line's end, has what is looked for. The line ends before
+-- `end`.
 abbrev pub line_before : List ℕ → ℕ → Sought → Option ℕ
 line_before text end sought = option_map (line_at text) (find (has_value_at text sought) (range_with_len 0 end))
 
@@ -62,8 +63,8 @@ line_before text end sought = option_map (line_at text) (find (has_value_at text
 abbrev pub is_too_long : List ℕ → Bool
 is_too_long text = nat_lt 65536 (length text) || nat_lt 2048 (count_by (λ byte. byte == 10) text)
 
--- The number of the first line at whose end the text so far has what is looked for. `None` if there is no such line, or
--- the text is too long.
+-- The number of the first line for which the text, up to the line's end, has what is looked for. `None` if there is no
+-- such line, or the text is too long.
 abbrev pub line_number : List ℕ → Sought → Option ℕ
 line_number text sought = if is_too_long text then None else line_before text (length text) sought
 

@@ -1,4 +1,4 @@
-//! Says in words what machine files and key sheets have, or names their faults.
+//! Describes machine files and key sheets in words, or names their faults.
 #![tactic(auto)]
 
 mod alike;

@@ -242,8 +242,8 @@ fn seek_lines(
     Ok(lines)
 }
 
-/// The line of each of `findings`. It is the first line at whose end the text so far is a document with what the
-/// finding looks for.
+/// The line of each of `findings`. It is the first line for which `text`, up to the line's end, is a document with what
+/// the finding looks for.
 ///
 /// `None` if there is no such line, or `text` is too long.
 pub fn lines_of(

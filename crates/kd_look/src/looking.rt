@@ -1,4 +1,4 @@
-//! `look_at`: says in words what files have, or names their faults.
+//! `look_at`: describes files in words, or names their faults.
 ghost use Rattle.std.specs.Prelude.{◌≡◌, ◌||◌, map, Err, IfOk, OnOk};
 ghost use Rattle.std.specs.String.{string_bytes};
 ghost use Rattle.kd_tables.specs.Ports.{port};
@@ -119,7 +119,7 @@ fn report_all(alloc: Global, files: &[NamedFile<'_>]) -> Result<WholeReport, All
     Ok(WholeReport { text, outcome })
 }
 
-/// Writes the contents of `files` in words, or their faults.
+/// Describes `files` in words, or names their faults.
 ///
 /// With `NoMemory`, nothing is written. With `Device`, a prefix of the report is written.
 pub fn look_at<W: Sink>(

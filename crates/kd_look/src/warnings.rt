@@ -1,4 +1,4 @@
-//! The warnings about a file. The desk accepts these things, but perhaps they weren't meant.
+//! Warnings about things in a file that the desk accepts, though they may not have been meant.
 ghost use Rattle.std.specs.Prelude.{◌≡◌, ◌++◌, [], IfOk, MatchResult, OnOk};
 ghost use Rattle.std.specs.String.{string_bytes};
 ghost use Rattle.kd_sheet.specs.Document.{document_of};
@@ -49,7 +49,7 @@ fn document_warnings(alloc: Global, bytes: &[u8], name: &str) -> Result<String, 
     }
 }
 
-/// The warnings about a byte order mark and the keys of a file. Each is a line.
+/// The warnings about a byte order mark and the keys of a file. Each warning is a line.
 pub fn key_warnings(alloc: Global, bytes: &[u8], name: &str) -> Result<String, AllocError>
     ensures { IfOk result (λ lines. AreKeyWarnings name.now bytes.now (string_bytes lines)) }
 {
@@ -60,7 +60,7 @@ pub fn key_warnings(alloc: Global, bytes: &[u8], name: &str) -> Result<String, A
     Ok(lines)
 }
 
-/// The warnings about the days of `sheet`. Each is a line.
+/// The warnings about the days of `sheet`. Each warning is a line.
 fn sheet_warnings(alloc: Global, name: &str, sheet: &Sheet) -> Result<String, AllocError>
     ensures { IfOk result (λ lines. WarnsOfDays name.now (string_bytes lines)) }
 {
@@ -70,7 +70,7 @@ fn sheet_warnings(alloc: Global, name: &str, sheet: &Sheet) -> Result<String, Al
     Ok(lines)
 }
 
-/// The warnings about the days of a key sheet. Each is a line.
+/// The warnings about the days of a key sheet. Each warning is a line.
 pub fn day_warnings(alloc: Global, name: &str, file: &File) -> Result<String, AllocError>
     ensures { IfOk result (λ lines. WarnsOfDays name.now (string_bytes lines)) }
 {
