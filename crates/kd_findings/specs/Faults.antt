@@ -1,5 +1,5 @@
--- The faults of a machine file. Each key, in the order of testing, has the fault with which the desk refuses its value.
--- The desk stops at a file's first fault; here, each key is judged separately.
+-- The faults of a machine file. For each key, in the order of testing, they have the fault with which the desk refuses
+-- the key's value. The desk stops at a file's first fault; here, each key is judged separately.
 -- Test: tests/cases/curator-look.toml
 use Rattle.std.specs.Prelude.{ℕ, nat_le, true, List, [], ◌∷◌, ◌++◌, length, map, slice_get, Option, None, Result, Ok, Err}
 use Rattle.std.specs.Prelude.{if◌then◌else◌}
@@ -32,7 +32,7 @@ use Rattle.kd_findings.specs.declared.place.Place.{Place}
 abbrev pub in_file : Key → Place
 in_file key = record { entry = None; day = None; key = key }
 
--- the place of another key, beside this place
+-- the place of another key, in the same entry or at the top of the same file
 abbrev pub at_key : Place → Key → Place
 at_key place key = record place { key = key }
 
@@ -71,7 +71,7 @@ model_file_faults table model = rotor_file_faults model table
 abbrev pub version_in : Members → Result ℕ SheetFault
 version_in table = read_at keys.Version (number_up_to 2) table
 
--- The model in a machine file. The file's version must have this model; a version that is refused has each model.
+-- The model in a machine file. The file's version must have this model. If the version is refused, it may be any model.
 unfoldable pub file_model : Members → Result Model SheetFault
 file_model table = do
   model ← model_in table

@@ -1,5 +1,5 @@
--- The faults of a key sheet. Each key of each entry, in the order of testing, has the fault with which the desk refuses
--- its value. The desk stops at a sheet's first fault; here, the later entries are judged, too.
+-- The faults of a key sheet. For each key of each entry, in the order of testing, they have the fault with which the
+-- desk refuses the key's value. The desk stops at a sheet's first fault; here, the later entries are judged, too.
 -- Test: tests/cases/curator-look.toml
 use Rattle.std.specs.Prelude.{◌≡◌, ◌⊎◌, ℕ, ◌+◌, ◌≤◌, ◌==◌, Bool, false, not, List, [], ◌∷◌, ◌++◌, length, take}
 use Rattle.std.specs.Prelude.{Option, Some, None, Result, Ok, true, if◌then◌else◌}
@@ -108,7 +108,8 @@ AreFaultsOf true entries document faults = faults ≡ machine_faults document
 AreFaultsOf false (Some items) document faults = AreSheetFaults items faults
 AreFaultsOf false None document faults = faults ≡ (in_file keys.Day, day_fault document) ∷ []
 
--- The list has the faults of the document. It is a machine file, a key sheet with entries, or it lacks the array `day`.
+-- The list has the faults of the document. The document is a machine file, or a key sheet with entries, or it lacks the
+-- array `day`.
 abbrev pub AreFaults : Members → List (Place × SheetFault) → Type 0
 AreFaults document faults = AreFaultsOf (is_machine_file document) (entries_of document) document faults
 

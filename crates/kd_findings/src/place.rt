@@ -38,7 +38,7 @@ impl Place {
         }
     }
 
-    /// The place of another key, beside this place.
+    /// The place of another key, in the same entry or at the top of the same file.
     pub fn at(self, key: Key) -> Self
         ensures { result ≡ at_key self key }
     {
