@@ -4,7 +4,7 @@
 use Rattle.std.specs.Prelude.{codes, ℕ, ◌++◌, ◌==◌, ◌&&◌, nat_le, not, Bool, List, length, decimal, if◌then◌else◌}
 use Rattle.std.specs.List.{list_all}
 
--- whether the byte can be printed, as it isn't a control character
+-- whether the byte can be printed: it is no control character
 abbrev pub is_printed : ℕ → Bool
 is_printed byte = nat_le 32 byte && not (byte == 127)
 

@@ -1,4 +1,4 @@
-//! Refuses texts with other letters than the right capital letters.
+//! Refuses texts that don't consist of the right capital letters.
 ghost use Rattle.std.specs.Prelude.{◌≡◌, length, IfErr, None, OnOk};
 ghost use Rattle.kd_slips.specs.Items.{HasFault};
 

@@ -172,7 +172,7 @@ pub fn check_at_most(alloc: Global, key: Key, len: usize, most: usize, of: &str)
     )
 }
 
-/// Whether `byte` can be printed, as it isn't a control character.
+/// Whether `byte` can be printed: it is no control character.
 fn is_printed(byte: u8) -> bool
     ensures { result ≡ is_printed byte }
 {
