@@ -103,8 +103,8 @@ names_of (commands.Sheet table options) = table ∷ []
 names_of (commands.Look names files) = list_of_three files
 names_of (commands.EmptySheet model days) = []
 
--- The task writes its output, and gives this answer. It has the bytes of a machine file and of a key sheet. Words are
--- in language `l`, unless the task asks for another language.
+-- The task, which has the bytes of a machine file and of a key sheet, writes its output, and gives this answer. Words
+-- are in language `l`, unless the task asks for another language.
 abbrev pub DoesTask : Language → Task → List ℕ → List ℕ → Port → Result (Unit {0}) Refused → Type 0
 DoesTask l (tasks.Page days chosen) machine sheet sink answer = IsAnswerOnSheet machine sheet
     (λ m month. WritesPages (unwrap_or chosen l) month m (wanted_days days (model_of m) month) sink answer) answer
@@ -117,13 +117,13 @@ abbrev pub WritesMessage : MessageKind → Language → List (Option Day) → Pa
 WritesMessage kinds.Order l month m number order sink answer = WritesSendPage l month m number order sink answer
 WritesMessage kinds.Form l month m number form sink answer = WritesReceivePage l month m number form sink answer
 
--- The task writes its output, and gives this answer. It has the bytes of a machine file, a key sheet and a message.
+-- The task has the bytes of a machine file, a key sheet and a message. It writes its output, and gives this answer.
 -- Words are in language `l`, unless the task asks for another language.
 abbrev pub WorksMessage : Language → MessageTask → List ℕ → List ℕ → List ℕ → Port → Result (Unit {0}) Refused → Type 0
 WorksMessage l task machine sheet message sink answer = IsAnswerOnSheet machine sheet
     (λ m month. WritesMessage task.kind (unwrap_or task.language l) month m task.day message sink answer) answer
 
--- The command writes its output, and gives this answer. It has the bytes of its files. Words are in language `l`,
+-- The command, which has the bytes of its files, writes its output, and gives this answer. Words are in language `l`,
 -- unless the command asks for another language.
 abbrev pub DoesCommand : Language → ReadCommand → Port → Result (Unit {0}) Refused → Type 0
 DoesCommand l (commands.OnMachine machine sheet task) sink answer = DoesTask l task machine sheet sink answer
@@ -144,8 +144,8 @@ pub record IsLeftAlone (p : Port) : Type 0 where
 
 -- ---- The program's answer.
 
--- Whether the whole output was written. It was after success. It also was if files that were looked at have faults, or
--- if a form isn't read completely.
+-- Whether the whole output was written. This is so after success. It is also so if files that were looked at have
+-- faults, or if a form isn't read completely.
 abbrev pub is_whole : Result (Unit {0}) Stop → Bool
 is_whole (Ok done) = true
 is_whole (Err (stops.Refused refused)) = is_after_all refused.fault

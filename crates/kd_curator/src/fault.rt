@@ -27,7 +27,7 @@ pub enum PageFault {
     FaultyTable,
     /// A file that was looked at has faults. The report says which.
     FaultyFile,
-    /// A form would have more than 255 parts.
+    /// The form has more than 255 parts.
     TooManyParts,
     /// A form isn't read as one whole message of the day. Letters or parts are missing, or parts are of another message
     /// or day. Its page is written even so.

@@ -1,4 +1,4 @@
-//! The command `look`: says in words what files have, or names their faults.
+//! The command `look`: describes files in words, or names their faults.
 ghost use Rattle.std.specs.Prelude.{◌≡◌, ◌∷◌, ◌++◌, ◌||◌, false, option_map, Err, IsErr};
 ghost use Rattle.kd_tables.specs.Ports.{port};
 ghost use Rattle.kd_look.specs.Look.{IsLookAnswer, is_device as is_look_device, named_text};
@@ -13,7 +13,7 @@ use kd_look::{LookFault, NamedFile, Outcome, look_at};
 use kd_tables::Sink;
 use std::alloc::Global;
 
-/// Writes the contents of files in words, or their faults.
+/// Describes files in words, or names their faults.
 pub(crate) fn look_at_files<W: Sink>(
     alloc: Global,
     names: &UpToThree<&str>,
@@ -46,7 +46,7 @@ fn named<'a>(name: Option<&'a str>, file: &'a Option<Content>) -> Option<NamedFi
     })
 }
 
-/// Writes the contents of one, two or three files in words, or their faults.
+/// Describes one, two or three files in words, or names their faults.
 fn look_at_all<W: Sink>(
     alloc: Global,
     first: NamedFile<'_>,
