@@ -1,5 +1,5 @@
--- The faults of a machine file. For each key, in the order of testing, they have the fault with which the desk refuses
--- the key's value. The desk stops at a file's first fault; here, each key is judged separately.
+-- The faults of a machine file. The keys come in the order of testing. If the desk refuses the value of a key, the key
+-- has this fault. The desk stops at a file's first fault; here, each key is judged separately.
 -- Test: tests/cases/curator-look.toml
 use Rattle.std.specs.Prelude.{ℕ, nat_le, true, List, [], ◌∷◌, ◌++◌, length, map, slice_get, Option, None, Result, Ok, Err}
 use Rattle.std.specs.Prelude.{if◌then◌else◌}

@@ -1,5 +1,6 @@
--- The faults of a key sheet. For each key of each entry, in the order of testing, they have the fault with which the
--- desk refuses the key's value. The desk stops at a sheet's first fault; here, the later entries are judged, too.
+-- The faults of a key sheet. The entries come in order, and the keys of each entry in the order of testing. If the desk
+-- refuses the value of a key, the key has this fault. The desk stops at a sheet's first fault; here, the later entries
+-- are judged, too.
 -- Test: tests/cases/curator-look.toml
 use Rattle.std.specs.Prelude.{◌≡◌, ◌⊎◌, ℕ, ◌+◌, ◌≤◌, ◌==◌, Bool, false, not, List, [], ◌∷◌, ◌++◌, length, take}
 use Rattle.std.specs.Prelude.{Option, Some, None, Result, Ok, true, if◌then◌else◌}
