@@ -18,7 +18,8 @@ IsKeyLetterAnswer number copies = do
   _ ← Demands (HaveOneLetter copies) (CopiesDiffer number)
   Finds (λ letter. Contains copies (Some letter)) (KeyLetterLost number)
 
--- The answer for key letters of which each list has one copy. The first key letter has the number `number`.
+-- The answer for key letters. Each list has one copy of each of these letters. The first key letter has the number
+-- `number`.
 abbrev pub AreKeyLettersAnswer : ℕ → List (Option ℕ) → List (Option ℕ) → AnswerRule PartDamage (List ℕ)
 AreKeyLettersAnswer number (one ∷ start) (other ∷ end) = do
   letter ← IsKeyLetterAnswer number (one ∷ other ∷ [])

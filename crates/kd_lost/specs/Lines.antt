@@ -3,7 +3,7 @@ use Rattle.std.specs.Prelude.{ℕ, ◌+◌, ◌-◌, ◌==◌, List, length, tak
 use Rattle.std.specs.List.{count_by}
 use Rattle.kd_lost.specs.Tidy.{tidied}
 
--- how many lines end in `bytes`
+-- how many line ends are in `bytes`
 abbrev pub line_breaks : List ℕ → ℕ
 line_breaks bytes = count_by (λ byte. byte == 10) bytes
 

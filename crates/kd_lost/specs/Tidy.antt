@@ -15,7 +15,7 @@ use Rattle.kd_lost.specs.DamagedPart.{first_line}
 abbrev pub without_mark : List ℕ → List ℕ
 without_mark form = if bytes_eq (take 3 form) (239 ∷ 187 ∷ 191 ∷ []) then drop 3 form else form
 
--- whether a damaged heading may stand here: at a slash, or before a line that begins like `PART`
+-- Whether `byte` may belong to a damaged heading. It is a slash, or an LF before a line that begins like `PART`.
 abbrev pub was_heading : ℕ → List ℕ → Bool
 was_heading byte bytes = byte == 47 || byte == 10 && is_part_line bytes
 

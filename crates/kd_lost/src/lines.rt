@@ -16,7 +16,7 @@ pub(crate) fn heading_line(form: &[u8]) -> usize
     line_breaks(before) + 1
 }
 
-/// How many lines end in `bytes`.
+/// How many line ends are in `bytes`.
 pub(crate) fn line_breaks(bytes: &[u8]) -> usize
     ensures breaks { result ≡ line_breaks bytes.now }
     ensures few { result ≤ length bytes.now }

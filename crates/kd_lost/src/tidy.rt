@@ -60,7 +60,7 @@ fn later_heading(bytes: &[u8]) -> Option<&[u8]>
     None
 }
 
-/// Whether a damaged heading may stand here: at a slash, or before a line that begins like `PART`.
+/// Whether `byte` may belong to a damaged heading. It is a slash, or an LF before a line that begins like `PART`.
 fn was_heading(byte: u8, rest: &[u8]) -> bool
     ensures { result ≡ was_heading byte rest.now }
 {
