@@ -104,7 +104,7 @@ came_text l times = if nat_lt 1 times then came_words l times else []
 
 -- ---- What to ask the other station for.
 
--- the checkbox to ask for `words` of this part again
+-- the checkbox to ask for a repetition of this part; `words` say what to repeat
 unfoldable pub ask_text : Language → ℕ → List ℕ → List ℕ
 ask_text l part words = filled (text_in l texts.ASK) (decimal part ∷ []) ++ words ++ texts.ASK_END.now
 
@@ -283,7 +283,7 @@ reason_text l part (damages.KeyLetterLost number) =
 reason_text l part damages.KeyNotOnWheel = text_in l texts.KEY_NOT_ON_WHEEL
 reason_text l part damages.NoInternalKey = text_in l texts.NO_INTERNAL_KEY
 
--- what to ask for if a part isn't read
+-- the words for what to ask for if a part isn't read
 abbrev pub asked_words : Language → DamagedPart → PartDamage → List ℕ
 asked_words l part damages.HeadingDamaged =
     if part.came == 0 then text_in l texts.ALL_OF_IT else text_in l texts.ITS_HEADING
@@ -295,7 +295,8 @@ asked_words l part (damages.KeyLetterLost number) = key_letter_groups l part.cam
 asked_words l part damages.KeyNotOnWheel = indicator_groups l part.came
 asked_words l part damages.NoInternalKey = indicator_groups l part.came
 
--- The paragraph about a part that isn't read, for the reason `reason`. It has the checkbox to ask for `words` again.
+-- The paragraph about a part that isn't read, for the reason `reason`. It has the checkbox to ask for a repetition;
+-- `words` say what to repeat.
 unfoldable pub unread_text : Language → PartName → List ℕ → List ℕ → List ℕ
 unread_text l name reason words =
     text_in l texts.UNREAD ++ reason ++ texts.REASON_END.now ++ ask_text l name.part words

@@ -56,7 +56,7 @@ pub const LONE_HEAD_END: Text = (
     "<span>~, Tag ~: Klartext</span></h2>\n",
 );
 
-/// The checkbox to ask for a part without a number again.
+/// The checkbox to ask for a repetition of a part that has no number.
 pub const LONE_ASK: Text = (
     "<label><input type=checkbox> ask for this part again: <b>",
     "<label><input type=checkbox> diesen Teil wiederholen lassen: <b>",
@@ -128,7 +128,7 @@ pub const CAME_END: Text = (
     "-mal. Ein Buchstabe, der in einer Fassung fehlt, ist aus einer anderen mit gleichen Schlüsseln und gleich vielen Buchstaben genommen.</p>\n",
 );
 
-/// The checkbox to ask for words of a part again. The value is the part's number.
+/// The checkbox to ask for a repetition. The value is the part's number; the words that follow say what to repeat.
 pub const ASK: Text = (
     "<label><input type=checkbox> ask for part ~ again: <b>",
     "<label><input type=checkbox> von Teil ~ wiederholen lassen: <b>",

@@ -34,7 +34,7 @@ pub(crate) fn draw_missing<W: Sink>(sink: &mut W, language: Language, name: Part
     draw_ask(sink, language, name, language.text(ALL_OF_IT));
 }
 
-/// Writes the checkbox to ask for `words` of a part again.
+/// Writes the checkbox to ask for a repetition of a part. `words` say what to repeat.
 pub(crate) fn draw_ask<W: Sink>(sink: &mut W, language: Language, name: PartName, words: &str)
     ensures { Draws W.taken W.has_failed sink.old sink.new
         (ask_text language name.part words.now) }
