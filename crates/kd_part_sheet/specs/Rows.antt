@@ -102,7 +102,7 @@ row_text s start progress row =
     markup.ROW.now ++ flat_map group_text (pieces 5 row) ++ filled markup.ROW_BOX.now (decimal progress.letters ∷ [])
     ++ windows_after s start progress.presses (pressed_count row == 0) ++ markup.ROW_END.now
 
--- The rows after those that led to this progress. At the start of the step, the machine showed `start`.
+-- The next rows of a step that has made this progress. At the start of the step, the machine showed `start`.
 abbrev pub rows_after : Day → List ℕ → Progress → List (List Cell) → List ℕ
 rows_after s start progress [] = []
 rows_after s start progress (row ∷ rows) =

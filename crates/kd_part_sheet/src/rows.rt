@@ -29,7 +29,7 @@ pub(crate) struct Progress {
     pub(crate) presses: usize,
 }
 
-/// Writes `cells` in rows, after the rows that led to this progress. At the start of the step, the machine showed
+/// Writes `cells` as the next rows of a step that has made this progress. At the start of the step, the machine showed
 /// `start`.
 pub(crate) fn draw_rows<W: Sink>(
     sink: &mut W,
