@@ -222,7 +222,7 @@ fn no_lines(alloc: Global, findings: &[Finding]) -> Result<Vec<Option<usize>>, A
     Ok(lines)
 }
 
-/// The line of each of `findings`. It is looked for in the whole of `text`.
+/// The line of each of `findings`. Each line is looked for in the whole of `text`.
 fn seek_lines(
     alloc: Global,
     text: &[u8],
