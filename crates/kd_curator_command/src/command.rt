@@ -215,7 +215,8 @@ fn why_not(matches: &ArgMatches<'_>) -> &'static str {
     }
 }
 
-/// The error for words that clap accepts, of which one doesn't name days, a model or a language. `why` is its text.
+/// The error for words that clap accepts. One of the words doesn't name days, a model or a language. `why` is the text
+/// of the error.
 fn no_days(alloc: Global, grammar: &mut Grammar<'_>, why: &str) -> NoCommand
     ensures { IsToldAs ErrorKind.InvalidValue result }
 {
