@@ -1,4 +1,4 @@
--- Parts that came several times. If a letter is lost in one copy, it is taken from another. Copies have the same part
+-- Parts that came several times: a letter that is lost in one copy is taken from another. Copies have the same part
 -- number, the same keys, and equally many letters.
 -- Test: tests/cases/curator-messages.toml
 use Rattle.std.specs.Prelude.{ℕ, ◌+◌, ◌==◌, ◌&&◌, Bool, true, false, if◌then◌else◌, is_some, slice_index_or}

@@ -1,4 +1,4 @@
-//! Parts that came several times. If a letter is lost in one copy, it is taken from another.
+//! Parts that came several times: a letter that is lost in one copy is taken from another.
 ghost use Rattle.std.specs.Prelude.{◌≡◌, ◌++◌, MatchResult, None, Some, slice_index_or};
 ghost use Rattle.kd_lost.specs.Repetitions.{are_kept, completed_byte, completed_from, completed_with, copied_letter};
 ghost use Rattle.kd_lost.specs.Repetitions.{has_keys_of, is_kept, is_same_part, known_letter};
