@@ -1,5 +1,4 @@
--- What the sheet of a part shows. It has the windows to set, the letters to press, and the letters of the lamps that
--- have to light up.
+-- What the sheet of a part shows: windows to set, letters to press, and letters of lamps that have to light up.
 use Rattle.std.specs.Prelude.{◌≡◌, ℕ, List, ◌++◌, map}
 use Rattle.kd_state.specs.SheetDay.{Day}
 use Rattle.kd_state.specs.EngineKey.{IsWindow}

@@ -1,5 +1,5 @@
--- The rows of a step. A row has ten groups of five letters, and the number of letters so far. If letters of the row are
--- pressed, it also has the windows after them.
+-- The rows of letters in a step of a part's sheet. A row has ten groups of five letters, and the number of letters so
+-- far. If letters of the row are pressed, it also has the windows after them.
 use Rattle.std.specs.Prelude.{decimal, ℕ, ◌+◌, ◌==◌, Bool, true, false, not, if◌then◌else◌}
 use Rattle.std.specs.Prelude.{List, [], ◌∷◌, ◌++◌, flat_map, length}
 use Rattle.std.specs.Int.{div_ceil}

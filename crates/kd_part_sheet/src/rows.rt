@@ -1,5 +1,5 @@
-//! The rows of a step. A row has ten groups of five letters, and the number of letters so far. If letters of the row
-//! are pressed, it also has the windows after them.
+//! The rows of letters in a step of a part's sheet. A row has ten groups of five letters, and the number of letters so
+//! far. If letters of the row are pressed, it also has the windows after them.
 ghost use Rattle.std.specs.Prelude.{◌≡◌, ◌+◌, ◌≤◌, ◌∷◌, flat_map, length};
 ghost use Rattle.kd_state.specs.EngineKey.{IsWindow};
 ghost use Rattle.kd_state.specs.OwnKeys.{sheet_key};
