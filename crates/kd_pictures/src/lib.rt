@@ -1,4 +1,4 @@
-//! Pictures of a machine, as text for pages. For them, this crate has templates, fixed texts, wheels and plugboards.
+//! Pictures of a machine, as text for pages: templates, fixed texts, wheels and plugboards.
 #![tactic(auto)]
 
 pub mod board;
