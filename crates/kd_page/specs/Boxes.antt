@@ -1,5 +1,5 @@
--- The checkboxes. Each has the words for one setting and, except for pins, the setting's line. The box of a machine has
--- its spare wheels and reflectors.
+-- The checkboxes of a day's page. Each has the words for one setting and, except for pins, the setting's line.
+-- The box of a machine has its spare wheels and reflectors.
 use Rattle.std.specs.Prelude.{decimal, ℕ, ◌-◌, ◌==◌, Bool, if◌then◌else◌, List, [], ◌∷◌, ◌++◌, flat_map}
 use Rattle.std.specs.Prelude.{Option, Some, None}
 use Rattle.kd_tables.specs.declared.lug.Lug.{Lug}

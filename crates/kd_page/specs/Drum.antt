@@ -1,5 +1,4 @@
--- The table of a Converter's bars. It marks the lugs that stay, leave and come, and has checkboxes for the lugs to
--- move.
+-- The table of a Converter's bars, with the lugs that stay, leave and come. It has checkboxes for the lugs to move.
 use Rattle.std.specs.Prelude.{decimal, ℕ, ◌==◌, Bool, true, false, ◌&&◌, ◌||◌, if◌then◌else◌, List, [], ◌∷◌, ◌++◌}
 use Rattle.std.specs.Prelude.{flat_map}
 use Rattle.std.specs.Prelude.{Option, Some, None}

@@ -1,5 +1,5 @@
--- Where a setting has its checkbox. It is at a step of the page, in a row of the step's table, and in a cell of the
--- row.
+-- Where on a page a setting has its checkbox. It is at a step of the page, in a row of the step's table, and in a cell
+-- of the row.
 use Rattle.std.specs.Prelude.{ℕ, nat_eq, Bool, true, ◌&&◌, List, filter, length, Some, None}
 use Rattle.std.specs.Option.{option_map_or}
 use Rattle.kd_state.specs.declared.setting.Setting.{Setting}

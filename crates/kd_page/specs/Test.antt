@@ -1,5 +1,4 @@
--- The test of the real machine. It has the keys to press, the letters that the machine makes of them, and the letters
--- to set again.
+-- The test of the real machine: keys to press, the letters that the machine makes of them, and letters to set again.
 use Rattle.std.specs.Prelude.{codes, ℕ, Bool, if◌then◌else◌, List, [], ◌∷◌, ◌++◌}
 use Rattle.std.specs.Prelude.{length}
 use Rattle.std.specs.Prelude.{false, true, replicate, flat_map, Option, Some, None}

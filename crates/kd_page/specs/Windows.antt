@@ -1,4 +1,4 @@
--- The letters to set last. Each window of a rotor machine, or each pin wheel, has a checkbox.
+-- The letters to set last, in the windows or on the pin wheels. Each of these has a checkbox.
 use Rattle.std.specs.Prelude.{decimal, ℕ, List, [], ◌∷◌, ◌++◌, flat_map, Option, Some, None, option_and_then}
 use Rattle.std.specs.Option.{option_or}
 use Rattle.kd_state.specs.declared.machine.parts.Parts.{Parts}

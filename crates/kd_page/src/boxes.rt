@@ -1,4 +1,4 @@
-//! The checkboxes. Each has the words for one setting and, except for pins, the setting's line.
+//! The checkboxes of a day's page. Each has the words for one setting and, except for pins, the setting's line.
 ghost use Rattle.std.specs.Prelude.{◌≡◌, flat_map};
 ghost use Rattle.kd_state.specs.declared.setting.Setting.TheVariants.{LugTo, Seat};
 ghost use Rattle.kd_state.specs.Machine.{machine_standing};

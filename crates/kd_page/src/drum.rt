@@ -1,4 +1,4 @@
-//! The table of a Converter's bars. It marks the lugs that stay, leave and come.
+//! The table of a Converter's bars, with the lugs that stay, leave and come.
 ghost use Rattle.std.specs.Prelude.{◌≡◌, ◌++◌, flat_map};
 ghost use Rattle.kd_tables.specs.Places.{places};
 ghost use Rattle.kd_state.specs.Machine.{machine_standing};

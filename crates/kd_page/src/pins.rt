@@ -1,4 +1,4 @@
-//! The table of a Converter's pins. It shows which pins are effective after the settings, and which pins change.
+//! The table of a Converter's pins: which are effective after the settings, and which change.
 ghost use Rattle.std.specs.Prelude.{◌≡◌, ◌++◌, flat_map};
 ghost use Rattle.kd_tables.specs.Permutation.{alphabet};
 ghost use Rattle.kd_pictures.specs.Drawing.{Draws};
