@@ -1,4 +1,4 @@
--- The plans of several days, one after another. Each plan starts from the machine as the day before left it.
+-- The plans of several days: each starts from the machine as the day before left it.
 -- Code: `add_plans` plans one day after another, and stops at the first day that can't be planned.
 -- Test: tests/cases/curator-pages.toml
 use Rattle.std.specs.Prelude.{◌≡◌, ◌≢◌, ◌⊎◌, ℕ, List, [], ◌∷◌, ◌++◌, Option, Some, None}

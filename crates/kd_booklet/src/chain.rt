@@ -1,4 +1,4 @@
-//! The plans of several days, one after another. Each plan starts from the machine as the day before left it.
+//! The plans of several days: each starts from the machine as the day before left it.
 ghost use Rattle.std.specs.Prelude.{◌≡◌, ◌+◌, ◌≤◌, length, IfErr, IfOk, OnOk};
 ghost use Rattle.arrayvec.specs.ArrayVec.{array_vec_len};
 ghost use Rattle.kd_state.specs.Machine.{model_of};

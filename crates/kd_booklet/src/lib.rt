@@ -1,4 +1,4 @@
-//! A booklet: the pages of several days. They are planned one after another, and have the settings in the order of a
+//! A booklet: the pages of several days, which are planned one after another. Each has its settings in the order of a
 //! page.
 #![tactic(auto)]
 

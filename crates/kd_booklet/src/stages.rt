@@ -1,4 +1,4 @@
-//! An order of a card's settings that suits an operator. Rings come first, window letters last.
+//! An order of a card's settings that suits an operator: rings first, and window letters last.
 ghost use Rattle.std.specs.Prelude.{◌≡◌, ◌+◌, ◌≤◌, ◌++◌, filter, length, ◌==◌};
 ghost use Rattle.arrayvec.specs.ArrayVec.{array_vec_len};
 ghost use Rattle.kd_booklet.specs.HandOrder.{in_hand_order, is_at_stage, stage_of};
