@@ -1,4 +1,4 @@
-//! Tables of machines. To type a text on a table, look its letters up instead of pressing keys.
+//! Tables of machines, in which typing a text looks letters up instead of pressing keys.
 #![tactic(auto)]
 
 mod around;
