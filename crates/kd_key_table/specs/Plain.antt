@@ -1,4 +1,4 @@
--- What the tables fill into templates. Words have no markup, and each template gets as many values as it takes.
+-- What the tables fill into templates: words without markup, and as many values as each template takes.
 use Rattle.std.specs.Prelude.{ℕ, List, IsTrue}
 use Rattle.std.specs.List.{list_all}
 use Rattle.kd_tables.specs.Text.{letters_text}

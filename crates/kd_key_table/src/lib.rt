@@ -1,5 +1,4 @@
-//! Key sheets as printed tables. There is a table for each model of rotor machine, and a key list for each day of a
-//! Converter.
+//! Key sheets as printed tables: one for each model of rotor machine, and a key list for each Converter's day.
 #![tactic(auto)]
 
 mod csv_table;
