@@ -1,4 +1,4 @@
--- The columns of a table. The names in the table's first row say which values a column has.
+-- The columns of a table, and their names. The names in the table's first row say which values a column has.
 -- Test: tests/cases/curator-sheet.toml
 use Rattle.std.specs.Prelude.{codes, ℕ, ◌||◌, Bool, List, [], ◌∷◌, find, length, Option, Some, if◌then◌else◌}
 use Rattle.std.specs.List.{range_with_len}

@@ -1,4 +1,5 @@
--- How the steps of a `do` are read. They run in order. If a step gives `None`, the whole `do` gives `None`.
+-- How the steps of a `do` are read: in order, up to the first `None`. If a step gives `None`, the whole `do` gives
+-- `None`.
 -- Code: `?` returns `None`.
 use Rattle.std.specs.Prelude.{Option}
 use Rattle.std.specs.Option.{option_and_then}
