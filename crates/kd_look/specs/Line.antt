@@ -1,5 +1,5 @@
--- The line of a value. It is the first line for which the file, up to the line's end, is a document with this value. If
--- the array `day` is missing, it is the line of the file's first key.
+-- The line of a value in a file. It is the first line for which the file, up to the line's end, is a document with this
+-- value. If the array `day` is missing, it is the line of the file's first key.
 -- Code: the document is parsed up to the end of each line in turn, once for all faults.
 -- Test: tests/cases/curator-look.toml
 use Rattle.std.specs.Prelude.{ℕ, ◌+◌, ◌==◌, ◌||◌, ◌&&◌, nat_lt, Bool, true, false, List, find, length, take, count_by}

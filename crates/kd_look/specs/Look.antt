@@ -1,5 +1,4 @@
--- The text that `look_at` writes, and the answer that it gives. The text has a report on each file. The answer is the
--- first fault of all files.
+-- The text that `look_at` writes, and its answer: the first fault of all files. The text has a report on each file.
 -- Test: tests/cases/curator-look.toml
 use Rattle.std.specs.Prelude.{◌≡◌, ◌⊎◌, ℕ, ◌++◌, List, [], ◌∷◌, Bool, false, true, Result, Err, OnErr, IfOk}
 use Rattle.kd_tables.specs.Ports.{Port}
