@@ -1,4 +1,4 @@
--- The words for a file that isn't TOML. They have the line and the column at which the parser found a fault.
+-- The words for a file that isn't TOML: the line and the column at which the parser found a fault.
 -- Source: TOML 1.1, toml.io; UTF-8, RFC 3629.
 -- Test: tests/cases/curator-look.toml
 use Rattle.std.specs.Prelude.{codes, ◌≡◌, ◌≤◌, ℕ, ◌+◌, ◌++◌, ◌==◌, ◌||◌, nat_lt, Bool, List, [], ◌∷◌, count_by}
