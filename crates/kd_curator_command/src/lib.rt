@@ -1,4 +1,4 @@
-//! The command line of the curator. It has eight commands, and this crate says which of them the words mean.
+//! The command line of the curator: its eight commands, and which of them the words mean.
 #![tactic(auto)]
 
 mod command;
