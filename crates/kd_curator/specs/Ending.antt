@@ -1,4 +1,4 @@
--- How the program ends. It writes a text to standard error, and has an exit status.
+-- How the program ends: the text on standard error, and the exit status.
 -- Test: tests/cases/curator-pages.toml
 use Rattle.std.specs.Prelude.{codes, decimal, ◌≡◌, ◌⊎◌, ℕ, List, [], ◌∷◌, ◌++◌, Option, Some, None, Result, Ok, Err}
 use Rattle.std.specs.Prelude.{string_bytes}

@@ -1,4 +1,4 @@
--- The output file that the option `-o` names. It is there exactly if the whole output was written.
+-- The output file that the option `-o` names: it is there exactly if the whole output was written.
 -- Code: the command writes to a new file under another name. This file then gets its own name, or is removed.
 -- Test: tests/new-files
 use Rattle.std.specs.Prelude.{codes, ◌≡◌, ◌⊎◌, ℕ, Bool, true, false, List, [], ◌∷◌, ◌++◌, Option, Some, None, option_map}

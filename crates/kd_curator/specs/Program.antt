@@ -1,4 +1,4 @@
--- The program. It says which command the words mean, which files are read, and what is written.
+-- The program: which command the words mean, which files are read, and what is written.
 -- Code: `run_curator` parses the words; `run_command` reads the files, and carries the command out.
 -- Test: tests/cases/curator-pages.toml
 use Rattle.std.specs.Prelude.{◌≡◌, ◌⊎◌, ◌≤◌, ◌||◌, not, ℕ, Bool, true, false, List, [], ◌∷◌, length, Option, Some, None, IfSome}

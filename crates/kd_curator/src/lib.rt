@@ -1,4 +1,4 @@
-//! The commands of the curator, as calls. They write pages, lists and tables, make key sheets, and look at files.
+//! The commands of the curator, as calls: they write pages, lists and tables, make key sheets, and look at files.
 //!
 //! `run_curator` is the whole program, from its command line to its output.
 #![tactic(auto)]
