@@ -1,4 +1,4 @@
--- Why there is no new file. The kind of the system's error decides.
+-- Why there is no new file, by the kind of the system's error.
 -- Test: tests/new-files
 use Rattle.std.specs.declared.io.ErrorKind.{ErrorKind}
 use Rattle.std.specs.declared.io.ErrorKind.TheVariants.{AlreadyExists, OutOfMemory}
