@@ -1,4 +1,4 @@
-//! The program `curator`. It hands the host's command line, files and streams to `run_curator`.
+//! The program `curator`, which hands the host's command line, files and streams to `run_curator`.
 #![tactic(auto)]
 
 use kd_curator::{Language, Stop, end_program, language_of, run_curator};
