@@ -60,7 +60,7 @@ pub record BeginsWithSettingLines (bytes : List ℕ) (settings : List Setting) (
 abbrev pub BeginsWithNoSetting : List ℕ → Type 0
 BeginsWithNoSetting bytes = (x : Setting) (rest : List ℕ) → IsSettingInRange x → bytes ≢ setting_line x ++ 10 ∷ rest
 
--- `bytes` are the lines of at most 192 `settings`, and then `rest`, which doesn't begin with a setting's line and LF.
+-- `bytes` are the lines of at most 192 `settings`, and then `rest`. `rest` doesn't begin with a setting's line and LF.
 pub record BeginsWithAllSettings (bytes : List ℕ) (settings : List Setting) (rest : List ℕ) : Type 0 where
   pub lines : BeginsWithSettingLines bytes settings rest
   pub few : length settings ≤ 192

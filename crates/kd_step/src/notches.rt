@@ -1,4 +1,4 @@
-//! The notches of a wheel as a table: for each letter that it can show, whether the wheel is at a notch.
+//! The notches of a wheel as a table: for each letter in its window, whether the wheel is at a notch.
 ghost use Rattle.std.specs.Prelude.{◌≡◌};
 ghost use Rattle.kd_step.specs.Notches.{IsNotchTable};
 

@@ -1,4 +1,4 @@
--- Sources and sinks: the bytes that one `get` or one `put` moves, and the state of a source or a sink in memory.
+-- Sources and sinks: the bytes that one `get` or one `put` moves; sources and sinks in memory.
 -- Code: a source is any type whose `get` satisfies `Gets`; a sink is any type whose `put` satisfies `Puts`.
 -- Test: tests/refusals
 use Rattle.std.specs.Prelude.{◌≡◌, ◌⊎◌, ℕ, ◌<◌, ◌≤◌, Bool, true, false, List, [], ◌∷◌, length, take, Option, Result}
@@ -11,8 +11,8 @@ use Rattle.kd_tables.specs.declared.ports.writing.Device.{Device}
 abbrev pub read_limit : ℕ
 read_limit = 1048576
 
--- A `put` takes a prefix of `bytes`, and returns the prefix's length. It takes at least one byte, unless `bytes`
--- is empty. A `put` that fails takes no byte.
+-- A `put` takes a prefix of `bytes`, and returns the prefix's length. The prefix is empty only if `bytes` is empty. A
+-- `put` that fails takes no byte.
 pub record Puts (old new : Option (List ℕ)) (bytes : List ℕ) (answer : Result ℕ Failed) : Type 0 where
   pub within : IfOk answer (λ count. count ≤ length bytes)
   pub some : IfOk answer (λ count. 0 < length bytes → 0 < count)
@@ -35,7 +35,8 @@ pub record MemorySourceState : Type 0 where
   pub gets_left : Option ℕ
   pub failed : Bool
 
--- A sink in memory: the bytes taken so far, the most bytes that it can take, and whether a `put` has failed.
+-- A sink in memory. `taken`: the bytes taken so far. `limit`: the most bytes that it can take. `failed`: whether a
+-- `put` has failed.
 pub record MemorySinkState : Type 0 where
   pub taken : List ℕ
   pub limit : ℕ
@@ -45,15 +46,15 @@ pub record MemorySinkState : Type 0 where
 -- Code: a source or a sink that can fail keeps a flag, which is set when a `get` or a `put` fails.
 -- Test: tests/refusals
 
--- A port (a source or a sink) before a call and after the call. `had` (before) and `has` (after) are the bytes that a
--- source can still give, or that a sink has taken; `None` if they aren't known.
+-- A port (a source or a sink) before and after a call. `had` and `has`: the bytes before and after, `None` if they
+-- aren't known. A source has the bytes that it can still give, a sink the bytes that it has taken.
 pub record Port : Type 0 where
   pub had : Option (List ℕ)
   pub has : Option (List ℕ)
   pub had_failed : Bool
   pub has_failed : Bool
 
--- The `Port` of a source or a sink, made from its value `old` before a call and its value `new` after the call.
+-- The `Port` of a source or a sink, from its value `old` before a call and its value `new` after it.
 abbrev pub port : {P : Type 0} → (P → Option (List ℕ)) → (P → Bool) → P → P → Port
 port bytes failed old new =
     record { had = bytes old; has = bytes new; had_failed = failed old; has_failed = failed new }
