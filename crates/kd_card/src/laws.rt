@@ -27,13 +27,13 @@ pub fn loose_things_are_counted()
 
 /// Prices that fit give a lower bound for the length of each list of settings that reaches the day.
 ///
-/// The length is at least the number of loose things plus the sum of the prices.
+/// A list has at least as many settings as the loose things and the prices add up to.
 #[tactic(auto, using(crate::proofs::Months::fitting_prices_bound_lists))]
 pub fn fitting_prices_bound_lists()
     ensures { FittingPricesBoundLists }
 {}
 
-/// If a list reaches the day, and has no more unpriced settings than there are loose things, each setting is needed.
+/// If a list reaches the day with no more unpriced settings than loose things, each of its settings is needed.
 ///
 /// A setting is priced if it changes a cable or a bar, and priced settings always count as needed. An unpriced setting
 /// is needed if it lowers the number of loose things by one.
@@ -42,7 +42,7 @@ pub fn as_few_are_needed()
     ensures { AsFewAreNeeded }
 {}
 
-/// If a card with prices by number proves itself, the loose things and the prices add up to its number of settings.
+/// If a card with prices by number proves itself, it has as many settings as the loose things and the prices add up to.
 ///
 /// Prices are *by number* if each cable and each column, or each bar and each row, has its own price.
 #[tactic(auto, using(crate::proofs::Months::proving_cards_are_as_long))]
@@ -57,7 +57,7 @@ pub fn proving_cards_are_shortest()
 
 /// If prices by kind show that a list of settings is shortest, no shorter list reaches the day.
 ///
-/// They show it if they fit, and if the number of loose things plus the sum of the prices is the number of settings.
+/// They show it if they fit, and add up with the number of loose things to the number of settings.
 pub fn shown_lists_are_shortest()
     ensures { ShownListsAreShortest }
 {}
@@ -67,10 +67,9 @@ pub fn proving_prices_show()
     ensures { ProvingPricesShow }
 {}
 
-/// If a card with prices by number proves itself, no single price can be raised: the prices would no longer fit.
+/// If a card with prices by number proves itself, no price can be raised alone: the prices would no longer fit.
 ///
-/// The reason: each row and each column of the table of costs has a cell where the prices of row and column add up to
-/// the cost.
+/// For each row and each column of the table of costs has a cell in which the two prices add up to the cost.
 #[tactic(auto, using(crate::proofs::Months::proving_prices_are_tight))]
 pub fn proving_prices_are_tight()
     ensures { ProvingPricesAreTight }
@@ -78,8 +77,8 @@ pub fn proving_prices_are_tight()
 
 /// On a rotor machine, cards that prove themselves have the fewest settings in total over several days.
 ///
-/// Each card begins with the machine that the card before it reaches. No other lists that reach the same days in turn,
-/// from the same first machine, have fewer settings in total.
+/// Each card begins with the machine that the card before it reaches. No other lists that reach the days in turn from
+/// the same first machine have fewer settings in total.
 #[tactic(auto, using(crate::proofs::Months::cards_are_fewest_in_all))]
 pub fn cards_are_fewest_in_all()
     ensures { CardsAreFewestInAll }

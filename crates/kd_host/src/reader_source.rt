@@ -34,7 +34,7 @@ impl<R: Read + Drop> ReaderSource<R> {
         self.fault
     }
 
-    /// Records `answer`, which the reader gave to a read, and returns how many bytes the reader gave.
+    /// Records `answer`, the reader's answer to a read, and returns how many bytes the reader gave.
     fn note(&mut self, answer: io::Result<usize>) -> Result<usize, Failed>
         ensures count { IfOk result (λ count. answer ≡ Ok count) }
         ensures refused { IsErr result ↔ IsErr answer }

@@ -1,5 +1,5 @@
-//! Checks whether a card proves itself. Converts cards with a price for each cable, pair, bar or row to cards with a
-//! price for each kind.
+//! Checks whether a card proves itself. Converts cards with prices by number (for each cable, pair, bar or row) to
+//! cards with prices by kind.
 #![tactic(auto)]
 
 mod carried;

@@ -75,7 +75,7 @@ fn push_pin_turns(settings: &mut Settings, number: u8, letters: &[Letter], windo
     }
 }
 
-/// Appends the setting PIN for each pin on one wheel that differs from the day's, in the order of the wheel's letters.
+/// Appends the setting PIN for each pin of one wheel that differs from the day's, in the wheel's order.
 fn push_wheel_pins(
     settings: &mut Settings,
     wheel: u8,

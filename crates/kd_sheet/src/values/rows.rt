@@ -1,5 +1,4 @@
-//! Reads the rows of a day, from the key `rows`: the readings (wheel numbers, 0 for no wheel) that the 27 bars must
-//! have.
+//! Reads the rows of a day, from the key `rows`: the readings that the 27 bars must have.
 ghost use Rattle.std.specs.Prelude.{◌≡◌, ◌+◌, ◌&&◌, nat_le, is_some, IfSome};
 ghost use Rattle.toml.specs.View.{view, table_view};
 ghost use Rattle.kd_sheet.specs.{Bars.{or_bad_row, reading_of_text, rows_in}, Document.{from_text}};
