@@ -50,7 +50,7 @@ plaintext_byte (Some for_space) letter = if letter == for_space then 32 else let
 abbrev pub plaintext_bytes : Day → List ℕ → List ℕ
 plaintext_bytes s letters = map (plaintext_byte (space_letter s)) letters
 
--- the text of a form: its letters as bytes, then LF
+-- the text of a form: the bytes of its letters, then LF
 abbrev pub plaintext_with_end : Day → List ℕ → List ℕ
 plaintext_with_end s letters = plaintext_bytes s letters ++ 10 ∷ []
 
@@ -64,13 +64,13 @@ IsFormReadTo s Holds form text =
 -- Test: tests/cases/desk-messages.toml, tests/refusals
 
 -- The answer for a form whose parts before `p` are read. It is the fault of the next part. If no part is left, it is
--- success, or `PartOrder` if the headings say another number of parts.
+-- success; or `PartOrder` if the headings say another number of parts.
 abbrev pub IsAnswerAt : Day → Result (Unit {0}) FormFault → PartsProperty
 IsAnswerAt s answer p [] = (count : ℕ) × (p.expected ≡ Some count) × Demands (p.number ≡ count + 1) PartOrder answer
 IsAnswerAt s answer p (part ∷ parts) = (fault : FormFault) × IsPartAnswer s p part (Err fault) × (answer ≡ Err fault)
 
 -- `answer` is the answer for a whole form. `text` is the text of the parts before the form's first fault, or of all
--- parts without a fault.
+-- parts if there is no fault.
 abbrev pub IsAnswerAfter : Day → List ℕ → List ℕ → Result (Unit {0}) FormFault → Type 0
 IsAnswerAfter s form text answer = IsFormReadTo s (IsAnswerAt s answer) form text
 
@@ -109,7 +109,7 @@ pub data IsRefusedForGood (s : Day) (form text : List ℕ) (fault : FormFault) :
 abbrev pub IsLastPart : PartsProperty
 IsLastPart p parts = (part : List ℕ) × (parts ≡ part ∷ [])
 
--- `text` is written so far: the text of the parts before the fault or, without a fault, of all parts but the last.
+-- `text` is written so far. It is the text of the parts before the fault; without a fault, of all parts but the last.
 abbrev pub IsTextBefore : Day → Option FormFault → List ℕ → List ℕ → Type 0
 IsTextBefore s None form text = IsFormReadTo s IsLastPart form text
 IsTextBefore s (Some fault) form text = IsAnswerAfter s form text (Err fault)
@@ -125,7 +125,7 @@ form_message s = record {
 
 -- ---- The text that an order's form has to give back.
 
--- The letters that are enciphered for a text: the text's letters; on the Converter M-209 with X appended until the last
+-- The letters that are enciphered for a text: the text's letters. On the Converter M-209, X is appended until the last
 -- group of five is full.
 abbrev pub sent_letters : Day → List ℕ → List ℕ
 sent_letters (Rotor s) letters = letters

@@ -38,8 +38,8 @@ IsFeedAnswer m old new byte made answer =
     → MatchResult answer (λ _. HasReadSoFar m new (bytes ++ byte ∷ []) (text ++ made))
     (HasFaultForGood m (bytes ++ byte ∷ []) text)
 
--- At the end of the message, the reader outputs `made`: the rest of the result or, if there is a fault, the rest of the
--- text that is written before the fault.
+-- At the end of the message, the reader outputs `made`: the rest of the result; or, with a fault, the rest of the text
+-- before the fault.
 abbrev pub IsEndAnswer : Message → (List ℕ → List ℕ → Type 0) → List ℕ → Result (Unit {0}) FormFault → Type 0
 IsEndAnswer m old made answer = (bytes text : List ℕ) → HasReadSoFar m old bytes text
     → IsMessageAnswer m bytes (text ++ made) answer
@@ -85,7 +85,8 @@ IsFeedAllAnswer m old new more sink answer =
 
 -- ---- the end
 
--- All text due at the message's end was written; or the sink failed, and only a proper prefix of it was written.
+-- At the end of the message, all text that was due was written. Or the sink failed, and only a proper prefix was
+-- written.
 abbrev pub HasBeenEnded : Message → List ℕ → List ℕ → Result (Unit {0}) Interruption → Type 0
 HasBeenEnded m bytes text (Ok _) = IsMessageAnswer m bytes text (Ok tt)
 HasBeenEnded m bytes text (Err (Refused fault)) = IsMessageAnswer m bytes text (Err fault)
@@ -139,7 +140,7 @@ HasBeenRead m new source sink bytes more text (Ok count) =
     × KeepsFailureFlag sink
 HasBeenRead m new source sink bytes more text (Err stop) = IsReadStopped m new source sink (bytes ++ more) text stop
 
--- At most `room` bytes were taken from the source and fed to the reader, and its output was written to the sink.
+-- At most `room` bytes were taken from the source and fed to the reader. Its output was written to the sink.
 pub record IsChunkRead (m : Message) (new : List ℕ → List ℕ → Type 0) (bytes text : List ℕ) (room : ℕ)
     (source sink : Port)
     (answer : Result ℕ Interruption) : Type 0 where

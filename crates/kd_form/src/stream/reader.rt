@@ -16,7 +16,8 @@ use kd_tables::Sink;
 /// The largest number of bytes that are read at once.
 pub(crate) const CHUNK: usize = 4096;
 
-/// A reader of one kind of message, which takes many bytes at once. It works with a day or a machine, its `Context`.
+/// A reader of one kind of message, which takes many bytes at once. The reader works with a day or a machine, its
+/// `Context`.
 pub(crate) trait ChunkReader<Context> {
     /// The kind of message.
     ghost message: { Context → Message };
@@ -53,7 +54,7 @@ pub(crate) trait ChunkReader<Context> {
 /// The output of a reader after one byte: usually nothing, and at most one part.
 pub(crate) type Output = ArrayVec<u8, LONGEST_PART>;
 
-/// A reader of one kind of message, which takes one byte at a time, and keeps one part at a time.
+/// A reader of one kind of message. It takes one byte at a time, and keeps one part at a time.
 pub(crate) trait MessageReader {
     /// The kind of message.
     ghost message: { Day → Message };
