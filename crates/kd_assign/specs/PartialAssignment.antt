@@ -16,7 +16,7 @@ IsColumnFree holders j = slice_index_or holders j None ≡ None
 abbrev pub IsRowAssigned : List (Option ℕ) → ℕ → Type 0
 IsRowAssigned holders i = (j : ℕ) × IsColumnTakenBy holders j i
 
--- Column `j` is the cheapest for row `i`: of all columns, it has the least cost in row `i` minus its price.
+-- Column `j` is the cheapest for row `i`: its cost in row `i` minus its price is the least.
 abbrev pub IsCheapestColumn : ℕ → List (List ℕ) → List ℤ → ℕ → ℕ → Type 0
 IsCheapestColumn n cost prices i j =
     (k : ℕ) → k < n → (pos (cost_at cost i j) +ℤ price_at prices k) ≤ℤ (pos (cost_at cost i k) +ℤ price_at prices j)

@@ -54,7 +54,7 @@ IsValueAnswer signed prefix due line bytes = do
   _ ← Demands (found.0 ≡ due) CountWrong
   Yields found.1
 
--- The result of reading a price line: its words (the first, and the others) and the bytes after it, or a fault.
+-- The result of reading a price line: first word, other words and the bytes after the line, or a fault.
 abbrev pub IsLineAnswer : ℕ → List ℕ → AnswerRule CardFault (List ℕ × List (List ℕ) × List ℕ)
 IsLineAnswer line bytes = do
   _ ← Demands (bytes ≢ []) PriceMissing
@@ -71,8 +71,8 @@ pub record BeginsWithHead (bytes : List ℕ) (version : Version) (day : ℕ) (re
 abbrev pub IsHeadAnswer : List ℕ → AnswerRule CardFault (Version × ℕ × List ℕ)
 IsHeadAnswer bytes = Finds (λ (head : Version × ℕ × List ℕ). BeginsWithHead bytes head.0 head.1 head.2) BadHead
 
--- The result of reading a card's settings: the settings up to the first line that isn't one, and the bytes after them.
--- If the first 193 lines are settings, the fault is `TooMany`.
+-- The result of reading a card's settings: the settings, and the bytes after them. They end before the first line that
+-- isn't a setting. If the first 193 lines are settings, the fault is `TooMany`.
 abbrev pub IsSettingsAnswer : List ℕ → AnswerRule CardFault (List Setting × List ℕ)
 IsSettingsAnswer bytes (Ok list) = BeginsWithAllSettings bytes list.0 list.1
 IsSettingsAnswer bytes (Err fault) =
@@ -81,14 +81,14 @@ IsSettingsAnswer bytes (Err fault) =
 
 -- ---- prices by number: two lines
 
--- the first word of a card's first price line: in version 1 `CABLES` or `BARS`, in version 2 `CABLE` or `BAR`
+-- the first word of the first price line: `CABLES` or `BARS` in version 1, `CABLE` or `BAR` in version 2
 abbrev pub first_text : Version → CostTable → List ℕ
 first_text ByNumber Cables = codes "CABLES"
 first_text ByNumber Bars = codes "BARS"
 first_text ByKind Cables = cable_format.word
 first_text ByKind Bars = bar_format.word
 
--- The result of reading the first word of the first price line: the table of costs that it names, or a fault.
+-- The result of reading the first price line's first word: the table of costs that it names, or a fault.
 abbrev pub IsTableAnswer : Version → ℕ → List ℕ → AnswerRule CardFault CostTable
 IsTableAnswer version line bytes = do
   found ← IsLineAnswer line bytes
@@ -102,7 +102,7 @@ IsPricesAnswer number line words = do
   _ ← Demands (length prices ≡ number) PriceMissing
   Yields prices
 
--- The result of reading a line of `word` and `number` prices: the prices and the bytes after the line, or a fault.
+-- The result of reading a line of `word` and `number` prices: the prices and the following bytes, or a fault.
 abbrev pub IsPriceLineAnswer : List ℕ → ℕ → ℕ → List ℕ → AnswerRule CardFault (List ℤ × List ℕ)
 IsPriceLineAnswer word number line bytes = do
   found ← IsLineAnswer line bytes
@@ -110,8 +110,9 @@ IsPriceLineAnswer word number line bytes = do
   prices ← IsPricesAnswer number line found.1
   Yields (prices, found.2)
 
--- The result of reading two price lines, each with a first word and then `number` prices: both lists of prices, and the
--- bytes after the lines; or a fault. The first list is for the rows of the table of costs, the second for its columns.
+-- The result of reading two price lines: both lists of prices and the following bytes, or a fault. Each line has a
+-- first word and then `number` prices. The first line is for the rows of the table of costs, the second for its
+-- columns.
 abbrev pub IsListsAnswer : List ℕ → List ℕ → ℕ → ℕ → List ℕ → AnswerRule CardFault (List ℤ × List ℤ × List ℕ)
 IsListsAnswer row_word column_word number line bytes = do
   rows ← IsPriceLineAnswer row_word number line bytes
@@ -158,8 +159,8 @@ pub record BeginsWithKinds {K X : Type 0} (format : KindFormat K X) (last : Opti
   pub none_more : HasNoNext format (last_of last kinds) rest
 
 -- The result of reading a group of kinds: the kinds and the bytes after them, or a fault. The fault is `BadLine` if a
--- line has no LF, or has the group's word but isn't the line of a valid next kind. The fault is `PriceMissing` if the
--- kinds' counts don't add up to `number`.
+-- line has no LF, or has the group's word but no valid next kind. The fault is `PriceMissing` if the kinds' counts
+-- don't add up to `number`.
 -- Code: the reader keeps at most `number` kinds, and stops adding counts at `number + 1`.
 abbrev pub IsGroupAnswer : {K X : Type 0} → KindFormat K X → ℕ → ℕ → List ℕ → AnswerRule CardFault (List K × List ℕ)
 IsGroupAnswer {K} format number line bytes = do
@@ -194,7 +195,7 @@ IsTablePricesAnswer ByKind Bars line bytes = do
   groups ← IsGroupsAnswer bar_format row_format 27 line bytes
   Yields (BarKinds (record { items = groups.0 }) (record { items = groups.1 }), groups.2)
 
--- The result of reading a card's prices from line `line` on: the prices and the bytes after them, or a fault.
+-- The result of reading a card's prices from line `line` on: the prices and the following bytes, or a fault.
 abbrev pub IsAllPricesAnswer : Version → ℕ → List ℕ → AnswerRule CardFault (PriceParts × List ℕ)
 IsAllPricesAnswer version line bytes = do
   table ← IsTableAnswer version line bytes

@@ -17,7 +17,7 @@ abbrev pub letters_text : List ℕ → List ℕ
 letters_text [] = codes "-"
 letters_text (letter ∷ letters) = tables.letters_text (letter ∷ letters)
 
--- the words of a kind's line, such as `CABLE AB 1 -2`: first word, text of the key, count and price
+-- the words of a kind's line, such as `CABLE AB 1 -2`: first word, key's text, count and price
 abbrev pub kind_line : List ℕ → List ℕ → ℕ → ℤ → List (List ℕ)
 kind_line word key count price = word ∷ key ∷ decimal count ∷ signed_decimal price ∷ []
 
@@ -112,7 +112,7 @@ abbrev pub ComesAfter : {K X : Type 0} → KindFormat K X → Option K → K →
 ComesAfter format None next = Unit {0}
 ComesAfter format (Some last) next = KeyComesBefore format (format.kind last).key (format.kind next).key
 
--- The kind is valid: a card may have its key, its count is from 1 to 255, its price from -9999 to 9999.
+-- The kind is valid: a card may have its key. Its count is from 1 to 255, its price from -9999 to 9999.
 pub record IsKind {K X : Type 0} (format : KindFormat K X) (kind : K) : Type 0 where
   pub form : format.InForm (format.kind kind).key
   pub some : 1 ≤ (format.kind kind).count
@@ -139,7 +139,7 @@ pub record IsGroup {K X : Type 0} (format : KindFormat K X) (number : ℕ) (kind
 abbrev pub expansion : {X : Type 0} → List (KindOf X) → List (X × ℤ)
 expansion kinds = flat_map (λ kind. replicate kind.count (kind.key, kind.price)) kinds
 
--- The kinds have the keys `keys` with the prices `prices`, in some order: each key as often as its kind's count says.
+-- The kinds have `keys` with `prices`, in some order: each key as often as its kind's count says.
 -- Code: `kinds_of` sorts keys with their prices, and counts equal neighbours. For each key, `prices_of` takes its
 -- kind's price, and lowers the kind's count.
 pub record AreKindsOf {K X : Type 0} (format : KindFormat K X) (keys : List X) (prices : List ℤ) (kinds : List K)

@@ -17,8 +17,7 @@ LooseThingsAreCounted =
     (machine : Parts) (day : Day) → IsMachine machine → IsLegalDay day → model_of machine ≡ day_model day
     → length (loose_lines machine day) ≡ loose_count machine day
 
--- If prices fit, a list that reaches the day has at least as many settings as the loose things and the prices add up
--- to.
+-- If prices fit, no list that reaches the day is shorter than their sum plus the number of loose things.
 abbrev pub FittingPricesBoundLists : Type 0
 FittingPricesBoundLists =
     (machine : Parts) (day : Day) (prices : PriceParts) (settings : List Setting) → IsMachine machine → IsLegalDay day
@@ -34,7 +33,7 @@ AsFewAreNeeded =
     → LeadsToTheDay machine day settings
     → length settings ≤ loose_count machine day + priced_count settings → AreSettingsNeeded machine day settings
 
--- If a card with prices by number proves itself, it has as many settings as the loose things and the prices add up to.
+-- If a card with prices by number proves itself, its length is their sum plus the number of loose things.
 abbrev pub ProvingCardsAreAsLong : Type 0
 ProvingCardsAreAsLong =
     (machine : Parts) (day : Day) (settings : List Setting) (prices : PriceParts)
@@ -61,7 +60,7 @@ ProvingPricesShow =
     → Proves machine day settings prices → ShowShortest machine day settings prices
 
 -- If a card with prices by number proves itself, none of its prices can be raised alone. Each row and each column of
--- the table of costs has a cell in which the two prices add up to the cost.
+-- the table of costs has a cell whose prices add up to the cost.
 abbrev pub ProvingPricesAreTight : Type 0
 ProvingPricesAreTight =
     (machine : Parts) (day : Day) (settings : List Setting) (prices : PriceParts) → IsMachine machine → IsLegalDay day

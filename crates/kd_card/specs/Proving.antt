@@ -11,7 +11,7 @@ use Rattle.kd_state.specs.{Setting.Carries, Machine.model_of, OnKey.columns_in_o
 use Rattle.kd_card.specs.Shortest.{LeadsToTheDay}
 use Rattle.std.specs.Prelude.{◌≡◌, ℕ, ◌+◌, Bool, true, false, List, [], ◌∷◌, pos, IsFalse, count_by}
 
--- The prices are by number and for the machine's model: for each cable and column, or for each bar and row.
+-- The prices are by number, and suit the machine: they are for cables and columns, or for bars and rows.
 abbrev pub AreModelPrices : Parts → PriceParts → Type 0
 AreModelPrices (Rotor machine) (Cables cables columns) = Unit {0}
 AreModelPrices (Pin machine) (Bars bars rows) = Unit {0}
@@ -28,7 +28,7 @@ is_priced_setting _ = false
 abbrev pub priced_count : List Setting → ℕ
 priced_count settings = count_by is_priced_setting settings
 
--- The setting changes a cable or a bar; or the machine carries the setting out, and then has one loose thing less.
+-- The setting changes a cable or a bar. Or the machine carries the setting out, and then has one loose thing less.
 abbrev pub IsSettingNeeded : Parts → Day → Setting → Type 0
 IsSettingNeeded machine day setting = IsFalse (is_priced_setting setting)
     → (after : Parts) × Carries machine setting after × (loose_count machine day ≡ loose_count after day + 1)

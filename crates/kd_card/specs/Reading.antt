@@ -7,7 +7,7 @@ use Rattle.kd_state.specs.LineWords.{words_of}
 use Rattle.std.specs.Prelude.{codes, ◌≡◌, ◌<◌, ◌≤◌, ℕ, ℤ, unsigned_abs, List, [], Option, Some, None, Err}
 use Rattle.std.specs.Fmt.{signed_decimal}
 
--- the words of a line after its first word; the argument is the line's text after its first space, if there is one
+-- the words of a line after its first word, from the line's text after its first space (`None` without a space)
 abbrev pub words_after_first : Option (List ℕ) → List (List ℕ)
 words_after_first None = []
 words_after_first (Some text) = words_of text
@@ -32,8 +32,8 @@ pub record EndsKindsAt {K X : Type 0} (format : KindFormat K X) (last : Option K
   pub ends : EndsGroup format.word bytes
   pub none_more : HasNoNext format last bytes
 
--- A group of kinds doesn't end before `bytes`, but goes on with a bad line. A line is bad if it has no LF, isn't the
--- line of a valid kind, or has a kind that doesn't come after `last`.
+-- A group of kinds doesn't end before `bytes`, but goes on with a bad line. A bad line has no LF, isn't a valid kind's
+-- line, or has a kind that doesn't come after `last`.
 pub record IsBadKindAt {K X : Type 0} (format : KindFormat K X) (last : Option K) (bytes : List ℕ) : Type 0 where
   pub goes_on : ¬ (EndsGroup format.word bytes)
   pub none_more : HasNoNext format last bytes

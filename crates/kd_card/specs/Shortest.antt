@@ -1,4 +1,4 @@
--- When a list of settings that leads a machine to a day is shortest, and how prices by kind show this.
+-- When a list of settings from a machine to a day is shortest, and how prices by kind show this.
 use Rattle.kd_card.specs.{declared.prices.PriceParts.PriceParts, Prices.price_sum}
 use Rattle.kd_card.specs.declared.prices.PriceParts.TheVariants.{CableKinds, BarKinds}
 use Rattle.kd_state.specs.{declared.setting.Setting.Setting, declared.machine.parts.Parts.Parts}

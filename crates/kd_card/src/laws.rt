@@ -7,8 +7,7 @@ ghost use Rattle.kd_card.specs.Months.{CardsAreFewestInAll};
 
 /// Different cards have different texts, and no card's text is a proper prefix of another's.
 ///
-/// The text of a card has no fault. Bytes that aren't a card have at most one first fault, the one that `read_card`
-/// returns.
+/// The text of a card has no fault. Bytes that aren't a card have only one first fault, which `read_card` returns.
 pub fn no_two_cards_have_one_text()
     ensures card { TextsDetermineCards }
     ensures prefix { NoCardBeginsAnother }
@@ -27,7 +26,7 @@ pub fn loose_things_are_counted()
 
 /// Prices that fit give a lower bound for the length of each list of settings that reaches the day.
 ///
-/// A list has at least as many settings as the loose things and the prices add up to.
+/// This bound is the sum of the prices plus the number of loose things.
 #[tactic(auto, using(crate::proofs::Months::fitting_prices_bound_lists))]
 pub fn fitting_prices_bound_lists()
     ensures { FittingPricesBoundLists }
@@ -42,7 +41,7 @@ pub fn as_few_are_needed()
     ensures { AsFewAreNeeded }
 {}
 
-/// If a card with prices by number proves itself, it has as many settings as the loose things and the prices add up to.
+/// If a card with prices by number proves itself, its length is their sum plus the number of loose things.
 ///
 /// Prices are *by number* if each cable and each column, or each bar and each row, has its own price.
 #[tactic(auto, using(crate::proofs::Months::proving_cards_are_as_long))]
@@ -57,7 +56,7 @@ pub fn proving_cards_are_shortest()
 
 /// If prices by kind show that a list of settings is shortest, no shorter list reaches the day.
 ///
-/// They show it if they fit, and add up with the number of loose things to the number of settings.
+/// Prices show it if they fit, and if their sum plus the number of loose things is the number of settings.
 pub fn shown_lists_are_shortest()
     ensures { ShownListsAreShortest }
 {}
@@ -69,7 +68,7 @@ pub fn proving_prices_show()
 
 /// If a card with prices by number proves itself, no price can be raised alone: the prices would no longer fit.
 ///
-/// For each row and each column of the table of costs has a cell in which the two prices add up to the cost.
+/// The reason: each row and each column of the table of costs has a cell whose prices add up to the cost.
 #[tactic(auto, using(crate::proofs::Months::proving_prices_are_tight))]
 pub fn proving_prices_are_tight()
     ensures { ProvingPricesAreTight }

@@ -1,5 +1,4 @@
--- If a machine uses only its first `number` cables, and each day of a month has at most `number` pairs, these cables
--- suffice.
+-- If a machine uses only its first `number` cables, they suffice for a month of days with at most `number` pairs.
 use Rattle.std.specs.Prelude.{◌≡◌, ℕ, List, Option, Some, Ok, All}
 use Rattle.kd_state.specs.declared.machine.parts.Parts.{Parts}
 use Rattle.kd_state.specs.declared.setting.Setting.{Setting}
@@ -32,7 +31,7 @@ pub record UsesFirstCablesOnly (number : ℕ) (papers : CardAndFile) : Type 0 wh
   pub file : FileUsesNoneAbove number papers.file
 
 -- The first machine file uses only the first `number` cables, and each day has at most `number` pairs. Then the month
--- uses only these cables. So a machine that uses only cables 1 to 10 needs no other cable for at most ten pairs a day.
+-- uses only these cables. So if only cables 1 to 10 are in use, they suffice for ten pairs a day.
 abbrev pub FewCablesServeAMonth : Type 0
 FewCablesServeAMonth =
     (number : ℕ) (file sheet days : List ℕ) (papers : List CardAndFile) → AreWrittenInTurn file sheet days papers

@@ -40,7 +40,7 @@ pub record IsTaskDone (left : KnownFile) (machine sheet : List ℕ) (number : �
 
 -- ---- Writing a day of a month. No public contract cites these definitions.
 
--- From a machine file of `m`, for the day `s`, the desk can write a card, and then a machine file of `n`.
+-- For the day `s`, the desk can write a card from the machine `m`, and then a machine file of `n`.
 abbrev pub CanWriteDay : Parts → Day → Parts → Type 0
 CanWriteDay m s n = (file sheet : List ℕ) → machine_and_day file sheet (day_number s) ≡ Ok (m, s)
     → (papers : CardAndFile) × AreWritten file sheet (day_number s) papers × (machine_of papers.file ≡ Ok n)

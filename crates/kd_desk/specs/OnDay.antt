@@ -16,7 +16,7 @@ use Rattle.kd_desk.specs.CallAnswers.{LacksMemory}
 abbrev pub or_file_fault : {A : Type 0} → Result A SheetFault → Result A DeskFault
 or_file_fault read = result_map_both (λ value. value) File read
 
--- the machine of a machine file, with day `number` of a key sheet; or the first fault of these files, or `NoSuchDay`
+-- the machine of a machine file, and day `number` of a key sheet; or the first fault, such as `NoSuchDay`
 unfoldable pub machine_and_day : List ℕ → List ℕ → ℕ → Result (Parts × Day) DeskFault
 machine_and_day machine sheet number = do
   m ← or_file_fault (machine_of machine)

@@ -104,7 +104,7 @@ DoesCommand command source sink answer = DoesAction command.machine command.acti
 abbrev pub file_port : KnownFile → KnownFile → Port
 file_port left file = record { had = file.bytes; has = left.bytes; had_failed = file.failed; has_failed = left.failed }
 
--- Whether a command opened a file and a read of this file failed. `left` is what is known of the file after the call.
+-- Whether a command opened a file, and a read of the file failed. `left` is what is known of the file after the call.
 abbrev pub has_file_failed : Option KnownFile → KnownFile → Bool
 has_file_failed None left = false
 has_file_failed (Some file) left = left.failed
@@ -144,7 +144,7 @@ is_stopped_by_port _ = false
 
 -- `asked` has the file names that were asked for:
 -- - none, if the answer is `Usage`;
--- - if it is `Unread`, the names up to the first file that couldn't be read or opened, with this one;
+-- - if it is `Unread`, the names up to and including the first file that couldn't be read or opened;
 -- - otherwise all names, or none if memory ran out while the command line was read.
 abbrev pub AsksFor : List (List ℕ) → List AskedName → Result (Unit {0}) Stop → Type 0
 AsksFor names asked (Err Usage) = asked ≡ []

@@ -23,7 +23,7 @@ pub data AreSettings (bytes : List ℕ) (settings : List Setting) : Type 0 where
       → AreSettings bytes settings
   OfList : IsFalse (begins_as_card bytes) → IsListText bytes settings → AreSettings bytes settings
 
--- `fault` is the fault of `bytes`: as a card if they begin with `CARD` and a space, otherwise as a list.
+-- `fault` is the fault of `bytes` as a card if they begin with `CARD` and a space, otherwise as a list.
 pub data IsSettingsFault (bytes : List ℕ) (fault : DeskFault) : Type 0 where
   InCard : IsTrue (begins_as_card bytes) → (card : CardFault) → IsCardFault bytes card → fault ≡ faults.Card card
       → IsSettingsFault bytes fault

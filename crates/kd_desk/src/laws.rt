@@ -40,7 +40,7 @@ pub fn months_are_fewest()
     ensures { MonthsAreFewest }
 {}
 
-/// If a machine uses only its first `number` cables, and each day has at most `number` pairs, these cables suffice.
+/// If a machine uses only its first `number` cables, they suffice for a month of days with at most `number` pairs.
 ///
 /// For example, a machine uses only its first ten cables, and each day has at most ten pairs. Then the month's cards
 /// name only these cables, and only these are used.

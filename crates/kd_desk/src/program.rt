@@ -32,7 +32,7 @@ use std::convert::AsStr;
 /// Carries out the command line `words`, which begins with the program's own name.
 ///
 /// Returns the exit status: 0 for success, 2 for an invalid command line, 1 for a refusal. With status 1 or 2, one line
-/// is written to `errors` and says why; if `errors` fails, only a prefix of it. Each file is read or opened once, in
+/// on `errors` says why. If `errors` fails, only a prefix of the line is written. Each file is read or opened once, in
 /// the order of the command line. An order or a form is opened in its turn, but read only while the command is carried
 /// out. Every other file is read whole before the next file is read or opened. If a file can't be read or opened, no
 /// later file is asked for. Then nothing is read from `source`, and nothing is written to `sink`.

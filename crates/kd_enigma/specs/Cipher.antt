@@ -18,7 +18,7 @@ pub record RotorKey : Type 0 where
   pub reflector : Reflector
   pub plugs : List ℕ
 
--- The plugboard exchanges letters: it is a permutation, and if it is applied twice, it changes nothing.
+-- The plugboard exchanges letters: it is a permutation that is its own inverse.
 pub record IsPlugboard (plugs : List ℕ) : Type 0 where
   pub permutation : IsPermutation26 plugs
   pub own_inverse : IsOwnInverse plugs

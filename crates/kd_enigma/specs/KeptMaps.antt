@@ -8,7 +8,7 @@ use Rattle.kd_step.specs.Stepper.{Stepping}
 use Rattle.kd_enigma.specs.CurrentPath.{SeatedWheel, around_wheels}
 use Rattle.kd_enigma.specs.Cipher.{RotorKey, IsPlugboard, path}
 
--- all items but the last: those of the slow wheels, without the right wheel's
+-- the items of the slow wheels: all but the last item, which is the right wheel's
 abbrev pub slow_slots : {X : Type 0} → List X → List X
 slow_slots slots = take (length slots - 1) slots
 

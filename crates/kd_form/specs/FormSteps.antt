@@ -76,7 +76,7 @@ pub record HoldsPart (s : Day) (b : PartBody) (number : ℕ) (expected : Option 
   pub holds : HoldsBody s b part body
   pub due : HasDueNumbers number expected b.heading
 
--- The reader holds the part `part`, as far as it has been read: a heading line, or a heading and a body.
+-- The reader holds what it has read of the part `part`: a heading line, or a heading and a body.
 abbrev pub HoldsFormStage : Day → FormStage → ℕ → Option ℕ → List ℕ → Type 0
 HoldsFormStage s (stages.Heading line) number expected part = HoldsLine line.items part × (length part < 6 → number ≡ 1)
 HoldsFormStage s (stages.Body b) number expected part = HoldsPart s b number expected part

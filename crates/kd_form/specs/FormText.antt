@@ -69,8 +69,8 @@ abbrev pub IsAnswerAt : Day → Result (Unit {0}) FormFault → PartsProperty
 IsAnswerAt s answer p [] = (count : ℕ) × (p.expected ≡ Some count) × Demands (p.number ≡ count + 1) PartOrder answer
 IsAnswerAt s answer p (part ∷ parts) = (fault : FormFault) × IsPartAnswer s p part (Err fault) × (answer ≡ Err fault)
 
--- `answer` is the answer for a whole form. `text` is the text of the parts before the form's first fault, or of all
--- parts if there is no fault.
+-- `answer` is the answer for a whole form. `text` is the text of the parts before the first fault, or of all parts if
+-- there is none.
 abbrev pub IsAnswerAfter : Day → List ℕ → List ℕ → Result (Unit {0}) FormFault → Type 0
 IsAnswerAfter s form text answer = IsFormReadTo s (IsAnswerAt s answer) form text
 
@@ -90,8 +90,8 @@ IsReceiveFault s form fault = IsFormAnswer s form (Err fault)
 -- ---- Which faults no further bytes can change, and what is written before a fault.
 -- Test: tests/cases/desk-messages.toml, tests/refusals
 
--- The first part not yet read, which begins at `p`, has `fault` whatever bytes follow. Either another part comes after
--- it; or the part's heading line has ended, and `IsContentAnswer` gives the fault.
+-- The first unread part, which begins at `p`, has `fault` whatever bytes follow. Either another part comes after this
+-- part. Or its heading line has ended, and `IsContentAnswer` gives the fault.
 abbrev pub IsPartFaultForGood : Day → FormFault → PartsProperty
 IsPartFaultForGood s fault p [] = ⊥
 IsPartFaultForGood s fault p (part ∷ []) =
@@ -99,7 +99,7 @@ IsPartFaultForGood s fault p (part ∷ []) =
 IsPartFaultForGood s fault p (part ∷ next ∷ others) = IsPartAnswer s p part (Err fault)
 
 -- The form has `fault` whatever bytes follow, and `text` is the text of the parts before the fault. Either the form
--- can't begin with a heading line, whatever bytes follow, or one of its parts has the fault.
+-- begins with no heading line, whatever bytes follow, or one of its parts has the fault.
 pub data IsRefusedForGood (s : Day) (form text : List ℕ) (fault : FormFault) : Type 0 where
   NoHeading : ((more : List ℕ) → ¬ (BeginsHeading (form ++ more))) → text ≡ [] → fault ≡ BadHeading 1
       → IsRefusedForGood s form text fault

@@ -76,7 +76,7 @@ pub record HoldsOrderText (s : Day) (keys : List Keys) (w : PartWriter) (order s
   pub allowed : All (λ b. IsTrue (is_text_byte b)) text
   pub taken : AreLettersTaken s keys w (text_letters s text) sent
 
--- The reader holds the order, as far as it has been read: to a place in its head, or in its text.
+-- The reader holds what it has read of the order, up to a place in the head or in the text.
 abbrev pub HoldsOrderStage : Day → OrderStage → HeadReader → PartWriter → List ℕ → List ℕ → Type 0
 HoldsOrderStage s stages.Head h w order sent = IsHeadBegun s h.keys.items h.line.items order × (sent ≡ [])
     × IsFreshWriter w

@@ -76,7 +76,7 @@ pub record OrderParts : Type 0 where
   pub text : List ℕ
 
 -- The result of cutting an order into head and text. Without a complete head, the fault is `BadByte`, with the position
--- of the first byte that no head can have there.
+-- that `IsOrderHeadFault` says.
 abbrev pub IsDividedAnswer : Day → List ℕ → AnswerRule FormFault OrderParts
 IsDividedAnswer s order (Ok parts) = IsOrder s order parts.keys parts.head parts.text
 IsDividedAnswer s order (Err fault) = (position : ℕ) × IsOrderHeadFault s order position × (fault ≡ BadByte position)

@@ -1,4 +1,4 @@
-//! One pin wheel. While a letter shows, the wheel's acting pin acts on the drum.
+//! One pin wheel. The letter that it shows decides which of its pins acts on the drum: the acting pin.
 ghost use Rattle.std.specs.Prelude.{◌≡◌, ◌↔◌, ◌<◌, ◌≤◌, ◌+◌, ◌%◌, IsOk, IsTrue, OnOk, Contains};
 ghost use Rattle.kd_tables.specs.Refusals.{refusal_name};
 ghost use Rattle.kd_tables.specs.Rings.{IsRing};

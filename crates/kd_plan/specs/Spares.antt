@@ -30,7 +30,8 @@ SparesStayFree = by_model (λ settings. ⊥)
 abbrev pub is_spare_at : List (Option ℕ × Option ℕ) → ℕ → Bool
 is_spare_at cables place = is_spare (slice_index_or cables place (None, None))
 
--- whether the cable at `place` gets a pair before the spare cable at `spare`: it is in use, or its place is lower
+-- whether the cable at `place` gets a pair before the spare cable at `spare`. It does if it is in use, or if `place` is
+-- below `spare`.
 abbrev pub comes_before : List (Option ℕ × Option ℕ) → ℕ → ℕ → Bool
 comes_before cables place spare = nat_lt place spare || not (is_spare_at cables place)
 

@@ -94,7 +94,7 @@ IsByPricesAnswer machine day settings number rows columns answer =
     (prices : PriceParts) → machine_prices prices ≡ rows → day_prices prices ≡ columns → table_size prices ≡ number
     → IsByNumberAnswer machine day settings prices answer
 
--- The result of finding the prices of all rows and columns of the table of costs: two lists, or the first doubt. `make`
+-- The result of finding the prices of the table's rows and columns: two lists of prices, or the first doubt. `make`
 -- makes the prices of a card from the two lists.
 abbrev pub ArePricesFound : Parts → Day → PriceParts → (List ℤ → List ℤ → PriceParts)
     → AnswerRule Doubt (List ℤ × List ℤ)

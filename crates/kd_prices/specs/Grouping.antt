@@ -9,7 +9,7 @@ abbrev pub HaveOnePriceEach : {X : Type 0} → List (X × ℤ) → Type 0
 HaveOnePriceEach {X} pairs =
     (key : X) (price other : ℤ) → Contains pairs (key, price) → Contains pairs (key, other) → price ≡ other
 
--- The key (letters, a standing or a reading) is as a card writes it, and its price is from -9999 to 9999.
+-- A card may have the key (letters, a standing or a reading), and the price is from -9999 to 9999.
 abbrev pub IsValidKeyAndPrice : {K X : Type 0} → KindFormat K X → X × ℤ → Type 0
 IsValidKeyAndPrice format pair = format.InForm pair.0 × (unsigned_abs pair.1 ≤ 9999)
 

@@ -1,4 +1,5 @@
--- When a card with prices by number (for each cable, pair, bar or row) can become a card with prices by kind, and how.
+-- When a card with prices by number becomes a card with prices by kind, and how. By number, each cable, pair, bar or
+-- row has its own price.
 use Rattle.std.specs.Prelude.{◌≡◌}
 use Rattle.kd_state.specs.{Machine.model_of, SheetDay.{Day, day_model}, declared.machine.parts.Parts.Parts}
 use Rattle.kd_card.specs.declared.{card.Card.Card, prices.{PriceParts.PriceParts, Version.TheVariants.ByKind}}

@@ -33,7 +33,7 @@ pub fn check(machine: &Machine, day: &SheetDay, card: &Card) -> Result<(), Doubt
     first_doubt(machine, day, card)
 }
 
-/// Compares the models, finds the prices of all rows and columns of the table of costs, and checks the card by these.
+/// Compares the models, finds the prices of the table's rows and columns, and checks the card by the prices.
 fn first_doubt(machine: &Machine, day: &SheetDay, card: &Card) -> Result<(), Doubt>
     ensures answer { IsCheckedAnswer machine.now day.now card.now.settings.items card.now.prices result }
     ensures machine { IsMachine machine.now }

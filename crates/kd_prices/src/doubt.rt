@@ -20,7 +20,7 @@ pub enum Doubt {
     IllegalAt(usize, Why),
     /// After the card's settings, the machine isn't set as the day says, or shows other letters than the day's.
     NotTheSheet,
-    /// In the table of costs, the prices of this row and this column add up to more than their cell's cost.
+    /// In the table of costs, the prices of this row and this column together exceed the cost in their cell.
     ///
     /// This cell is the first whose prices are too high, row by row. Rows and columns are counted from 1. A row of the
     /// table is for a cable or a bar. A column is for a pair, for no pair, or for a row of the sheet.

@@ -1,8 +1,8 @@
-//! Finds the first cell of a table of costs where the prices of row and column exceed the cost.
+//! Finds the first cell of a table of costs where the prices of row and column together exceed the cost.
 ghost use Rattle.std.specs.Prelude.{◌≡◌, ◌↔◌, ℕ, ◌<◌, length, MatchOption, IsTrue};
 ghost use Rattle.kd_prices.specs.{Doubt.IsFirstWithout, Fitting.{FitsAtColumn, IsFirstPlaceWithout, ListsFitAt}};
 
-/// Finds the first cell, row by row, where the prices of row and column add up to more than the cost.
+/// Finds the first cell, row by row, where the prices of row and column together exceed the cost.
 ///
 /// The cell's row and column are counted from 0.
 pub(crate) fn first_too_high<const N: usize>(

@@ -7,9 +7,10 @@ use super::kind_keys::is_same_key;
 use arrayvec::ArrayVec;
 use kd_card::{Kind, KindOf};
 
-/// Finds a price for each of `keys` (of cables, columns, bars or rows): the price of the kind with this key.
+/// Finds a price for each key in `keys`: the price of the kind with this key.
 ///
-/// `None` if a key has no kind, or if `keys` doesn't have each key as often as the count of its kind says.
+/// A key is of a cable, column, bar or row. `None` if a key has no kind, or comes more or less often than its kind's
+/// count says.
 pub(crate) fn prices_of<K: Kind, const N: usize>(
     keys: &[K::Key],
     mut kinds: ArrayVec<K, N>,

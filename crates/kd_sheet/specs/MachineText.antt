@@ -32,7 +32,7 @@ array_text texts = codes "[" ++ join_by quoted_text (codes ", ") texts ++ codes 
 abbrev pub key_line : Key → List ℕ → List ℕ
 key_line key value = key_name key ++ codes " = " ++ value ++ codes "\n"
 
--- the lowest version of machine files that has `model`, in which its machines are written
+-- the version in which machines of `model` are written: the lowest version that has this model
 abbrev pub file_version : Model → ℕ
 file_version M4 = 2
 file_version _ = 1

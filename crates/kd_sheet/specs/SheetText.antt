@@ -68,7 +68,7 @@ day_lines (Pin s) = pin_day_lines s
 unfoldable pub sheet_text : List Day → List ℕ
 sheet_text days = sections_text false (map day_lines days)
 
--- Each day in the second list is legal, and no day before it, in either list, has its number.
+-- Each day in the second list is legal. Its number differs from the numbers of all days before it, in both lists.
 abbrev pub AreSheetDays : List Day → List Day → Type 0
 AreSheetDays earlier [] = ⊤
 AreSheetDays earlier (day ∷ days) =

@@ -1,4 +1,4 @@
--- How the wheels in the slots of a machine file or a day are read, item by item from the left.
+-- How the wheels in slots are read from a machine file or a day, item by item from the left.
 -- Test: tests/cases/desk-files.toml
 use Rattle.std.specs.Prelude.{nat_eq, ◌+◌, false, not, List, [], length, Option, Some, None, Result, Ok}
 use Rattle.std.specs.Prelude.{ok_or}

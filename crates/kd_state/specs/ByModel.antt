@@ -1,6 +1,5 @@
--- Definitions by cases: a rotor machine and its day, a Converter and its day, or a machine and a day of different
--- sorts. `f = by_model u r p` means `f machine day = by_model u r p machine day`. `X` is a type of values or of
--- statements.
+-- Definitions by three cases: machine and day are both of rotor machines, both of Converters, or of different sorts. `f
+-- = by_model u r p` means `f machine day = by_model u r p machine day`. `X` is a type of values or of statements.
 use Rattle.kd_state.specs.declared.machine.rotor_parts.RotorParts.{RotorParts}
 use Rattle.kd_state.specs.declared.machine.pin_parts.PinParts.{PinParts}
 use Rattle.kd_state.specs.declared.machine.parts.Parts.{Parts}

@@ -1,4 +1,4 @@
--- The number of settings that give a cable exactly the letters of a column, or a bar the reading of a row.
+-- The fewest settings that give a cable the letters of a column, or a bar the reading of a row.
 -- Code: `cable_cost` goes through the alphabet; `bar_cost` tries the one or two standings that read as the row.
 -- Test: kd_trials/src/state.rt
 use Rattle.std.specs.Prelude.{ℕ, ◌+◌, ◌-◌, nat_eq, nat_lt, min, Bool, false, not, ◌&&◌, List, [], ◌∷◌, ◌++◌, length}
@@ -48,7 +48,7 @@ standings_as row =
 abbrev pub bar_cost : Place × Place → ℕ × ℕ → ℕ
 bar_cost standing row = fold min 2 (map (lugs_moved standing) (standings_as row))
 
--- the standing that reads as the row with the fewest lugs to move; of two such standings, the first in `standings`
+-- the standing that reads as the row with the fewest lugs to move; of two, the first in `standings`
 abbrev pub nearest_standing : Place × Place → ℕ × ℕ → Option (Place × Place)
 nearest_standing bar row = find (λ other. nat_eq (lugs_moved bar other) (bar_cost bar row)) (standings_as row)
 
@@ -63,7 +63,7 @@ columns_of pairs = map Some pairs ++ replicate (13 - length pairs) None
 abbrev pub costs_by : {X Y : Type 0} → (X → Y → ℕ) → List X → List Y → List (List ℕ)
 costs_by cost rows columns = map (λ row. map (cost row) columns) rows
 
--- the cost table for a machine and a day of one model: the costs of cables with columns, or of bars with rows
+-- the cost table for machine and day of one model: cables with columns, or bars with rows
 abbrev pub cost_table : Parts → Day → List (List ℕ)
 cost_table = by_model [] (λ machine day. costs_by cable_cost machine.cables (columns_of day.pairs))
     (λ machine day. costs_by bar_cost machine.bars day.rows)
@@ -84,7 +84,7 @@ loose_count = by_model 0
 
 -- ---- How the standings for a row are found. No public contract cites these definitions.
 
--- the place on a bar where this pin wheel acts; for 0, the left of the two places without a wheel
+-- the place on a bar where this pin wheel acts; for 0, the left place without a wheel
 abbrev pub place_of_pin_wheel : ℕ → Place
 place_of_pin_wheel wheel = slice_index_or (ZeroLeft ∷ One ∷ Two ∷ Three ∷ Four ∷ Five ∷ Six ∷ []) wheel Six
 

@@ -1,4 +1,4 @@
--- When a machine is on a day's key (set as the day says), and when it also shows the day's letters.
+-- When a machine is set as a day says (on the day's key), and when it shows the day's letters.
 -- Code: `on_key` sorts the cables of machine and day, or the bars' readings and the day's rows, and then compares.
 -- Test: tests/cases/desk-cards.toml
 use Rattle.std.specs.Prelude.{◌≡◌, ℕ, ◌-◌, List, ◌++◌, length, map, replicate, All, IsPermutation, Option, Some, None}
@@ -32,7 +32,8 @@ pub record IsRotorOnKey (machine : RotorParts) (day : RotorDay) : Type 0 where
   pub reflector : machine.reflector ≡ day.reflector
   pub cables : IsPermutation machine.cables (cables_of day.pairs)
 
--- The machine is set as the day says, whatever letters it shows. Its bars have the day's readings, in any order.
+-- The machine is set as the day says, whatever letters it shows. On a Converter, the bars have the day's readings, in
+-- any order.
 abbrev pub OnKey : Parts → Day → Type 0
 OnKey = by_model ⊥ IsRotorOnKey
     (λ machine day. (machine.pins ≡ day.pins) × IsPermutation (map reading_of machine.bars) day.rows)

@@ -1,4 +1,4 @@
-//! Costs: the least number of settings that give a cable a day's pair, or a bar a day's row.
+//! Costs: the fewest settings that give a cable a day's pair, or make a bar read as a row.
 
 pub(crate) mod tables;
 

@@ -18,7 +18,7 @@ pub record Stepping : Type 0 where
 abbrev pub next_letter : ℕ → ℕ
 next_letter letter = (letter + 1) % 26
 
--- whether a wheel is at one of its notches: the right wheel if `from_right` is 0, the middle wheel if it is 1
+-- whether a wheel is at one of its notches: for 0 the right wheel, for 1 the middle wheel
 abbrev pub stands_at_notch : List Wheel → List ℕ → ℕ → Bool
 stands_at_notch wheels window from_right =
     let index = length window - (from_right + 1) in
@@ -42,7 +42,7 @@ pub record IsStep (wheels : List Wheel) (before after : List ℕ) : Type 0 where
 -- ---- Several steps: as a chain of steps, and as a function, which the ciphers need.
 -- Code: `Stepper` overwrites the letters of its window at each step.
 
--- `n` steps lead from the window `first` to the window `last`: there is a chain of `n + 1` windows from `first` to
+-- `n` steps lead from the window `first` to the window `last`. There is a chain of `n + 1` windows from `first` to
 -- `last`. One step leads from each window of the chain to the next.
 abbrev pub LeadsInSteps : List Wheel → List ℕ → ℕ → List ℕ → Type 0
 LeadsInSteps wheels first zero last = last ≡ first

@@ -11,7 +11,7 @@ use Rattle.kd_tables.specs.declared.ports.writing.Device.{Device}
 abbrev pub read_limit : ℕ
 read_limit = 1048576
 
--- A `put` takes a prefix of `bytes`, and returns the prefix's length. The prefix is empty only if `bytes` is empty. A
+-- A `put` takes a prefix of `bytes`, and returns the prefix's length. This prefix is empty only if `bytes` are empty. A
 -- `put` that fails takes no byte.
 pub record Puts (old new : Option (List ℕ)) (bytes : List ℕ) (answer : Result ℕ Failed) : Type 0 where
   pub within : IfOk answer (λ count. count ≤ length bytes)
@@ -43,7 +43,7 @@ pub record MemorySinkState : Type 0 where
   pub failed : Bool
 
 -- ---- A port before and after a call: its bytes, and whether it has failed.
--- Code: a source or a sink that can fail keeps a flag, which is set when a `get` or a `put` fails.
+-- Code: a source or a sink that can fail keeps a flag, which a failed `get` or `put` sets.
 -- Test: tests/refusals
 
 -- A port (a source or a sink) before and after a call. `had` and `has`: the bytes before and after, `None` if they
@@ -54,7 +54,7 @@ pub record Port : Type 0 where
   pub had_failed : Bool
   pub has_failed : Bool
 
--- The `Port` of a source or a sink, from its value `old` before a call and its value `new` after it.
+-- The `Port` of a source or a sink that is `old` before a call and `new` after it.
 abbrev pub port : {P : Type 0} → (P → Option (List ℕ)) → (P → Bool) → P → P → Port
 port bytes failed old new =
     record { had = bytes old; has = bytes new; had_failed = failed old; has_failed = failed new }

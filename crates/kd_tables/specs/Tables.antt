@@ -17,7 +17,7 @@ letters_of text = map (λ byte. byte - 65) text
 
 -- The name, the wiring and the notches of each wheel. The wiring: the letters that A to Z become as the current passes
 -- from right to left. The notches: while one of these letters shows, the wheel's next step also moves the wheel to its
--- left. Only Beta and Gamma don't move.
+-- left. Beta and Gamma never move.
 abbrev pub wheel_table : Wheel → List ℕ × List ℕ × List ℕ
 wheel_table I = (codes "I", codes "EKMFLGDQVZNTOWYHXUSPAIBRCJ", codes "Q")
 wheel_table II = (codes "II", codes "AJDKSIRUXBLHWTMCQGZNPYFVOE", codes "E")

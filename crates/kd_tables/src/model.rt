@@ -123,7 +123,7 @@ pub fn in_box(model: Model, wheel: Wheel) -> bool
 
 /// Whether `wheel` may be in slot `slot` of `model`. Slots are counted from 1, from left to right.
 ///
-/// On the M4, only Beta and Gamma may be in slot 1, and only the other wheels in slots 2 to 4.
+/// On the M4, slot 1 takes only Beta and Gamma, and slots 2 to 4 take only I to VIII.
 pub fn allowed(model: Model, slot: u8, wheel: Wheel) -> bool
     ensures { IsTrue result ↔ Contains (wheels_for model slot) wheel }
 {

@@ -40,7 +40,7 @@ pub enum Refusal {
     IllegalAt,
     /// After a card's lines, the machine isn't set as the day says, or shows other letters than the day's.
     NotTheSheet,
-    /// The prices of a cable and a column, or of a bar and a row, add up to more than the cost.
+    /// In a cell of the table of costs, the prices of row and column add up to more than the cost.
     PriceTooHigh,
     /// The sum of a card's prices isn't the number of the card's lines for cables or bars.
     SumDiffers,

@@ -42,7 +42,7 @@ pub(crate) trait ChunkReader<Context> {
         ensures failed { W.has_failed sink.new
             ≡ (W.has_failed sink.old || is_device_interruption result) };
 
-    /// Ends the message, and writes the rest of the output to `sink`, even if it returns a fault.
+    /// Ends the message, and writes the rest of the output to `sink`, even if the message has a fault.
     fn finish<W: Sink>(&mut self, context: &Context, sink: &mut W) -> Result<(), Interruption>
         requires { HasRoom (message context.now) (holds context.now self.old) 0 }
         ensures ended { IsFinishAnswer (message context.now) (holds context.now self.old)
@@ -75,7 +75,7 @@ pub(crate) trait MessageReader {
         ensures { IsFeedAnswer (message day.now) (holds day.now self.old) (holds day.now self.new) byte
             output.new.items result };
 
-    /// Ends the message, and puts the rest of the output into `output`, even if it returns a fault.
+    /// Ends the message, and puts the rest of the output into `output`, even if the message has a fault.
     fn end(&mut self, day: &SheetDay, output: &mut Output) -> Result<(), FormFault>
         requires room { HasRoom (message day.now) (holds day.now self.old) 0 }
         requires empty { output.old.items ≡ [] }
