@@ -87,7 +87,7 @@ row_format = record {
 }
 
 -- the order of two keys (letters, standings or readings) on a card
--- Code: `compare` of the trait `Kind` uses the orders of Rust's tuples and options, and the orders that types derive.
+-- Code: `Kind::compare` uses the orders of Rust's tuples and options, and the derived orders of types.
 abbrev pub key_cmp : {K X : Type 0} → KindFormat K X → X → X → Ordering
 key_cmp format x y = slice_cmp nat_cmp (format.order x) (format.order y)
 

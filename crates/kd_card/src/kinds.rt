@@ -35,7 +35,7 @@ pub struct PairKind {
     pub price: i16,
 }
 
-/// A kind of bars: all bars with the same standing, that is, with their lugs at the same two places.
+/// A kind of bars: all bars with the same standing (the places of the two lugs).
 #[derive(Clone, Copy, Default)]
 pub struct BarKind {
     pub standing: Standing,

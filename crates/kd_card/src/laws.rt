@@ -76,8 +76,8 @@ pub fn proving_prices_are_tight()
 
 /// On a rotor machine, cards that prove themselves have the fewest settings in total over several days.
 ///
-/// Each card begins with the machine that the card before it reaches. No other lists that reach the days in turn from
-/// the same first machine have fewer settings in total.
+/// Each card begins with the machine that the card before it reaches. No other lists that reach these days, in this
+/// order and from the same first machine, have fewer.
 #[tactic(auto, using(crate::proofs::Months::cards_are_fewest_in_all))]
 pub fn cards_are_fewest_in_all()
     ensures { CardsAreFewestInAll }

@@ -110,9 +110,9 @@ impl Prices {
 
     /// Makes prices by kind: one for each kind of cables, and one for each kind of columns.
     ///
-    /// `None` if `cables` or `pairs` aren't strictly ascending, or the counts of either don't add up to 13. Also `None`
-    /// if a kind has letters that are equal or out of order, or a letter only at the second end. Also `None` if a kind
-    /// has the count 0, or a price below -9999 or above 9999.
+    /// `None` if `cables` or `pairs` aren't strictly ascending, or the counts of one list don't add up to 13. Also
+    /// `None` if a kind has letters that are equal or out of order, or a letter only at the second end. Also `None` if
+    /// a kind has the count 0, or a price below -9999 or above 9999.
     pub fn cable_kinds(cables: &[CableKind], pairs: &[PairKind]) -> Option<Self>
         ensures { let parts =
             PriceParts.CableKinds (record { items = cables.now }) (record { items = pairs.now }) in
@@ -124,8 +124,8 @@ impl Prices {
 
     /// Makes prices by kind: one for each kind of bars, and one for each kind of the sheet's rows.
     ///
-    /// `None` if `bars` or `rows` aren't strictly ascending, or the counts of either don't add up to 27. Also `None` if
-    /// a kind has the count 0, or a price below -9999 or above 9999.
+    /// `None` if `bars` or `rows` aren't strictly ascending, or the counts of one list don't add up to 27. Also `None`
+    /// if a kind has the count 0, or a price below -9999 or above 9999.
     pub fn bar_kinds(bars: &[BarKind], rows: &[RowKind]) -> Option<Self>
         ensures { let parts =
             PriceParts.BarKinds (record { items = bars.now }) (record { items = rows.now }) in

@@ -27,7 +27,7 @@ pub record IsMadeOf (grammar : Grammar) (name : List ℕ) (words : List (Bor (Li
   pub shape : app_of grammar ≡ app_without_subcommands (borrowed_shape name words)
   pub local : (out-Command grammar).has_globals ≡ false
 
--- No command has this name and these values of its arguments.
+-- No command has this name and these values for its arguments.
 abbrev pub IsNoCommand : List ℕ × List Row → Type 0
 IsNoCommand said = (command : NamedCommand) → ¬ (IsCommandOf said command)
 

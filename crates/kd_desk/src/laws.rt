@@ -24,7 +24,7 @@ pub fn bytes_give_one_list_or_one_fault()
     ensures one_fault { SettingsHaveOneFault }
 {}
 
-/// Cards and machine files, written for days of a sheet in turn, set the machine to each of these days.
+/// Cards and machine files, written for one day of a sheet after another, set the machine to each of these days.
 ///
 /// Each card's settings lead from the machine of one file to the machine of the next file. This machine is set as the
 /// day says, shows the day's letters, and enciphers as the day asks. No fewer settings lead to the day.
@@ -34,7 +34,7 @@ pub fn months_set_the_machine()
 
 /// On a rotor machine, a month's cards have the fewest settings in all.
 ///
-/// Other lists that reach the month's days in turn from the same machine have no fewer settings.
+/// Other lists that reach these days, in this order and from the same machine, have no fewer settings.
 #[tactic(auto, using(crate::proofs::Months::months_are_fewest))]
 pub fn months_are_fewest()
     ensures { MonthsAreFewest }

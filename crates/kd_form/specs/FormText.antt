@@ -64,7 +64,7 @@ IsFormReadTo s Holds form text =
 -- Test: tests/cases/desk-messages.toml, tests/refusals
 
 -- The answer for a form whose parts before `p` are read. It is the fault of the next part. If no part is left, it is
--- success; or `PartOrder` if the headings say another number of parts.
+-- success, or `PartOrder` if the headings say another number of parts.
 abbrev pub IsAnswerAt : Day → Result (Unit {0}) FormFault → PartsProperty
 IsAnswerAt s answer p [] = (count : ℕ) × (p.expected ≡ Some count) × Demands (p.number ≡ count + 1) PartOrder answer
 IsAnswerAt s answer p (part ∷ parts) = (fault : FormFault) × IsPartAnswer s p part (Err fault) × (answer ≡ Err fault)
@@ -74,7 +74,7 @@ IsAnswerAt s answer p (part ∷ parts) = (fault : FormFault) × IsPartAnswer s p
 abbrev pub IsAnswerAfter : Day → List ℕ → List ℕ → Result (Unit {0}) FormFault → Type 0
 IsAnswerAfter s form text answer = IsFormReadTo s (IsAnswerAt s answer) form text
 
--- The answer for a whole form: the text of its parts, then LF; or its first fault.
+-- The answer for a whole form: the text of its parts and then LF, or its first fault.
 abbrev pub IsFormAnswer : Day → List ℕ → AnswerRule FormFault (List ℕ)
 IsFormAnswer s form (Ok text) = (parts : List ℕ) × IsAnswerAfter s form parts (Ok tt) × (text ≡ parts ++ 10 ∷ [])
 IsFormAnswer s form (Err fault) = (text : List ℕ) × IsAnswerAfter s form text (Err fault)

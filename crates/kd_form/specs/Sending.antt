@@ -16,7 +16,7 @@ use Rattle.kd_form.specs.Order.{IsOrder, IsOrderHeadFault}
 -- ---- The letters that an order's text gives, and how many parts they need.
 -- Test: tests/cases/desk-messages.toml
 
--- the letter that is sent for a space: Z on the Converter M-209; none on a rotor machine
+-- the letter that is sent for a space: Z on the Converter M-209, none on a rotor machine
 abbrev pub space_letter : Day → Option ℕ
 space_letter (Rotor s) = None
 space_letter (Pin s) = Some 25

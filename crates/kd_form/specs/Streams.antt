@@ -12,7 +12,7 @@ use Rattle.kd_form.specs.OnTheKey.{IsReadyOnKey, IsKeyFault}
 
 -- A kind of message, such as orders. `stands`: the first bytes of a message have a fault that no further bytes can
 -- change. `refused`: a whole message has a fault. `becomes`: a whole message has a result. `written_before`: the text
--- written before the fault is returned; without a fault, before further bytes are read.
+-- that is written before the fault is returned or, without a fault, before more bytes are read.
 pub record Message : Type 1 where
   pub stands : List ℕ → FormFault → Type 0
   pub refused : List ℕ → FormFault → Type 0

@@ -6,7 +6,7 @@ use Rattle.kd_state.specs.{SheetDay.Day, declared.setting.Setting.{Setting, TheV
 use Rattle.kd_state.specs.ByModel.{by_model}
 use Rattle.kd_state.specs.SameParts.{numbered_item}
 
--- whether the cable is spare, that is, has no letter; all other cables are in use
+-- whether the cable is spare: it has no letter. All other cables are in use.
 abbrev pub is_spare : Option ℕ × Option ℕ → Bool
 is_spare cable = is_none cable.0 && is_none cable.1
 

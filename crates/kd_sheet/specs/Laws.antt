@@ -12,7 +12,7 @@ use Rattle.kd_sheet.specs.Sheet.{day_of, month_of}
 use Rattle.kd_sheet.specs.SheetFile.{day_for, sheet_of}
 use Rattle.kd_sheet.specs.SheetText.{AreSheetDays, sheet_text}
 
--- The file written for legal parts is read as the same parts, with each cable's letters in alphabetical order.
+-- The file written for legal parts is read as the same parts, but with each cable's letters in alphabetical order.
 abbrev pub LegalPartsAreReadBack : Type 0
 LegalPartsAreReadBack = (m : Parts) → IsLegal m → machine_of (machine_text m) ≡ Ok (with_cables_in_order m)
 

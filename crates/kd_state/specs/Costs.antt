@@ -70,7 +70,8 @@ cost_table = by_model [] (λ machine day. costs_by cable_cost machine.cables (co
 
 -- ---- Loose things: all things that differ from the day, except cables and bars.
 
--- the number of loose things: slots, reflector, rings and letters of the day's wheels; or pins and shown letters
+-- the number of loose things: slots, reflector, rings and letters of the day's wheels. On a Converter: pins and shown
+-- letters.
 abbrev pub loose_count : Parts → Day → ℕ
 loose_count = by_model 0
     (λ machine day.

@@ -141,7 +141,7 @@ TurningChangesOnlyLetters =
     (machine turned : Parts) (window : List ℕ) → IsTurnedTo machine window turned
     → physical_key turned ≡ key_with_window (physical_key machine) window
 
--- A text can be enciphered in two chunks, the second with the key that the engine has after the first.
+-- A text can be enciphered in two chunks. The second chunk starts from the engine's key after the first chunk.
 abbrev pub CipherOfChunks : Type 0
 CipherOfChunks =
     (key : EngineKey) (first rest : List ℕ)

@@ -97,7 +97,7 @@ pub fn equally_set_machines_decipher()
     ensures itself { DaysEngineDeciphersItself }
 {}
 
-/// A text can be enciphered in two chunks, the second with the key that the engine has after the first.
+/// A text can be enciphered in two chunks. The second chunk starts from the engine's key after the first chunk.
 #[tactic(auto, using(crate::proofs::Keys::cipher_in_turn, crate::proofs::Keys::key_in_turn))]
 pub fn chunks_are_enciphered_in_turn()
     ensures cipher { CipherOfChunks }

@@ -1,4 +1,4 @@
--- Sources and sinks: the bytes that one `get` or one `put` moves; sources and sinks in memory.
+-- Sources and sinks, in memory and elsewhere: the bytes that one `get` or one `put` moves.
 -- Code: a source is any type whose `get` satisfies `Gets`; a sink is any type whose `put` satisfies `Puts`.
 -- Test: tests/refusals
 use Rattle.std.specs.Prelude.{◌≡◌, ◌⊎◌, ℕ, ◌<◌, ◌≤◌, Bool, true, false, List, [], ◌∷◌, length, take, Option, Result}

@@ -50,7 +50,7 @@ pub fn inverse_undoes()
     ensures shifts { InversesOfShifts }
 {}
 
-/// `place_on` finds the place of each letter on a pin wheel. At a place that it finds, the wheel has that letter.
+/// `place_on` gives the place of each letter on a pin wheel. At a place that it gives, the wheel has that letter.
 pub fn letters_and_places_undo()
     ensures places { LettersLeadToPlaces }
     ensures letters { PlacesLeadToLetters }

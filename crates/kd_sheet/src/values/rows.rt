@@ -17,7 +17,7 @@ fn digit_value(byte: u8) -> Option<u8>
     byte.checked_sub(b'0').filter(|digit| *digit <= 6)
 }
 
-/// Reads a bar's reading: two different digits from 0 to 6, in either order, with `-` between; or `0-0`.
+/// Reads a bar's reading: two different digits from 0 to 6, in either order, or 0 twice, with `-` between them.
 #[tactic(auto, unfolding(crate::specs::Bars::reading_of_text))]
 pub fn reading_of_text(text: &[u8]) -> Option<Reading>
     ensures { result ≡ reading_of_text text.now }
