@@ -122,7 +122,7 @@ impl<const N: usize> Nearest<N> {
 
     /// Of two columns, the one with less room (ceiling minus price), or `first` if the tree has `second` already.
     ///
-    /// If both have equal room, `second` wins only if it is free, because a free column ends the tree's growth. The
+    /// If both have equal room, `second` wins exactly if it is free, because a free column ends the tree's growth. The
     /// contract leaves this choice open.
     fn nearer(
         &self,

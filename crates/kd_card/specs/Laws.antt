@@ -33,7 +33,7 @@ AsFewAreNeeded =
     → LeadsToTheDay machine day settings
     → length settings ≤ loose_count machine day + priced_count settings → AreSettingsNeeded machine day settings
 
--- If a card with prices by number proves itself, its length is their sum plus the number of loose things.
+-- If a card with prices by number proves itself, its length is the prices' sum plus the number of loose things.
 abbrev pub ProvingCardsAreAsLong : Type 0
 ProvingCardsAreAsLong =
     (machine : Parts) (day : Day) (settings : List Setting) (prices : PriceParts)

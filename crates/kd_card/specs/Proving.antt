@@ -41,8 +41,8 @@ AreSettingsNeeded machine day (setting ∷ rest) = (after : Parts) × Carries ma
 
 -- ---- prices by kind mean prices by number
 
--- The first prices are by kind, and count all cables and columns, or all bars and rows. The second prices are by
--- number, and give each of these the price of its kind.
+-- The first prices are by kind, and their kinds count all cables and columns, or all bars and rows. The second prices
+-- are by number: each cable, column, bar or row has the price of its kind.
 abbrev pub AreExpanded : Parts → Day → PriceParts → PriceParts → Type 0
 AreExpanded (Rotor machine) (Rotor day) (CableKinds cable_kinds column_kinds) (Cables cables columns) =
     AreKindsOf cable_format machine.cables cables cable_kinds.items

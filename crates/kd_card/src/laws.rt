@@ -41,7 +41,7 @@ pub fn as_few_are_needed()
     ensures { AsFewAreNeeded }
 {}
 
-/// If a card with prices by number proves itself, its length is their sum plus the number of loose things.
+/// If a card with prices by number proves itself, its length is the prices' sum plus the number of loose things.
 ///
 /// Prices are *by number* if each cable and each column, or each bar and each row, has its own price.
 #[tactic(auto, using(crate::proofs::Months::proving_cards_are_as_long))]

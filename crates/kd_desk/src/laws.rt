@@ -26,8 +26,8 @@ pub fn bytes_give_one_list_or_one_fault()
 
 /// Cards and machine files, written for one day of a sheet after another, set the machine to each of these days.
 ///
-/// Each card's settings lead from the machine of one file to the machine of the next file. This machine is set as the
-/// day says, shows the day's letters, and enciphers as the day asks. No fewer settings lead to the day.
+/// Each card's settings lead from the machine of one file to the machine of the next file. The next file's machine is
+/// set as the day says, shows the day's letters, and enciphers as the day asks. No fewer settings lead to the day.
 pub fn months_set_the_machine()
     ensures { MonthsSetTheMachine }
 {}

@@ -55,7 +55,7 @@ pub fn run_desk<'n, S: AsStr, F: Files<'n>, R: Source, W: Sink, E: Sink>(
     end_program(run_words(alloc, words, files, source, sink), errors)
 }
 
-/// Carries out the command line `words` as `run_desk` does, but writes no line: returns why the program stops.
+/// Carries out the command line `words` as `run_desk` does. Returns why the program stops, instead of writing a line.
 pub fn run_words<'n, S: AsStr, F: Files<'n>, R: Source, W: Sink>(
     alloc: Global,
     words: &'n [S],

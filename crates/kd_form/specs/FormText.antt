@@ -46,7 +46,7 @@ abbrev pub plaintext_byte : Option ℕ → ℕ → ℕ
 plaintext_byte None letter = letter + 65
 plaintext_byte (Some for_space) letter = if letter == for_space then 32 else letter + 65
 
--- the bytes for letters; on the Converter M-209, a space for each Z
+-- the bytes for letters: capital letters, but on the Converter M-209 a space for each Z
 abbrev pub plaintext_bytes : Day → List ℕ → List ℕ
 plaintext_bytes s letters = map (plaintext_byte (space_letter s)) letters
 
@@ -109,7 +109,8 @@ pub data IsRefusedForGood (s : Day) (form text : List ℕ) (fault : FormFault) :
 abbrev pub IsLastPart : PartsProperty
 IsLastPart p parts = (part : List ℕ) × (parts ≡ part ∷ [])
 
--- `text` is written so far. It is the text of the parts before the fault; without a fault, of all parts but the last.
+-- `text` is written so far: the text of the parts before the fault. Without a fault, it is the text of all parts but
+-- the last.
 abbrev pub IsTextBefore : Day → Option FormFault → List ℕ → List ℕ → Type 0
 IsTextBefore s None form text = IsFormReadTo s IsLastPart form text
 IsTextBefore s (Some fault) form text = IsAnswerAfter s form text (Err fault)

@@ -38,7 +38,8 @@ pub record IsOrder (s : Day) (order : List ℕ) (keys : List Keys) (head text : 
   pub joined : order ≡ head ++ text
   pub is_head : IsOrderHead s keys head
 
--- `Incomplete`: with some more bytes, `bytes` satisfy `Is`. `Mismatch`: whatever bytes follow, they don't.
+-- `Incomplete`: with some more bytes, `bytes` satisfy `Is`. `Mismatch`: `bytes` don't satisfy `Is`, whatever bytes
+-- follow.
 abbrev pub IsPatternFault : (List ℕ → Type 0) → List ℕ → PatternFault → Type 0
 IsPatternFault Is bytes Incomplete = (more : List ℕ) × (more ≢ []) × Is (bytes ++ more)
 IsPatternFault Is bytes Mismatch = (more : List ℕ) → ¬ (Is (bytes ++ more))

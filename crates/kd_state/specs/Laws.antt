@@ -43,7 +43,7 @@ ListsHaveOneResult =
     (machine after other : Parts) (settings : List Setting) → Leads machine settings after
     → Leads machine settings other → after ≡ other
 
--- If settings lead from one machine to another, none of them is refused on the way.
+-- If settings lead from one machine to another, no setting is refused on the way.
 abbrev pub LeadsOrRefuses : Type 0
 LeadsOrRefuses =
     (machine after : Parts) (settings : List Setting) (line : ℕ) (why : Why) → Leads machine settings after
@@ -97,13 +97,13 @@ ReadsAsDayEnciphersAsDay =
 abbrev pub OnKeyIsReady : Type 0
 OnKeyIsReady = (machine : Parts) (day : Day) → IsMachine machine → IsLegalDay day → OnKey machine day → IsReady machine
 
--- A machine on the day's key enciphers as the day asks, but from the letters that it shows.
+-- A machine on the day's key enciphers as the day asks, starting from the letters that it shows.
 abbrev pub OnKeyEnciphersByDaysKey : Type 0
 OnKeyEnciphersByDaysKey =
     (machine : Parts) (day : Day) (text : List ℕ) → IsMachine machine → IsLegalDay day → OnKey machine day
     → physical_cipher machine text ≡ cipher (key_with_window (sheet_key day) (window_of machine)) text
 
--- A machine on the day's key, turned to other letters, enciphers by the day's key from these letters on.
+-- A machine on the day's key that is turned to other letters enciphers by the day's key, starting from these letters.
 abbrev pub TurnedEnciphersByDaysKey : Type 0
 TurnedEnciphersByDaysKey =
     (machine turned : Parts) (day : Day) (window text : List ℕ) → IsMachine machine → IsLegalDay day → OnKey machine day

@@ -20,7 +20,7 @@ pin_set lists =
     let at = λ (place : ℕ). slice_index_or lists place [] in
     record { w1 = at 0; w2 = at 1; w3 = at 2; w4 = at 3; w5 = at 4; w6 = at 5 }
 
--- `pins` with the pin at `letter` of wheel `wheel` made effective, or not effective
+-- `pins` after the pin at `letter` of wheel `wheel` is made effective or ineffective
 abbrev pub with_pin : PinSet → ℕ → ℕ → Bool → PinSet
 with_pin pins wheel letter effective =
     pin_set (slice_set (pins_of pins) (wheel - 1)

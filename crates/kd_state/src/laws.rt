@@ -44,7 +44,7 @@ pub fn lists_have_one_result()
     ensures { ListsHaveOneResult }
 {}
 
-/// If settings lead from one machine to another, none of them is refused on the way.
+/// If settings lead from one machine to another, no setting is refused on the way.
 pub fn settings_lead_or_are_refused()
     ensures { LeadsOrRefuses }
 {}
@@ -63,7 +63,7 @@ pub fn reads_as_day_enciphers_as_day()
     ensures cipher { ReadsAsDayEnciphersAsDay }
 {}
 
-/// A machine on the day's key is ready. It enciphers as the day asks, but from the letters that it shows.
+/// A machine on the day's key is ready. It enciphers as the day asks, starting from the letters that it shows.
 #[tactic(auto, using(crate::proofs::Keys::on_key_ready, crate::proofs::Keys::on_key_cipher))]
 pub fn on_key_enciphers_by_days_key()
     ensures ready { OnKeyIsReady }
@@ -72,8 +72,8 @@ pub fn on_key_enciphers_by_days_key()
 
 /// If a machine is turned to other letters, the rest of its key stays the same.
 ///
-/// A machine on the day's key stays on the key when it is turned. It then enciphers by the day's key, from the letters
-/// that it shows.
+/// A machine on the day's key stays on the key when it is turned. It then enciphers by the day's key, starting from the
+/// letters that it shows.
 #[tactic(auto, using(crate::proofs::Keys::turned_key, crate::proofs::Keys::turned_on_key, crate::proofs::Keys::turned_cipher))]
 pub fn turning_keeps_the_key()
     ensures key { TurningChangesOnlyLetters }

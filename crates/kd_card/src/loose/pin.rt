@@ -39,7 +39,7 @@ fn push_pins(settings: &mut Settings, present: &PinSet, wanted: &PinSet)
     push_wheel(settings, 6, ring6(), &present.w6, &wanted.w6);
 }
 
-/// Appends the setting PIN for each pin on wheel `wheel`, with the letters `ring`, that differs from the day's.
+/// Appends the setting PIN for each pin of wheel `wheel` that differs from the day's. `ring` has the wheel's letters.
 fn push_wheel<const N: usize>(
     settings: &mut Settings,
     wheel: u8,

@@ -37,7 +37,7 @@ impl PartWriter {
         }
     }
 
-    /// Takes the next byte of the text, and hands the letter that it gives, if any, to `take_letter`.
+    /// Takes the next byte of the text. If the byte gives a letter, hands this letter to `take_letter`.
     pub(crate) fn take(&mut self, day: &SheetDay, keys: &[Keys], byte: u8, output: &mut Output)
         requires taken { (letters sent : List ℕ) × AreLettersTaken day.now keys.now self.old letters sent
             × (length letters < 2 ^ 63) }
