@@ -17,7 +17,7 @@ use Rattle.kd_desk.specs.declared.fault.DeskFault.TheVariants as faults
 use Rattle.kd_tables.specs.Ports.{Port}
 use Rattle.kd_host.specs.Writing.{WritesText}
 
--- the line that calls a card with `number` settings shortest
+-- the line that says that a card with `number` settings is shortest
 abbrev pub verdict_text : ℕ → List ℕ
 verdict_text number = codes "SHORTEST " ++ decimal number ++ 10 ∷ []
 

@@ -62,7 +62,7 @@ pub fn check_card<W: Sink>(
     Ok(())
 }
 
-/// Writes the line that calls a card with `number` settings shortest.
+/// Writes the line that says that a card with `number` settings is shortest.
 fn write_verdict<W: Sink>(sink: &mut W, number: usize) -> Result<(), Device>
     ensures text { Writes (W.taken sink.old) (W.taken sink.new) (verdict_text number) result }
     ensures failed { W.has_failed sink.new ≡ (W.has_failed sink.old || is_err result) }

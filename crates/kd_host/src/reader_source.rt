@@ -27,7 +27,7 @@ impl<R: Read + Drop> ReaderSource<R> {
         }
     }
 
-    /// Why the last failed read failed; `None` if no read has failed.
+    /// The fault of the last failed read; `None` if no read has failed.
     pub fn fault(&self) -> Option<FileFault>
         ensures { result ≡ self.now.fault }
     {
