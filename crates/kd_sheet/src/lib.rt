@@ -1,4 +1,4 @@
-//! Reads machine files and key sheets. Writes machine files, and single lines of both.
+//! Reads machine files and key sheets; writes machine files, and single lines of both.
 #![tactic(auto)]
 
 pub mod by_key;
