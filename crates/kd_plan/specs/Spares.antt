@@ -15,7 +15,7 @@ abbrev pub IsSpareCable : List (Option ℕ × Option ℕ) → ℕ → Type 0
 IsSpareCable cables number = IfSome (numbered_item cables number) (λ cable. IsTrue (is_spare cable))
 
 -- Letters are put only into cables in use, and into the first spare cables. If the day has `p` pairs, and `c` cables
--- are in use, at most `p - c` spare cables get letters.
+-- are in use, at most `p - c` spare cables get letters (none if `c` is above `p`).
 abbrev pub SparesStayFree : Parts → Day → List Setting → Type 0
 SparesStayFree = by_model (λ settings. ⊥)
     (λ machine day settings. (cable letter : ℕ) → Contains settings (Put cable letter)

@@ -26,7 +26,7 @@ pub(crate) struct PartWriter {
 }
 
 impl PartWriter {
-    /// Creates a collector without letters.
+    /// Creates a writer that has collected no letters.
     pub(crate) fn new() -> Self
         ensures { IsFreshWriter result }
     {
