@@ -14,10 +14,10 @@ use kd_sheet::{Key, SheetFault};
 use std::alloc::{AllocError, Global};
 use toml::{Table, Value};
 
-/// The most bytes of a file in which the lines of faults are looked for.
+/// In a file of more bytes, no lines of faults are looked for.
 const MOST_BYTES: usize = 65_536;
 
-/// The most line ends of a file in which the lines of faults are looked for: it is parsed up to each line end.
+/// In a file with more line ends, no lines of faults are looked for: the file is parsed up to each line end.
 const MOST_LINES: usize = 2_048;
 
 /// What to look for in a document, to find the line of a fault.
