@@ -52,7 +52,6 @@ fn table_at(document: &Table, entry: Option<usize>) -> Option<&Table>
     }
 }
 
-/// Whether `document` has any key.
 fn has_any_key(document: &Table) -> bool
     ensures { result ≡ has_any_key (table_view document.now) }
 {
@@ -70,7 +69,6 @@ fn has_key(document: &Table, entry: Option<usize>, key: Key) -> bool
     }
 }
 
-/// Whether `document` has what is looked for.
 #[tactic(auto, unfolding(crate::specs::Line::has_value))]
 fn has_value(document: &Table, sought: Sought) -> bool
     ensures { result ≡ has_value sought (table_view document.now) }

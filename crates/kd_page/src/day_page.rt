@@ -81,7 +81,6 @@ fn draw_wheels<W: Sink>(sink: &mut W, page: &Page<'_>)
     }
 }
 
-/// Writes the steps of a Converter.
 fn draw_pin_steps<W: Sink>(sink: &mut W, page: &Page<'_>)
     ensures { Draws W.taken W.has_failed sink.old sink.new (pin_text page.now) }
 {

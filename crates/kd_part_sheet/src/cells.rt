@@ -222,7 +222,6 @@ pub(crate) fn draw_place<W: Sink>(sink: &mut W, line: Line, cell: &Cell)
     }
 }
 
-/// Writes a sign.
 fn draw_sign<W: Sink>(sink: &mut W, sign: Sign)
     ensures { Draws W.taken W.has_failed sink.old sink.new (sign_text sign) }
 {
@@ -233,7 +232,6 @@ fn draw_sign<W: Sink>(sink: &mut W, sign: Sign)
     }
 }
 
-/// Writes the mark of a letter.
 fn draw_mark<W: Sink>(sink: &mut W, mark: Mark)
     ensures { Draws W.taken W.has_failed sink.old sink.new (mark_text mark) }
 {

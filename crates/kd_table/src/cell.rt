@@ -226,7 +226,6 @@ pub fn windows(model: Option<Model>) -> usize
     }
 }
 
-/// Whether there are exactly `count` values.
 fn are_exactly<T>(values: &Option<Values<T>>, count: usize) -> bool
     ensures { result ≡ is_some (option_and_then (exactly count)
         (option_map (λ values. values.items) values.now)) }
@@ -271,7 +270,6 @@ pub fn is_read(model: Option<Model>, cell: Cell, text: &[u8]) -> bool
     }
 }
 
-/// Whether `text` names a reflector of `model`.
 fn names_reflector(model: Option<Model>, text: &[u8]) -> bool
     ensures { result ≡ is_some (option_and_then (λ known. reflector_named known text.now) model) }
 {
