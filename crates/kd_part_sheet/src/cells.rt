@@ -152,10 +152,8 @@ fn text_sign(for_space: &Option<Letter>, letter: Option<Letter>) -> Sign
     }
 }
 
-/// Appends the cells with which the internal key is found: `chosen` above, each letter printed for it below, and the
-/// mark of the printed letter.
-///
-/// `taken` is the last wheel that has taken a letter.
+/// Appends the cells for finding the internal key: `chosen` above, a letter printed for it below, and this letter's
+/// mark.
 pub fn push_choice<const N: usize>(
     cells: &mut ArrayVec<Cell, N>,
     taken: u8,
@@ -178,8 +176,7 @@ pub fn push_choice<const N: usize>(
     }
 }
 
-/// The mark of a printed letter: the next wheel after wheel `taken` takes the letter if it has it; otherwise the letter
-/// is struck out. After wheel 6, no letter is needed.
+/// The mark of a printed letter. `taken` is the last wheel that has taken a letter.
 fn mark_of(taken: u8, letter: Letter) -> Mark
     requires { taken ≤ 6 }
     ensures { result ≡ mark_of taken letter }
@@ -193,7 +190,7 @@ fn mark_of(taken: u8, letter: Letter) -> Mark
     }
 }
 
-/// The last wheel that has taken a letter, after a letter with this mark; `taken` is the last one before it.
+/// The last wheel that has taken a letter, after a letter with this mark; before it, wheel `taken`.
 fn taken_after(taken: u8, mark: Mark) -> u8
     ensures { result ≡ taken_after taken mark }
 {

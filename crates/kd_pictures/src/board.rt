@@ -95,7 +95,7 @@ fn is_plugged(machine: &Machine, number: u8) -> bool
     one.is_some()
 }
 
-/// Writes the plugged cables in words, with `separator` before the first and commas before the others.
+/// Writes the plugged cables in words, with `separator` before them and commas between them.
 fn draw_cables_after<W: Sink>(
     sink: &mut W,
     language: Language,

@@ -206,7 +206,7 @@ pub fn day_in(text: &[u8]) -> Option<u8>
     }
 }
 
-/// How many slots for wheels a machine of this model has; 0 if the model isn't known.
+/// How many slots a machine of this model has; 0 if the model isn't known.
 pub fn slots(model: Option<Model>) -> usize
     ensures { result ≡ slots model }
 {
