@@ -73,7 +73,7 @@ taken_after taken marks.StruckOut = taken
 taken_after taken (marks.Taken wheel) = wheel
 
 -- the cells for finding the internal key: the chosen letter above, a letter printed for it below, and this letter's
--- mark
+-- mark. `taken` is the last wheel that has taken a letter.
 abbrev pub choice_cells : ℕ → ℕ → List ℕ → List Cell
 choice_cells taken chosen [] = []
 choice_cells taken chosen (letter ∷ printed) =

@@ -154,6 +154,8 @@ fn text_sign(for_space: &Option<Letter>, letter: Option<Letter>) -> Sign
 
 /// Appends the cells for finding the internal key: `chosen` above, a letter printed for it below, and this letter's
 /// mark.
+///
+/// `taken` is the last wheel that has taken a letter.
 pub fn push_choice<const N: usize>(
     cells: &mut ArrayVec<Cell, N>,
     taken: u8,
