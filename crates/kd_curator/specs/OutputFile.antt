@@ -88,8 +88,8 @@ abbrev pub IsMeantBySome : NamedCommand → Type 0
 IsMeantBySome command = (words : List (List ℕ)) × IsCommandLineOf words command
 
 -- How a command that wrote `bytes` to a new file changes the files from `before` to `after`. The first Bool says
--- whether a write failed, the second whether the whole output was written. If it was, and there is no fault, the new
--- file is there, with the name `name`. Otherwise, the files are as before.
+-- whether a write failed, the second whether the whole output was written. With the whole output and without a fault,
+-- the new file is there, called `name`. Otherwise, the files are as before.
 abbrev pub EndsFile : Option FilesByName → Option FilesByName → List ℕ → Option (List ℕ) → Bool → Bool
     → Result (Unit {0}) NewFileFault → Type 0
 EndsFile before after name bytes failed true (Ok done) = AddsFile before after name bytes

@@ -51,7 +51,7 @@ fn common_end(one: &[u8], other: &[u8]) -> usize {
     count
 }
 
-/// Whether adding, dropping or changing one byte makes `one` equal to `other`, capital and small letters counting as
+/// Whether `one` and `other` differ in at most one byte: changed, added or missing. Capital and small letters count as
 /// equal.
 pub fn is_near(one: &[u8], other: &[u8]) -> bool {
     let common = common_start(one, other).saturating_add(common_end(one, other));

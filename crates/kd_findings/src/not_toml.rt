@@ -49,7 +49,6 @@ fn numbered_line(bytes: &[u8], line: usize) -> &[u8] {
     lines.nth(line.saturating_sub(1)).unwrap_or(bytes)
 }
 
-/// Whether `line` has a curly quote, in UTF-8.
 fn has_curly_quote(line: &[u8]) -> bool {
     line.windows(2).any(|pair| matches!(pair, [0xE2, 0x80]))
 }

@@ -1,4 +1,4 @@
--- The text that `look_at` writes, a report on each file, and its answer, the first fault of all.
+-- What `look_at` writes: a report on each file; and what it answers: the first fault of all files.
 -- Test: tests/cases/curator-look.toml
 use Rattle.std.specs.Prelude.{◌≡◌, ◌⊎◌, ℕ, ◌++◌, List, [], ◌∷◌, Bool, false, true, Result, Err, OnErr, IfOk}
 use Rattle.kd_tables.specs.Ports.{Port}

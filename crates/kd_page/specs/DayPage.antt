@@ -23,8 +23,7 @@ day_head page = filled (text_in page.language texts.DAY) (
     decimal page.day ∷ model_name (model_of page.after) ∷ decimal page.day
     ∷ count_text page.language (length page.settings) ∷ [])
 
--- what to compare on a rotor machine, with pictures of its wheels before and after the settings; with one picture if
--- there are no settings
+-- what to compare first on a rotor machine, with pictures of its wheels before and after; one picture without settings
 abbrev pub wheels_text : Page → List ℕ
 wheels_text page =
     if length page.settings == 0 then one_band page.language page.after

@@ -22,7 +22,7 @@ idle_text page title = filled (text_in page.language IDLE_STEP) (
     word_text page.language title ∷ count_text page.language 0 ∷ model_name (model_of page.after)
     ∷ decimal page.day ∷ [])
 
--- the head of a step with more checkboxes than settings; it gives the number of settings only if there are some
+-- the head of a step with more checkboxes than settings; it gives the number of settings, if any
 abbrev pub full_step_text : Page → Word → ℕ → List ℕ
 full_step_text page title count =
     if count == 0 then filled (text_in page.language PLAIN_STEP) (

@@ -56,8 +56,7 @@ again_all separator has_number m =
 abbrev pub letters_again : Parts → List ℕ
 letters_again m = if is_converter (model_of m) then again_all (codes " ") false m else again_all (codes ", ") true m
 
--- the note at the end of the page: a line to fill in the letters when the machine is put away, and the number of
--- settings
+-- the note at the end of the page: a line for the letters when the machine is put away, and the number of settings
 abbrev pub note_text : Language → Model → List Setting → List ℕ
 note_text l model settings =
     filled (if is_converter model then text_in l texts.NOTE_PIN else text_in l texts.NOTE_ROTOR)

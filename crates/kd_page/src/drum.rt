@@ -61,7 +61,7 @@ fn draw_bars<W: Sink>(sink: &mut W, page: &Page<'_>, bars: &[u8])
     }
 }
 
-/// Writes the row of a bar whose lugs are at the places `was` before the settings, and `is` after them.
+/// Writes the row of a bar with the standings `was` before, and `is` after.
 fn draw_bar<W: Sink>(
     sink: &mut W,
     page: &Page<'_>,

@@ -89,7 +89,7 @@ fn draw_pin_head<W: Sink>(sink: &mut W, language: Language, wheel: u8, count: u8
     draw_pin_lines(sink, language, wheel, count);
 }
 
-/// Writes the words with which the settings lines of a wheel's pins begin, if `count` isn't 0.
+/// Writes the beginning of the settings lines of a wheel's pins, if `count` isn't 0.
 fn draw_pin_lines<W: Sink>(sink: &mut W, language: Language, wheel: u8, count: u8)
     ensures { Draws W.taken W.has_failed sink.old sink.new (pin_lines wheel count) }
 {

@@ -65,15 +65,15 @@ mark_of taken letter =
     if taken == 6 then marks.NotNeeded
     else if is_some (place_on (ring_of (taken + 1)) letter) then marks.Taken (taken + 1) else marks.StruckOut
 
--- the last wheel that has taken a letter, after a letter with this mark; `taken` is the last one before it
+-- the last wheel that has taken a letter, after a letter with this mark; before it, wheel `taken`
 abbrev pub taken_after : ℕ → Mark → ℕ
 taken_after taken marks.NoMark = taken
 taken_after taken marks.NotNeeded = taken
 taken_after taken marks.StruckOut = taken
 taken_after taken (marks.Taken wheel) = wheel
 
--- the cells with which the internal key is found: the chosen letter above, a letter printed for it below, and the mark
--- of the printed letter. `taken` is the last wheel that has taken a letter.
+-- the cells for finding the internal key: the chosen letter above, a letter printed for it below, and this letter's
+-- mark. `taken` is the last wheel that has taken a letter.
 abbrev pub choice_cells : ℕ → ℕ → List ℕ → List Cell
 choice_cells taken chosen [] = []
 choice_cells taken chosen (letter ∷ printed) =

@@ -25,7 +25,7 @@ use Rattle.kd_part_sheet.specs.Words.{cables_text, rings_after, wheels_after}
 abbrev pub text_if : Bool → List ℕ → List ℕ
 text_if is_there text = if is_there then text else []
 
--- the values that the head of each step repeats: the model, the day, the part, and the number of parts
+-- the values in the head of each step: the model, the day, the part, and the number of parts
 abbrev pub name_values : PartName → List (List ℕ)
 name_values name = model_name name.model ∷ decimal name.day ∷ decimal name.part ∷ decimal name.parts ∷ []
 

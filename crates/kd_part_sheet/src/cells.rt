@@ -152,8 +152,8 @@ fn text_sign(for_space: &Option<Letter>, letter: Option<Letter>) -> Sign
     }
 }
 
-/// Appends the cells with which the internal key is found: `chosen` above, each letter printed for it below, and the
-/// mark of the printed letter.
+/// Appends the cells for finding the internal key: `chosen` above, a letter printed for it below, and this letter's
+/// mark.
 ///
 /// `taken` is the last wheel that has taken a letter.
 pub fn push_choice<const N: usize>(
@@ -178,8 +178,7 @@ pub fn push_choice<const N: usize>(
     }
 }
 
-/// The mark of a printed letter: the next wheel after wheel `taken` takes the letter if it has it; otherwise the letter
-/// is struck out. After wheel 6, no letter is needed.
+/// The mark of a printed letter. `taken` is the last wheel that has taken a letter.
 fn mark_of(taken: u8, letter: Letter) -> Mark
     requires { taken ≤ 6 }
     ensures { result ≡ mark_of taken letter }
@@ -193,7 +192,7 @@ fn mark_of(taken: u8, letter: Letter) -> Mark
     }
 }
 
-/// The last wheel that has taken a letter, after a letter with this mark; `taken` is the last one before it.
+/// The last wheel that has taken a letter, after a letter with this mark; before it, wheel `taken`.
 fn taken_after(taken: u8, mark: Mark) -> u8
     ensures { result ≡ taken_after taken mark }
 {
@@ -222,7 +221,6 @@ pub(crate) fn draw_place<W: Sink>(sink: &mut W, line: Line, cell: &Cell)
     }
 }
 
-/// Writes a sign.
 fn draw_sign<W: Sink>(sink: &mut W, sign: Sign)
     ensures { Draws W.taken W.has_failed sink.old sink.new (sign_text sign) }
 {
@@ -233,7 +231,6 @@ fn draw_sign<W: Sink>(sink: &mut W, sign: Sign)
     }
 }
 
-/// Writes the mark of a letter.
 fn draw_mark<W: Sink>(sink: &mut W, mark: Mark)
     ensures { Draws W.taken W.has_failed sink.old sink.new (mark_text mark) }
 {

@@ -65,7 +65,6 @@ pub(crate) fn progress_after(progress: Progress, row: &[Cell]) -> Progress
     }
 }
 
-/// How many letters of a row are pressed.
 fn pressed_count(row: &[Cell]) -> usize
     ensures value { result ≡ pressed_count row.now }
     ensures few { result ≤ length row.now }
@@ -157,8 +156,7 @@ fn draw_group<W: Sink>(sink: &mut W, group: &[Cell])
     draw(sink, GROUP_END);
 }
 
-/// Whether the group came with the form and isn't pressed. Its first letter tells, as all letters of a group are alike
-/// in this.
+/// Whether the group came with the form and isn't pressed. Its first letter tells.
 fn is_skipped(group: &[Cell]) -> bool
     ensures { result ≡ is_skipped group.now }
 {
@@ -191,7 +189,7 @@ fn has_below(group: &[Cell]) -> bool
     }
 }
 
-/// Whether the group has marks. Its first cell tells, as all cells have marks, or none.
+/// Whether the group has marks. Its first cell tells.
 fn has_marks(group: &[Cell]) -> bool
     ensures { result ≡ has_marks group.now }
 {

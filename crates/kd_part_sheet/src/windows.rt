@@ -38,7 +38,7 @@ fn windows_title(language: Language, is_converter: bool) -> &'static str
     }
 }
 
-/// Writes the words for windows from number `number` on, with `first` before the first and commas before the others.
+/// Writes the words for windows from number `number` on, with `first` before them and commas between them.
 fn draw_all_words<W: Sink>(
     sink: &mut W,
     language: Language,

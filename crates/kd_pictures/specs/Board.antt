@@ -50,7 +50,7 @@ is_plugged m number = is_some (cable_of m number).0
 abbrev pub cable_after : List ℕ → Parts → ℕ → List ℕ
 cable_after separator m number = separator ++ cable_words number (cable_of m number)
 
--- the words for all plugged cables, with `separator` before the first and commas before the others
+-- the words for all plugged cables, with `separator` before them and commas between them
 abbrev pub cables_after : List ℕ → Parts → List ℕ → List ℕ
 cables_after separator m [] = []
 cables_after separator m (number ∷ numbers) =
@@ -73,8 +73,7 @@ lane number = 139 + 9 * number
 abbrev pub bend : ℕ → ℕ → ℕ
 bend y lane = if nat_lt y lane then lane - 5 else lane + 5
 
--- three pieces of a cable's line: from a socket into the lane; along the lane to a socket; and along the lane to an
--- open end
+-- pieces of a cable's line: from a socket into the lane; from the lane to a socket; from the lane to an open end
 abbrev pub left_half : Class → ℕ → ℕ → List ℕ
 left_half class lane letter = filled texts.LEFT_HALF.now (
     class_text class ∷ decimal (line_x letter) ∷ decimal (socket_y letter) ∷ decimal (bend (socket_y letter) lane)

@@ -19,7 +19,7 @@ lower_row = letters_of (codes "PYXCVBNML")
 abbrev pub keyboard : List ℕ
 keyboard = upper_row ++ middle_row ++ lower_row
 
--- the row of a letter's socket, counted from 0 at the top; then its place in the row, counted from 0 at the left
+-- the row of a letter's socket, from 0 at the top; then its place in the row, from 0 at the left
 unfoldable pub socket_row : ℕ → ℕ
 socket_row letter = if has_letter upper_row letter then 0 else if has_letter middle_row letter then 1 else 2
 

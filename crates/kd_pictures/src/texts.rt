@@ -288,8 +288,7 @@ pub const RING: Text = (
     "<li><label><input type=checkbox> Walze <b>~</b>: Ring auf <b>~\u{a0}~</b> stellen <code>~</code></label>\n",
 );
 
-/// A checkbox to put in a spare wheel, in pieces: the slot, its name, and the wheel; the letter on which its ring has
-/// to stand; and the setting's line.
+/// A checkbox to put in a spare wheel, in pieces: the slot, its name, and the wheel; its ring; and the setting's line.
 pub const SEAT: Text = (
     "<li><label><input type=checkbox> slot ~, ~: put in wheel <b>~</b>, from the box",
     "<li><label><input type=checkbox> Platz ~, ~: Walze <b>~</b> einsetzen, aus dem Kasten",
@@ -446,8 +445,8 @@ pub const NO_CABLES: Text = ("none", "keine");
 
 pub const BOARD_END: &str = "</svg>\n<figcaption>";
 
-/// The line of a cable, in pieces: from a socket into its lane; along the lane to a socket; and along the lane to an
-/// open end.
+/// The line of a cable, in pieces: from a socket into its lane; from the lane to a socket; from the lane to an open
+/// end.
 pub const LEFT_HALF: &str = "<path~ d=\"M~ ~V~Q~ ~ ~ ~";
 
 pub const RIGHT_HALF: &str = "H~Q~ ~ ~ ~V~\"/>\n";

@@ -64,7 +64,7 @@ impl Word {
     }
 }
 
-/// The class of a cable's line: whether it has a plug to take out, a plug to put in, or neither.
+/// The class of a cable's line: whether a plug of it moves, and which way.
 #[derive(Clone, Copy)]
 pub enum Class {
     Plain,

@@ -95,7 +95,7 @@ option_name cells.Reflector = codes "--reflector"
 option_name cells.Window = codes "--window"
 option_name cell = []
 
--- the name of a cell's column as it stands in the table; if there is no such column, the name of its option
+-- the name of a cell's column in the table; without this column, the name of its option
 abbrev pub cell_name : Columns → List (List ℕ) → Cell → List ℕ
 cell_name columns head cell =
     option_map_or (λ place. shown (cell_at (Some place) head)) (column_of columns cell) (option_name cell)

@@ -39,8 +39,7 @@ fn is_no_break(byte: u8) -> bool
     byte == 160 || byte == 194
 }
 
-/// Whether `byte` is a gap between items: a blank, tab, line end, comma, hyphen, full stop, slash, semicolon, or part
-/// of a no-break space.
+/// Whether `byte` is a gap between items, such as a blank or a comma.
 pub fn is_gap(byte: u8) -> bool
     ensures { result ≡ is_gap byte }
 {

@@ -13,9 +13,9 @@ use Rattle.kd_step.specs.Stepper.{with_last_moved}
 use Rattle.kd_enigma.specs.Cipher.{RotorKey, IsPlugboard, path, product, rotors}
 
 -- The table of a rotor machine. `into` has a row for each letter in the right window: the places that the current of
--- each key reaches, in through the plugboard and the right wheel. `core` has a row for all letters in the other
--- windows: the places at which the current comes out of the core. `steps` says how many wheels move at the next key,
--- for each letter in the middle window with each in the right window.
+-- each key reaches, in through the plugboard and the right wheel. `core` has a row for each choice of letters in the
+-- other windows: the places at which the current comes out of the core. `steps` says how many wheels move at the next
+-- key, for each letter in the middle window with each in the right window.
 pub record RotorTable : Type 0 where
   pub into : List (List ℕ)
   pub core : List (List ℕ)

@@ -18,7 +18,7 @@ use Rattle.kd_typing_page.specs.PinWheels.{pin_desk}
 use Rattle.kd_typing_page.specs.Setting.{setting_text}
 use Rattle.kd_typing_page.specs.Windows.{rotor_desk}
 
--- the file up to its body: the title, the policy on which script and style sheet the page may use, and the style sheet
+-- the file up to its body: the title, the policy for scripts and style sheets, and the style sheet
 unfoldable pub page_head : Language → Model → List ℕ
 page_head l model =
     file_head l ++ filled (text_in l texts.TITLE) (model_name model ∷ []) ++ texts.POLICY.now ++ STYLE.now

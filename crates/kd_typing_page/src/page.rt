@@ -58,8 +58,7 @@ fn draw_page<W: Sink>(sink: &mut W, language: Language, machine: &Machine, rows:
     draw_script(sink);
 }
 
-/// Writes the file up to its body: the title, the policy on which script and style sheet the page may use, and the
-/// style sheet.
+/// Writes the file up to its body: the title, the policy for scripts and style sheets, and the style sheet.
 fn draw_page_head<W: Sink>(sink: &mut W, language: Language, model: Model)
     ensures { Draws W.taken W.has_failed sink.old sink.new (page_head language model) }
 {
@@ -91,7 +90,6 @@ fn draw_data<W: Sink>(sink: &mut W, language: Language, model: Model, rows: &Mac
     draw_script_words(sink, language, model);
 }
 
-/// Writes the words that the script shows.
 fn draw_script_words<W: Sink>(sink: &mut W, language: Language, model: Model)
     ensures { Draws W.taken W.has_failed sink.old sink.new (script_words language model) }
 {

@@ -92,8 +92,8 @@ pub const ROTOR_SETTING: Text = (
 
 pub const CABLES: Text = (".<br>Cables: ", ".<br>Steckerverbindungen: ");
 
-/// The setting of a Converter: the words before the letters of its wheels, before the effective pins, before those of
-/// each wheel, and before its bars; a bar; and the end.
+/// The setting of a Converter: the words before its letters, its pins, the pins of each wheel, and its bars; a bar; the
+/// end.
 pub const PIN_SETTING: Text = (
     "<details><summary>How the machine is set</summary><p>Letters at the start: ",
     "<details><summary>Wie die Maschine eingestellt ist</summary><p>Buchstaben am Anfang: ",

@@ -149,7 +149,7 @@ pub fn option_name(cell: Cell) -> &'static str
     }
 }
 
-/// Appends the name of a cell's column as it stands in the table; if there is no such column, the name of its option.
+/// Appends the name of a cell's column in the table; without this column, the name of its option.
 fn push_cell_name(place: &mut Vec<u8>, head: &Head<'_>, cell: Cell) -> Result<(), SpreadsheetFault>
     ensures { IfOk result (λ _. place.new.items
         ≡ place.old.items ++ cell_name head.now.columns head.now.names cell) }
