@@ -1,6 +1,6 @@
 -- A lower bound for the cost of assignments: the sum of prices that fit.
 -- Source: the assignment problem and its dual.
--- Code: `assign` doesn't try assignments one by one: it grows a tree from each row.
+-- Code: `assign` doesn't try assignments one by one, but grows a tree from each row.
 -- Test: answers_small_tables, answers_three_rows
 use Rattle.std.specs.Prelude.{◌≡◌, ℕ, ◌≤◌, List, length, ℤ, pos, ◌≤ℤ◌}
 use Rattle.kd_assign.specs.Prices.{FitCosts, price_sum}

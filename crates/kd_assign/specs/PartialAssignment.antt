@@ -16,12 +16,12 @@ IsColumnFree holders j = slice_index_or holders j None ≡ None
 abbrev pub IsRowAssigned : List (Option ℕ) → ℕ → Type 0
 IsRowAssigned holders i = (j : ℕ) × IsColumnTakenBy holders j i
 
--- Column `j` is the cheapest for row `i`: its cost in row `i` minus its price is the least of all columns.
+-- Column `j` is the cheapest for row `i`: its cost in row `i` minus its price is the least.
 abbrev pub IsCheapestColumn : ℕ → List (List ℕ) → List ℤ → ℕ → ℕ → Type 0
 IsCheapestColumn n cost prices i j =
     (k : ℕ) → k < n → (pos (cost_at cost i j) +ℤ price_at prices k) ≤ℤ (pos (cost_at cost i k) +ℤ price_at prices j)
 
--- The rows before `next` have columns, and no other row has one. Each row's column is its cheapest at the prices
+-- The rows before `next` have a column each, and no other row has one. Each row's column is its cheapest at the prices
 -- `prices`.
 pub record IsSolvedUpTo (n : ℕ) (cost : List (List ℕ)) (prices : List ℤ)
     (holders : List (Option ℕ)) (next : ℕ) : Type 0 where

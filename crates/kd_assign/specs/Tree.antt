@@ -1,5 +1,5 @@
 -- A tree of rows and columns, as in the Hungarian method, grown from a row that has no column yet. A column's ceiling
--- is the lowest price that a row of the tree offers for it; the row that offers this price is the column's nearest row.
+-- is the lowest price that a row of the tree offers for it. The row that offers this price is the column's nearest row.
 -- No public contract cites this file.
 use Rattle.std.specs.Prelude.{◌≡◌, ℕ, ◌<◌, Bool, false, List, slice_index, slice_index_or, ◌⊎◌}
 use Rattle.std.specs.Prelude.{ℤ, pos, neg_ℤ, ◌+ℤ◌, ◌-ℤ◌, ◌≤ℤ◌}
@@ -9,7 +9,7 @@ use Rattle.kd_assign.specs.Prices.{cost_at, price_at}
 abbrev pub has_column : List Bool → ℕ → Bool
 has_column reached j = slice_index_or reached j false
 
--- the room of column `j`: its ceiling (the lowest price that a row of the tree offers for it) minus its price
+-- the room of column `j`: its ceiling minus its price
 abbrev pub room_at : List ℤ → List ℤ → ℕ → ℤ
 room_at ceilings prices j = price_at ceilings j -ℤ price_at prices j
 
@@ -27,7 +27,7 @@ pub record IsNearest (n : ℕ) (prices : List ℤ) (reached : List Bool) (ceilin
 
 -- One column is compared with `row`, which offers the price `offer` for it. Before, the column's nearest row is `near`,
 -- which offers `ceiling`; after, it is `near'`, which offers `ceiling'`. If the column is outside the tree, `near'` is
--- the one of `near` and `row` that offers less. If the column is in the tree (`reached`), nothing changes.
+-- whichever of `near` and `row` offers less. If the tree has the column (`reached`), nothing changes.
 pub record IsCompared (reached : Bool) (row : ℕ) (offer : ℤ) (near : ℕ) (ceiling : ℤ)
     (near' : ℕ) (ceiling' : ℤ) : Type 0 where
   pub one : ((near' ≡ near) × (ceiling' ≡ ceiling)) ⊎ ((reached ≡ false) × (near' ≡ row) × (ceiling' ≡ offer))

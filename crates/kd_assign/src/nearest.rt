@@ -86,9 +86,9 @@ impl<const N: usize> Nearest<N> {
         self.ceiling[column] - prices[column]
     }
 
-    /// The level of `row`, the row that holds `column`: the column's ceiling minus the cost where the two meet.
+    /// The level of `row`, which holds `column`: the column's ceiling minus the cost where the two meet.
     ///
-    /// For any column, a row of the tree offers a price: the row's level plus the cost where row and column meet.
+    /// For any column, a row of the tree offers its level plus the cost where row and column meet.
     pub fn level(&self, cost: &[[u8; N]; N], row: usize, column: usize) -> i16
         requires row { row < N }
         requires column { column < N }
@@ -122,8 +122,8 @@ impl<const N: usize> Nearest<N> {
 
     /// Of two columns, the one with less room (ceiling minus price), or `first` if the tree has `second` already.
     ///
-    /// If both have equal room, a free `second` wins, because a free column ends the tree's growth; any other `second`
-    /// loses. The contract leaves this choice open.
+    /// If both have equal room, `second` wins exactly if it is free, because a free column ends the tree's growth. The
+    /// contract leaves this choice open.
     fn nearer(
         &self,
         reached: &[bool; N],

@@ -25,7 +25,7 @@ pub struct Solution<const N: usize> {
 
 /// Finds a minimum-cost assignment by the Hungarian method of Kuhn and Munkres.
 ///
-/// The method grows a tree of tight edges from each row. An edge is a row and a column; it is tight if their prices add
+/// The method grows a tree of tight edges from each row. An edge is a row and a column. It is tight if their prices add
 /// up to the cost where they meet. If several assignments cost the least, the contract leaves open which one is found.
 pub fn assign<const N: usize>(cost: &[[u8; N]; N]) -> Solution<N>
     requires some { 1 ≤ N }

@@ -17,9 +17,9 @@ abbrev pub IsPageOrder : Parts → List Setting → Type 0
 IsPageOrder (Rotor m) settings = IsRotorOrder settings
 IsPageOrder (Pin m) settings = IsPinOrder settings
 
--- The settings are a shortest list from machine `m` to day `s`. They are in the order of a page: its checkboxes, read
--- from the top, are for these settings. They lead from `m` to machine `n`. Machine `n` is set as the day says, shows
--- the day's letters, and enciphers as the day asks.
+-- The settings are a shortest list from machine `m` to day `s`, in the order in which a page has their checkboxes. They
+-- lead from `m` to machine `n`. Machine `n` is set as the day says, shows the day's letters, and enciphers as the day
+-- asks.
 pub record IsDayPlan (m : Parts) (s : Day) (plan : DayPlan) (n : Parts) : Type 0 where
   pub number : plan.day ≡ day_number s
   pub by_hand : IsHandList m s plan.settings.items

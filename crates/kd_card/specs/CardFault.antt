@@ -28,7 +28,8 @@ abbrev pub IsNumberText : List ℕ → Type 0
 IsNumberText [] = ⊥
 IsNumberText (digit ∷ digits) = IsDigit digit × All IsDigit digits × ((digit ≡ 48) → (digits ≡ []))
 
--- The text is a decimal number without leading zeros. If the Bool is `true`, the number may be negative, but not `-0`.
+-- The text is a decimal number without leading zeros. If the first argument is `true`, the number may be negative, but
+-- not `-0`.
 abbrev pub IsNumeral : Bool → List ℕ → Type 0
 IsNumeral false text = IsNumberText text
 IsNumeral true text =
@@ -42,8 +43,8 @@ pub record HasLineWords (bytes : List ℕ) (words : List (List ℕ)) (rest : Lis
   pub first : IsFirstPart 10 bytes line rest
   pub parts : words_of line ≡ words
 
--- The result of reading a line such as `SUM 12`, which is `prefix` and then a number: the bytes after the line, or a
--- fault. If the line has another form or no LF, the fault is `BadLine`. If its number isn't `due`, the fault is
+-- The result of reading a line such as `SUM 12`: the bytes after the line, or a fault. The line is `prefix` and then a
+-- number. If the line has another form or no LF, the fault is `BadLine`. If its number isn't `due`, the fault is
 -- `CountWrong`.
 abbrev pub IsValueAnswer : Bool → List ℕ → List ℕ → ℕ → List ℕ → AnswerRule CardFault (List ℕ)
 IsValueAnswer signed prefix due line bytes = do
@@ -53,7 +54,7 @@ IsValueAnswer signed prefix due line bytes = do
   _ ← Demands (found.0 ≡ due) CountWrong
   Yields found.1
 
--- The result of reading a price line: its first word, its other words and the bytes after the line, or a fault.
+-- The result of reading a price line: first word, other words and the bytes after the line, or a fault.
 abbrev pub IsLineAnswer : ℕ → List ℕ → AnswerRule CardFault (List ℕ × List (List ℕ) × List ℕ)
 IsLineAnswer line bytes = do
   _ ← Demands (bytes ≢ []) PriceMissing
@@ -66,12 +67,12 @@ pub record BeginsWithHead (bytes : List ℕ) (version : Version) (day : ℕ) (re
   pub text : bytes ≡ line_then (head_words version day) rest
   pub of_month : IsDayNumber day
 
--- The result of reading a card's first line: its version, its day and the bytes after the line, or the fault `BadHead`.
+-- The result of reading a card's first line: version, day and the bytes after the line, or the fault `BadHead`.
 abbrev pub IsHeadAnswer : List ℕ → AnswerRule CardFault (Version × ℕ × List ℕ)
 IsHeadAnswer bytes = Finds (λ (head : Version × ℕ × List ℕ). BeginsWithHead bytes head.0 head.1 head.2) BadHead
 
--- The result of reading a card's settings: all settings before the first line that isn't a setting, and the bytes after
--- these settings. If the first 193 lines are settings, the fault is `TooMany`.
+-- The result of reading a card's settings: the settings, and the bytes after them. They end before the first line that
+-- isn't a setting. If the first 193 lines are settings, the fault is `TooMany`.
 abbrev pub IsSettingsAnswer : List ℕ → AnswerRule CardFault (List Setting × List ℕ)
 IsSettingsAnswer bytes (Ok list) = BeginsWithAllSettings bytes list.0 list.1
 IsSettingsAnswer bytes (Err fault) =
@@ -80,29 +81,28 @@ IsSettingsAnswer bytes (Err fault) =
 
 -- ---- prices by number: two lines
 
--- the first word of a card's first price line: `CABLES` or `BARS` in version 1, `CABLE` or `BAR` in version 2
+-- the first word of the first price line: `CABLES` or `BARS` in version 1, `CABLE` or `BAR` in version 2
 abbrev pub first_text : Version → CostTable → List ℕ
 first_text ByNumber Cables = codes "CABLES"
 first_text ByNumber Bars = codes "BARS"
 first_text ByKind Cables = cable_format.word
 first_text ByKind Bars = bar_format.word
 
--- The result of reading the first word of the first price line: the table of costs that the prices are for, or a fault.
+-- The result of reading the first price line's first word: the table of costs that it names, or a fault.
 abbrev pub IsTableAnswer : Version → ℕ → List ℕ → AnswerRule CardFault CostTable
 IsTableAnswer version line bytes = do
   found ← IsLineAnswer line bytes
   Finds (λ table. found.0 ≡ first_text version table) PriceMissing
 
 -- The result of reading `words` as `number` prices: the prices, or a fault. If a word isn't a price, the fault is
--- `BadLine line`. If there are more or fewer prices than `number`, it is `PriceMissing`.
+-- `BadLine line`. If there are more or fewer prices than `number`, the fault is `PriceMissing`.
 abbrev pub IsPricesAnswer : ℕ → ℕ → List (List ℕ) → AnswerRule CardFault (List ℤ)
 IsPricesAnswer number line words = do
   prices ← Finds (λ prices. (words ≡ map signed_decimal prices) × ArePricesInRange prices) (BadLine line)
   _ ← Demands (length prices ≡ number) PriceMissing
   Yields prices
 
--- The result of reading a line with `word` and then `number` prices: the prices and the bytes after the line, or a
--- fault.
+-- The result of reading a line of `word` and `number` prices: the prices and the following bytes, or a fault.
 abbrev pub IsPriceLineAnswer : List ℕ → ℕ → ℕ → List ℕ → AnswerRule CardFault (List ℤ × List ℕ)
 IsPriceLineAnswer word number line bytes = do
   found ← IsLineAnswer line bytes
@@ -110,8 +110,9 @@ IsPriceLineAnswer word number line bytes = do
   prices ← IsPricesAnswer number line found.1
   Yields (prices, found.2)
 
--- The result of reading two price lines, each with a first word and then `number` prices: the prices for the rows and
--- for the columns of the table of costs, and the bytes after both lines; or a fault.
+-- The result of reading two price lines: both lists of prices and the following bytes, or a fault. Each line has a
+-- first word and then `number` prices. The first line is for the rows of the table of costs, the second for its
+-- columns.
 abbrev pub IsListsAnswer : List ℕ → List ℕ → ℕ → ℕ → List ℕ → AnswerRule CardFault (List ℤ × List ℤ × List ℕ)
 IsListsAnswer row_word column_word number line bytes = do
   rows ← IsPriceLineAnswer row_word number line bytes
@@ -126,7 +127,7 @@ pub record BeginsWithWord (word bytes : List ℕ) : Type 0 where
   pub rest : List ℕ
   pub has : HasLineWords bytes (word ∷ behind) rest
 
--- A group of lines that begin with `word` ends before `bytes`: either `bytes` are empty, or their first line ends with
+-- A group of lines that begin with `word` ends before `bytes`. Either `bytes` are empty, or their first line ends with
 -- LF and begins with another word.
 pub data EndsGroup (word bytes : List ℕ) : Type 0 where
   AtNothing : bytes ≡ [] → EndsGroup word bytes
@@ -158,8 +159,8 @@ pub record BeginsWithKinds {K X : Type 0} (format : KindFormat K X) (last : Opti
   pub none_more : HasNoNext format (last_of last kinds) rest
 
 -- The result of reading a group of kinds: the kinds and the bytes after them, or a fault. The fault is `BadLine` if a
--- line has no LF, or if a line with the group's word isn't the line of a valid next kind. The fault is `PriceMissing`
--- if the kinds' counts don't add up to `number`.
+-- line has no LF, or has the group's word but no valid next kind. The fault is `PriceMissing` if the kinds' counts
+-- don't add up to `number`.
 -- Code: the reader keeps at most `number` kinds, and stops adding counts at `number + 1`.
 abbrev pub IsGroupAnswer : {K X : Type 0} → KindFormat K X → ℕ → ℕ → List ℕ → AnswerRule CardFault (List K × List ℕ)
 IsGroupAnswer {K} format number line bytes = do
@@ -194,14 +195,14 @@ IsTablePricesAnswer ByKind Bars line bytes = do
   groups ← IsGroupsAnswer bar_format row_format 27 line bytes
   Yields (BarKinds (record { items = groups.0 }) (record { items = groups.1 }), groups.2)
 
--- The result of reading a card's prices, which begin on line `line`: the prices and the bytes after them, or a fault.
+-- The result of reading a card's prices from line `line` on: the prices and the following bytes, or a fault.
 abbrev pub IsAllPricesAnswer : Version → ℕ → List ℕ → AnswerRule CardFault (PriceParts × List ℕ)
 IsAllPricesAnswer version line bytes = do
   table ← IsTableAnswer version line bytes
   IsTablePricesAnswer version table line bytes
 
--- The result of reading the rest of a card, from its line `SETTINGS` on: the whole card (`day`, `settings` and the
--- prices), or a fault.
+-- The result of reading the rest of a card, from the line `SETTINGS` on: the whole card, or a fault. The lines before
+-- gave `day` and `settings`.
 abbrev pub IsRestAnswer : Version → ℕ → List Setting → ℕ → List ℕ → AnswerRule CardFault (ℕ × List Setting × PriceParts)
 IsRestAnswer version day settings number bytes = do
   rest ← IsValueAnswer false (codes "SETTINGS ") (decimal number) (number + 2) bytes

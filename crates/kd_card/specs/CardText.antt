@@ -10,16 +10,16 @@ use Rattle.kd_tables.specs.Places.{standing_text, reading_text}
 use Rattle.std.specs.Prelude.{codes, decimal, ◌≡◌, ℕ, ◌≤◌, List, [], ◌∷◌, ◌++◌, length, map, All}
 use Rattle.std.specs.{Fmt.signed_decimal, List.flat_map}
 
--- the words of a card's first line, such as `CARD 2 DAY 31`: version 2 if each kind has one price, otherwise version 1
+-- the words of a card's first line, such as `CARD 2 DAY 31`. Version 1 has prices by number, version 2 prices by kind.
 abbrev pub head_words : Version → ℕ → List (List ℕ)
 head_words ByNumber day = codes "CARD" ∷ codes "1" ∷ codes "DAY" ∷ decimal day ∷ []
 head_words ByKind day = codes "CARD" ∷ codes "2" ∷ codes "DAY" ∷ decimal day ∷ []
 
--- the text of `lines`: for each line, its words with a space between two words, and then LF
+-- the text of `lines`: the words of each line with single spaces between them, and then LF
 abbrev pub lines_text : List (List (List ℕ)) → List ℕ
 lines_text lines = flat_map (λ words. line_of words ++ 10 ∷ []) lines
 
--- the price lines, each as a list of words: two lines of prices by number, or one line for each kind
+-- the price lines, as lists of words: a line for each kind, or two lines of prices by number
 abbrev pub price_lines : PriceParts → List (List (List ℕ))
 price_lines (Cables cables columns) =
     (codes "CABLES" ∷ map signed_decimal cables) ∷ (codes "PAIRS" ∷ map signed_decimal columns) ∷ []

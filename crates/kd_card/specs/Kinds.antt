@@ -1,4 +1,4 @@
--- Kinds: a kind is one entry for equal cables, columns, bars or rows, with their count and the price of each.
+-- Kinds: a kind is one entry for equal cables, columns, bars or rows. It has their count, and the price of each.
 use Rattle.kd_card.specs.{declared.kinds.CableKind.CableKind, declared.kinds.PairKind.PairKind}
 use Rattle.kd_card.specs.{declared.kinds.BarKind.BarKind, declared.kinds.RowKind.RowKind, declared.kinds.KindOf.KindOf}
 use Rattle.kd_state.specs.{Costs.{column_letters, one_unless}, LineWords.line_of, Machine.cable_letters}
@@ -17,11 +17,11 @@ abbrev pub letters_text : List ℕ → List ℕ
 letters_text [] = codes "-"
 letters_text (letter ∷ letters) = tables.letters_text (letter ∷ letters)
 
--- the words of a kind's line, such as `CABLE AB 1 -2`: the first word, the key's text, the count and the price
+-- the words of a kind's line, such as `CABLE AB 1 -2`: first word, key's text, count and price
 abbrev pub kind_line : List ℕ → List ℕ → ℕ → ℤ → List (List ℕ)
 kind_line word key count price = word ∷ key ∷ decimal count ∷ signed_decimal price ∷ []
 
--- The ends have two letters in alphabetical order, or only the first end has a letter, or neither end has one.
+-- The two ends have letters in alphabetical order, or only the first end has a letter, or neither has.
 abbrev pub AreEnds : Option ℕ → Option ℕ → Type 0
 AreEnds None None = Unit {0}
 AreEnds None (Some other) = ⊥
@@ -36,9 +36,9 @@ IsPairInOrder (Some pair) = (pair.0 < pair.1) × (pair.1 < 26)
 -- ---- the four sorts of kinds
 
 -- The form of kinds of one sort (of cables, columns, bars or rows) on a card. Each line begins with `word`. `kind`
--- gives a kind's key (letters, a standing or a reading), its count and its price. `text` writes a key, such as `AB`,
--- and `InForm` says which keys a card may have. Lines are sorted by the numbers that `order` gives for their keys; so
--- the kinds of empty cables and of empty columns come last.
+-- gives a kind's key (letters, a standing or a reading), its count and its price. `text` writes a key, such as `AB`.
+-- `InForm` says which keys a card may have. Lines are sorted by the numbers that `order` gives for their keys. So empty
+-- cables and empty columns come last.
 pub record KindFormat (K X : Type 0) : Type 1 where
   pub word : List ℕ
   pub kind : K → KindOf X
@@ -87,7 +87,7 @@ row_format = record {
 }
 
 -- the order of two keys (letters, standings or readings) on a card
--- Code: `compare` of the trait `Kind` uses the orders of Rust's tuples and options, and the orders that types derive.
+-- Code: `Kind::compare` uses the orders of Rust's tuples and options, and the derived orders of types.
 abbrev pub key_cmp : {K X : Type 0} → KindFormat K X → X → X → Ordering
 key_cmp format x y = slice_cmp nat_cmp (format.order x) (format.order y)
 
@@ -112,7 +112,7 @@ abbrev pub ComesAfter : {K X : Type 0} → KindFormat K X → Option K → K →
 ComesAfter format None next = Unit {0}
 ComesAfter format (Some last) next = KeyComesBefore format (format.kind last).key (format.kind next).key
 
--- The kind is valid: its key is in the form that a card writes, its count from 1 to 255, its price from -9999 to 9999.
+-- The kind is valid: a card may have its key. Its count is from 1 to 255, its price from -9999 to 9999.
 pub record IsKind {K X : Type 0} (format : KindFormat K X) (kind : K) : Type 0 where
   pub form : format.InForm (format.kind kind).key
   pub some : 1 ≤ (format.kind kind).count
@@ -125,7 +125,7 @@ AreKinds format last [] = Unit {0}
 AreKinds format last (kind ∷ kinds) =
     IsKind format kind × ComesAfter format last kind × AreKinds format (Some kind) kinds
 
--- how many cables, columns, bars or rows the kinds count together
+-- the number of cables, columns, bars or rows of all kinds together
 abbrev pub total_count : {K X : Type 0} → KindFormat K X → List K → ℕ
 total_count format [] = 0
 total_count format (kind ∷ kinds) = (format.kind kind).count + total_count format kinds
@@ -135,12 +135,13 @@ pub record IsGroup {K X : Type 0} (format : KindFormat K X) (number : ℕ) (kind
   pub in_order : AreKinds format None kinds
   pub count : total_count format kinds ≡ number
 
--- each kind's key together with the kind's price, repeated as often as the kind's count says
+-- each kind's key with its price, repeated as often as the kind's count says
 abbrev pub expansion : {X : Type 0} → List (KindOf X) → List (X × ℤ)
 expansion kinds = flat_map (λ kind. replicate kind.count (kind.key, kind.price)) kinds
 
--- Each kind's key and price, repeated as often as the kind's count says, are `keys` with their prices, in some order.
--- Code: `kinds_of` sorts keys with prices, and counts equal neighbours; `prices_of` lowers the count of a key's kind.
+-- The kinds have `keys` with `prices`, in some order: each key as often as its kind's count says.
+-- Code: `kinds_of` sorts keys with their prices, and counts equal neighbours. For each key, `prices_of` takes its
+-- kind's price, and lowers the kind's count.
 pub record AreKindsOf {K X : Type 0} (format : KindFormat K X) (keys : List X) (prices : List ℤ) (kinds : List K)
     : Type 0 where
   pub number : length prices ≡ length keys

@@ -1,4 +1,4 @@
--- Laws of cards: their texts, the prices that bound the length of lists, and the cards that prove themselves.
+-- Laws of cards: their texts, the prices that bound the length of lists, and cards that prove themselves.
 use Rattle.kd_card.specs.Proving.{AreSettingsNeeded, AreModelPrices, ProvesByNumber, Proves, priced_count}
 use Rattle.kd_card.specs.Shortest.{IsShortest, LeadsToTheDay, ShowShortest}
 use Rattle.kd_card.specs.declared.prices.Version.TheVariants.{ByKind}
@@ -17,8 +17,7 @@ LooseThingsAreCounted =
     (machine : Parts) (day : Day) → IsMachine machine → IsLegalDay day → model_of machine ≡ day_model day
     → length (loose_lines machine day) ≡ loose_count machine day
 
--- If prices fit, each list that reaches the day has at least as many settings as loose things plus the sum of the
--- prices.
+-- If prices fit, no list that reaches the day is shorter than their sum plus the number of loose things.
 abbrev pub FittingPricesBoundLists : Type 0
 FittingPricesBoundLists =
     (machine : Parts) (day : Day) (prices : PriceParts) (settings : List Setting) → IsMachine machine → IsLegalDay day
@@ -26,15 +25,15 @@ FittingPricesBoundLists =
     → PricesFit (cost_table machine day) prices → LeadsToTheDay machine day settings
     → (pos (loose_count machine day) +ℤ price_sum prices) ≤ℤ pos (length settings)
 
--- A setting is unpriced if it changes no cable and no bar. If a list that reaches the day has no more unpriced settings
--- than there are loose things, then all its unpriced settings are needed.
+-- A setting is unpriced if it changes no cable and no bar. If a list reaches the day with no more unpriced settings
+-- than loose things, all its unpriced settings are needed.
 abbrev pub AsFewAreNeeded : Type 0
 AsFewAreNeeded =
     (machine : Parts) (day : Day) (settings : List Setting) → IsLegalDay day → model_of machine ≡ day_model day
     → LeadsToTheDay machine day settings
     → length settings ≤ loose_count machine day + priced_count settings → AreSettingsNeeded machine day settings
 
--- If a card with prices by number proves itself, the loose things and the prices add up to its number of settings.
+-- If a card with prices by number proves itself, its length is the prices' sum plus the number of loose things.
 abbrev pub ProvingCardsAreAsLong : Type 0
 ProvingCardsAreAsLong =
     (machine : Parts) (day : Day) (settings : List Setting) (prices : PriceParts)
@@ -61,7 +60,7 @@ ProvingPricesShow =
     → Proves machine day settings prices → ShowShortest machine day settings prices
 
 -- If a card with prices by number proves itself, none of its prices can be raised alone. Each row and each column of
--- the table of costs has a cell where the prices of row and column add up to the cost.
+-- the table of costs has a cell whose prices add up to the cost.
 abbrev pub ProvingPricesAreTight : Type 0
 ProvingPricesAreTight =
     (machine : Parts) (day : Day) (settings : List Setting) (prices : PriceParts) → IsMachine machine → IsLegalDay day

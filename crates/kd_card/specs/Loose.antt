@@ -12,11 +12,11 @@ use Rattle.std.specs.Prelude.{ℕ, nat_eq, Bool, false, not, List, [], ◌∷◌
 use Rattle.std.specs.Prelude.{if◌then◌else◌}
 use Rattle.std.specs.Option.{option_map_or}
 
--- the setting `x`, or no setting if `already` is true, that is, if the machine already is as `x` would set it
+-- the setting `x`; no setting if `already` is true, because the machine is as `x` would set it
 abbrev pub setting_unless : Bool → Setting → List Setting
 setting_unless already x = if already then [] else x ∷ []
 
--- the settings that `lines` gives for each item and the item's number; the first item has the number `number`
+-- the settings that `lines` gives for each item and its number; the first item has the number `number`
 abbrev pub lines_from : {Z : Type 0} → (ℕ → Z → List Setting) → ℕ → List Z → List Setting
 lines_from lines number [] = []
 lines_from lines number (z ∷ zs) = lines number z ++ lines_from lines (number + 1) zs
@@ -48,7 +48,7 @@ wheel_pin_lines wheel z = flat_map (pin_line wheel) (zip (ring_of wheel) (zip z.
 abbrev pub pin_wheel_turn_line : ℕ → ℕ × ℕ → List Setting
 pin_wheel_turn_line wheel z = setting_unless (nat_eq z.0 z.1) (Turn wheel z.1)
 
--- the settings for all loose things of a machine, in a fixed order; rings come in the order of the wheels in the box
+-- the settings for all loose things of a machine, in a fixed order; rings come in box order
 abbrev pub loose_lines : Parts → Day → List Setting
 loose_lines = by_model []
     (λ machine day. lines_from slot_seat_line 1 (zip machine.slots day.wheels)

@@ -1,7 +1,7 @@
--- The prices of a card, and when they fit a table of costs. The table of a rotor machine has a row for each cable, and
--- a column for each pair or empty column. The table of a Converter has a row for each bar, and a column for each row of
--- the sheet. Rows and columns are counted from 0. With prices *by number*, each row and each column has its own price.
--- With prices *by kind*, equal rows share one price, and so do equal columns.
+-- The prices of a card, and when they fit a table of costs. A rotor machine's table has a row for each cable. Its 13
+-- columns are the day's pairs, and then empty columns. A Converter's table has a row for each bar, and a column for
+-- each row of the sheet. Rows and columns are counted from 0. With prices *by number*, each row and each column has its
+-- own price. With prices *by kind*, equal rows share one price, and so do equal columns.
 use Rattle.kd_card.specs.Kinds.{cable_format, pair_format, bar_format, row_format, IsGroup}
 use Rattle.kd_card.specs.declared.prices.PriceParts.TheVariants.{Cables, Bars, CableKinds, BarKinds}
 use Rattle.kd_card.specs.{declared.prices.Version.TheVariants.{ByNumber, ByKind}, declared.prices.PriceParts.PriceParts}
@@ -9,20 +9,20 @@ use Rattle.kd_card.specs.declared.prices.Version.{Version}
 use Rattle.std.specs.Prelude.{◌≡◌, ℕ, ◌<◌, ◌≤◌, List, [], ◌++◌, length, All, fold, slice_index, slice_index_or, ℤ}
 use Rattle.std.specs.Prelude.{pos, unsigned_abs, ◌+ℤ◌, ◌≤ℤ◌, flat_map, replicate}
 
--- whether there is a price for each cable and each column (or each bar and each row), or for each kind of them
+-- whether the prices are by number or by kind
 abbrev pub version_of : PriceParts → Version
 version_of (CableKinds cables columns) = ByKind
 version_of (BarKinds bars rows) = ByKind
 version_of _ = ByNumber
 
--- the prices of the cables or of the bars, in order; if they are by kind, each price as often as its kind's count says
+-- the prices of all cables or all bars. A price by kind comes as often as its kind's count says.
 abbrev pub machine_prices : PriceParts → List ℤ
 machine_prices (Cables cables columns) = cables
 machine_prices (Bars bars rows) = bars
 machine_prices (CableKinds cables columns) = flat_map (λ k. replicate k.count k.price) cables.items
 machine_prices (BarKinds bars rows) = flat_map (λ k. replicate k.count k.price) bars.items
 
--- the prices of a rotor day's columns, or of a Converter day's rows; if by kind, each as often as its kind's count says
+-- the prices of the day's columns or rows. A price by kind comes as often as its kind's count says.
 abbrev pub day_prices : PriceParts → List ℤ
 day_prices (Cables cables columns) = columns
 day_prices (Bars bars rows) = rows
@@ -44,7 +44,7 @@ pub record IsPriceList (number : ℕ) (prices : List ℤ) : Type 0 where
   pub count : length prices ≡ number
   pub in_range : ArePricesInRange prices
 
--- Each row and column of the table of costs has a price from -9999 to 9999; kinds are valid and strictly ascending.
+-- Each row and column of the table of costs has a price from -9999 to 9999. Kinds are valid and strictly ascending.
 abbrev pub ArePrices : PriceParts → Type 0
 ArePrices (Cables cables columns) = IsPriceList 13 cables × IsPriceList 13 columns
 ArePrices (Bars bars rows) = IsPriceList 27 bars × IsPriceList 27 rows
@@ -55,7 +55,7 @@ ArePrices (BarKinds bars rows) = IsGroup bar_format 27 bars.items × IsGroup row
 abbrev pub cost_at : List (List ℕ) → ℕ → ℕ → ℕ
 cost_at costs i j = slice_index (slice_index_or costs i []) j
 
--- item `i` of a list of prices, counted from 0; if the prices are by number, the price of row `i` or of column `i`
+-- item `i` of a list of prices, counted from 0; of prices by number, the price of row or column `i`
 abbrev pub price_at : List ℤ → ℕ → ℤ
 price_at prices i = slice_index_or prices i (pos 0)
 
@@ -77,7 +77,7 @@ abbrev pub IsPriceTightAt : List (List ℕ) → PriceParts → ℕ → ℕ → T
 IsPriceTightAt costs prices i j =
     (price_at (machine_prices prices) i +ℤ price_at (day_prices prices) j) ≡ pos (cost_at costs i j)
 
--- Each row and each column of the table of costs has a cell where the prices of row and column add up to the cost.
+-- Each row and each column of the table of costs has a cell whose prices add up to the cost.
 pub record ArePricesTight (costs : List (List ℕ)) (prices : PriceParts) : Type 0 where
   pub column_of : (i : ℕ) → i < table_size prices → (j : ℕ) × (j < table_size prices) × IsPriceTightAt costs prices i j
   pub row_of : (j : ℕ) → j < table_size prices → (i : ℕ) × (i < table_size prices) × IsPriceTightAt costs prices i j

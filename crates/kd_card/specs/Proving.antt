@@ -1,5 +1,4 @@
--- A card that proves itself: its settings lead the machine to the day, and its prices show that no shorter list
--- does.
+-- A card that proves itself: its settings lead to the day, and its prices show that no shorter list does.
 use Rattle.kd_card.specs.declared.prices.PriceParts.TheVariants.{Cables, Bars, CableKinds, BarKinds}
 use Rattle.kd_card.specs.Kinds.{cable_format, pair_format, bar_format, row_format, AreKindsOf}
 use Rattle.kd_card.specs.{Prices.{version_of, price_sum, PricesFit, ArePrices}, declared.prices.PriceParts.PriceParts}
@@ -12,7 +11,7 @@ use Rattle.kd_state.specs.{Setting.Carries, Machine.model_of, OnKey.columns_in_o
 use Rattle.kd_card.specs.Shortest.{LeadsToTheDay}
 use Rattle.std.specs.Prelude.{◌≡◌, ℕ, ◌+◌, Bool, true, false, List, [], ◌∷◌, pos, IsFalse, count_by}
 
--- The prices are by number, and for the machine's model: one for each cable and column, or for each bar and row.
+-- The prices are by number, and suit the machine: they are for cables and columns, or for bars and rows.
 abbrev pub AreModelPrices : Parts → PriceParts → Type 0
 AreModelPrices (Rotor machine) (Cables cables columns) = Unit {0}
 AreModelPrices (Pin machine) (Bars bars rows) = Unit {0}
@@ -25,11 +24,11 @@ is_priced_setting (Put cable letter) = true
 is_priced_setting (LugTo bar lug place) = true
 is_priced_setting _ = false
 
--- how many of the settings change a cable or a bar
+-- the number of settings that change a cable or a bar
 abbrev pub priced_count : List Setting → ℕ
 priced_count settings = count_by is_priced_setting settings
 
--- The setting changes a cable or a bar; or the machine carries it out, and that lowers the number of loose things by one.
+-- The setting changes a cable or a bar. Or the machine carries the setting out, and then has one loose thing less.
 abbrev pub IsSettingNeeded : Parts → Day → Setting → Type 0
 IsSettingNeeded machine day setting = IsFalse (is_priced_setting setting)
     → (after : Parts) × Carries machine setting after × (loose_count machine day ≡ loose_count after day + 1)
@@ -42,8 +41,8 @@ AreSettingsNeeded machine day (setting ∷ rest) = (after : Parts) × Carries ma
 
 -- ---- prices by kind mean prices by number
 
--- The first prices are by kind, and count all cables and columns, or all bars and rows. The second prices are by
--- number, and give each of these the price of its kind.
+-- The first prices are by kind, and their kinds count all cables and columns, or all bars and rows. The second prices
+-- are by number: each cable, column, bar or row has the price of its kind.
 abbrev pub AreExpanded : Parts → Day → PriceParts → PriceParts → Type 0
 AreExpanded (Rotor machine) (Rotor day) (CableKinds cable_kinds column_kinds) (Cables cables columns) =
     AreKindsOf cable_format machine.cables cables cable_kinds.items
@@ -61,8 +60,8 @@ pub data Expands (machine : Parts) (day : Day) (prices numbered : PriceParts) : 
 
 -- ---- the card proves itself
 
--- A card with prices by number proves itself: its settings lead the machine to the day, and each of them is needed. Its
--- prices fit the table of costs, and their sum is the number of settings that change a cable or a bar.
+-- A card with prices by number proves itself. Its settings lead the machine to the day, and each of them is needed. Its
+-- prices fit the table of costs. Their sum is the number of settings that change a cable or a bar.
 pub record ProvesByNumber (machine : Parts) (day : Day) (settings : List Setting) (prices : PriceParts) : Type 0 where
   pub model : model_of machine ≡ day_model day
   pub kind : AreModelPrices machine prices

@@ -7,7 +7,7 @@ use Rattle.kd_state.specs.LineWords.{words_of}
 use Rattle.std.specs.Prelude.{codes, ◌≡◌, ◌<◌, ◌≤◌, ℕ, ℤ, unsigned_abs, List, [], Option, Some, None, Err}
 use Rattle.std.specs.Fmt.{signed_decimal}
 
--- the words of a line after its first word; the argument is the line's text after its first space, if any
+-- the words of a line after its first word, from the line's text after its first space (`None` without a space)
 abbrev pub words_after_first : Option (List ℕ) → List (List ℕ)
 words_after_first None = []
 words_after_first (Some text) = words_of text
@@ -21,19 +21,19 @@ abbrev pub head_prefix : Version → List ℕ
 head_prefix ByNumber = codes "CARD 1 DAY "
 head_prefix ByKind = codes "CARD 2 DAY "
 
--- `bytes` are the rest of a card, from its line `line` on. However many prices (at least one) have to follow `word` in
--- this line, the result of reading the line is `fault`.
+-- Line `line` of a card, with which `bytes` begin, can't be read as `word` and then prices. The fault is `fault`,
+-- whatever number of prices above 0 is asked for.
 abbrev pub IsNoPriceLine : List ℕ → ℕ → List ℕ → CardFault → Type 0
 IsNoPriceLine word line bytes fault =
     (number : ℕ) → 0 < number → IsPriceLineAnswer word number line bytes (Err fault)
 
--- The group of kinds, whose last kind so far is `last`, ends before `bytes`.
+-- A group of kinds ends before `bytes`; `last` is its last kind so far.
 pub record EndsKindsAt {K X : Type 0} (format : KindFormat K X) (last : Option K) (bytes : List ℕ) : Type 0 where
   pub ends : EndsGroup format.word bytes
   pub none_more : HasNoNext format last bytes
 
--- The group of kinds doesn't end before `bytes`, but goes on with a bad line. A line is bad if it has no LF, isn't the
--- line of a valid kind, or has a kind that doesn't come after `last`.
+-- A group of kinds doesn't end before `bytes`, but goes on with a bad line. A bad line has no LF, isn't a valid kind's
+-- line, or has a kind that doesn't come after `last`.
 pub record IsBadKindAt {K X : Type 0} (format : KindFormat K X) (last : Option K) (bytes : List ℕ) : Type 0 where
   pub goes_on : ¬ (EndsGroup format.word bytes)
   pub none_more : HasNoNext format last bytes

@@ -1,4 +1,4 @@
--- When a list of settings that leads a machine to a day is shortest, and how prices by kind show it.
+-- When a list of settings from a machine to a day is shortest, and how prices by kind show this.
 use Rattle.kd_card.specs.{declared.prices.PriceParts.PriceParts, Prices.price_sum}
 use Rattle.kd_card.specs.declared.prices.PriceParts.TheVariants.{CableKinds, BarKinds}
 use Rattle.kd_state.specs.{declared.setting.Setting.Setting, declared.machine.parts.Parts.Parts}
@@ -17,8 +17,7 @@ IsShortest machine day settings =
     (others : List Setting) → LeadsToTheDay machine day others → length settings ≤ length others
 
 -- The prices are by kind, and fit. The kinds count exactly the machine's cables and the day's columns, or the machine's
--- bars and the day's rows. The prices of a cable and a column, or of a bar and a row, add up to at most the cost of the
--- two.
+-- bars and the day's rows. The prices of a cable and a column, or of a bar and a row, add up to at most their cost.
 abbrev pub KindPricesFit : Parts → Day → PriceParts → Type 0
 KindPricesFit (Rotor machine) (Rotor day) (CableKinds cables columns) =
     IsPermutation machine.cables (flat_map (λ k. replicate k.count k.ends) cables.items)
@@ -30,8 +29,8 @@ KindPricesFit (Pin machine) (Pin day) (BarKinds bars rows) =
     × All (λ k. All (λ r. (k.price +ℤ r.price) ≤ℤ pos (bar_cost k.standing r.reading)) rows.items) bars.items
 KindPricesFit _ _ _ = ⊥
 
--- The prices fit, and with the number of loose things they add up to the number of settings. So no shorter list reaches
--- the day.
+-- The prices fit. The number of loose things and the sum of the prices add up to the number of settings. So no shorter
+-- list reaches the day.
 pub record ShowShortest (machine : Parts) (day : Day) (settings : List Setting) (prices : PriceParts) : Type 0 where
   pub fit : KindPricesFit machine day prices
   pub as_many : pos (length settings) ≡ (pos (loose_count machine day) +ℤ price_sum prices)

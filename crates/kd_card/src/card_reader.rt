@@ -144,7 +144,7 @@ fn read_table_prices(
     }
 }
 
-/// Reads the first word of line `line` of a card, which shows whether its prices are of cables or of bars.
+/// Reads from the first word of line `line` whether a card's prices are of cables or of bars.
 fn read_table(text: &[u8], version: Version, line: usize) -> Result<CostTable, CardFault>
     ensures { let says = IsTableAnswer version line text.now in
         MatchResult result (λ table. says (Ok table)) (λ fault. says (Err fault)) }

@@ -9,13 +9,13 @@ use thiserror::Error;
 /// Why bytes are not the text of a card. Lines are counted from 1.
 #[derive(Clone, Copy, Debug, PartialEq, Eq, Error)]
 pub enum CardFault {
-    /// The first line isn't like `CARD 2 DAY 31` (version 1 or 2, and a day from 1 to 31), or it has no LF.
+    /// The first line has no LF, or isn't like `CARD 2 DAY 31`. The version is 1 or 2, the day from 1 to 31.
     BadHead,
     /// The line with this number is missing, has no LF, or doesn't have the form that is expected there.
     BadLine(usize),
     /// There are more than 192 settings.
     TooMany,
-    /// A price line is missing or has a wrong first word, or there are too few or too many prices.
+    /// A price line is missing or has a wrong first word, or the number of prices is wrong.
     PriceMissing,
     /// The number after `SETTINGS` isn't the number of settings, or the number after `SUM` isn't the sum of the prices.
     CountWrong,
@@ -24,7 +24,7 @@ pub enum CardFault {
 }
 
 impl CardFault {
-    /// The text of the refusal, such as `8 BadLine 3`: number, name, and the line number if the fault has one.
+    /// The refusal's text, such as `8 BadLine 3`: number and name, and the line's number if there is one.
     pub fn text(&self) -> Text
         ensures { result.bytes ≡ card_fault_text self.now }
     {

@@ -15,7 +15,7 @@ use kd_state::{is_word, number_of_text, push_number, split_words};
 
 /// Parses a kind from its line without the first word.
 ///
-/// For the line `CABLE AB 1 0`, `behind` is `AB 1 0`; if a line has only one word, `behind` is `None`. The result is
+/// Of the line `CABLE AB 1 0`, `behind` is `AB 1 0`. Of a line with only one word, `behind` is `None`. The result is
 /// `None` if the words don't make a valid kind.
 #[tactic(auto, using(crate::proofs::OneCard::words_in_place))]
 fn kind_of_words<K: Kind>(behind: Option<&[u8]>) -> Option<K>
@@ -31,7 +31,7 @@ fn kind_of_words<K: Kind>(behind: Option<&[u8]>) -> Option<K>
     kind_of_parts(key, count, price)
 }
 
-/// Parses a kind from three words of its line: in `CABLE AB 1 0`, `key` is `AB`, `count` is `1` and `price` is `0`.
+/// Parses a kind from `key`, `count` and `price`. In the line `CABLE AB 1 0`, these are `AB`, `1` and `0`.
 #[tactic(auto, using(crate::proofs::OneCard::no_count))]
 fn kind_of_parts<K: Kind>(key: &[u8], count: &[u8], price: &[u8]) -> Option<K>
     ensures { let words = K.format.word ∷ key.now ∷ count.now ∷ price.now ∷ [] in
@@ -47,9 +47,9 @@ fn kind_of_parts<K: Kind>(key: &[u8], count: &[u8], price: &[u8]) -> Option<K>
 
 /// Reads the next kind of a group from the first line of `text`. Returns this kind, and the text after the line.
 ///
-/// `None` if the group ends here: `text` is empty, or its first line ends with LF and begins with another word than
-/// `K::word()`. The fault is `BadLine` if the line has no LF, or isn't the line of a valid kind after the kind `last`.
-/// This line is line `line` of the card.
+/// `None` if the group ends: `text` is empty, or its first line has an LF and another first word than `K::word()`. The
+/// fault is `BadLine` if the line has no LF, or isn't a valid kind's line after the kind `last`. This line is line
+/// `line` of the card.
 fn next_kind<K: Kind>(
     text: &[u8],
     last: Option<K>,

@@ -1,4 +1,4 @@
-//! Kinds: a kind is one entry for equal cables, columns, bars or rows, with their count and the price of each.
+//! Kinds: a kind is one entry for equal cables, columns, bars or rows. It has their count, and the price of each.
 ghost use Rattle.std.specs.Prelude.{◌≡◌, ◌≢◌, ◌↔◌, ℕ, ◌+◌, ◌<◌, ◌≤◌, [], ◌∷◌, ◌++◌, length, replicate, None};
 ghost use Rattle.std.specs.Prelude.{IsTrue, MatchOption};
 ghost use Rattle.arrayvec.specs.ArrayVec.{array_vec_len};
@@ -24,7 +24,7 @@ pub struct CableKind {
     pub price: i16,
 }
 
-/// A kind of columns of the table of costs: all columns with the same pair, or all empty columns, which have no pair.
+/// A kind of columns of the table of costs: all columns with the same pair, or all empty columns.
 #[derive(Clone, Copy, Default)]
 pub struct PairKind {
     /// The pair, or `None` for empty columns. In a valid kind, the pair's letters are in alphabetical order.
@@ -35,7 +35,7 @@ pub struct PairKind {
     pub price: i16,
 }
 
-/// A kind of bars: all bars with the same standing, that is, with their lugs at the same two places.
+/// A kind of bars: all bars with the same standing (the places of the two lugs).
 #[derive(Clone, Copy, Default)]
 pub struct BarKind {
     pub standing: Standing,
@@ -55,7 +55,7 @@ pub struct RowKind {
     pub price: i16,
 }
 
-/// A kind of cables, columns, bars or rows: their key (letters, standing or reading), their count, and the price of
+/// A kind: the key of equal cables, columns, bars or rows (letters, standing or reading), their count, and the price of
 /// each.
 #[derive(Clone, Copy, Default)]
 pub struct KindOf<T> {
@@ -96,7 +96,7 @@ pub trait Kind: Copy + Default {
     fn text(&self) -> ArrayString<8>
         ensures { result.bytes ≡ format.text (format.kind self.now).key };
 
-    /// Parses the key of a kind (its letters, its standing or its reading) from the key's text in the kind's line.
+    /// Parses the key of a kind (letters, standing or reading) from the key's text in the kind's line.
     fn key_of_text(text: &[u8]) -> Option<Self::Key>
         ensures { MatchOption result
             ((key : Self.Key) → ¬ (HasText format text.now key))
@@ -381,7 +381,7 @@ pub(crate) fn comes_after<K: Kind>(last: Option<K>, kind: &K) -> bool
     }
 }
 
-/// Whether a card may have `kind`: it is in form (`is_in_form`), its count is above 0, and its price within ±9999.
+/// Whether a card may have `kind`: `is_in_form` holds, the count is above 0, and the price is from -9999 to 9999.
 fn is_kind<K: Kind>(kind: &K) -> bool
     ensures { IsTrue result ↔ IsKind K.format kind.now }
 {

@@ -7,8 +7,7 @@ ghost use Rattle.kd_card.specs.Months.{CardsAreFewestInAll};
 
 /// Different cards have different texts, and no card's text is a proper prefix of another's.
 ///
-/// The text of a card has no fault. Bytes that aren't a card have at most one first fault, the one that `read_card`
-/// returns.
+/// The text of a card has no fault. Bytes that aren't a card have only one first fault, which `read_card` returns.
 pub fn no_two_cards_have_one_text()
     ensures card { TextsDetermineCards }
     ensures prefix { NoCardBeginsAnother }
@@ -27,13 +26,13 @@ pub fn loose_things_are_counted()
 
 /// Prices that fit give a lower bound for the length of each list of settings that reaches the day.
 ///
-/// The length is at least the number of loose things plus the sum of the prices.
+/// This bound is the sum of the prices plus the number of loose things.
 #[tactic(auto, using(crate::proofs::Months::fitting_prices_bound_lists))]
 pub fn fitting_prices_bound_lists()
     ensures { FittingPricesBoundLists }
 {}
 
-/// If a list reaches the day, and has no more unpriced settings than there are loose things, each setting is needed.
+/// If a list reaches the day with no more unpriced settings than loose things, each of its settings is needed.
 ///
 /// A setting is priced if it changes a cable or a bar, and priced settings always count as needed. An unpriced setting
 /// is needed if it lowers the number of loose things by one.
@@ -42,7 +41,7 @@ pub fn as_few_are_needed()
     ensures { AsFewAreNeeded }
 {}
 
-/// If a card with prices by number proves itself, the loose things and the prices add up to its number of settings.
+/// If a card with prices by number proves itself, its length is the prices' sum plus the number of loose things.
 ///
 /// Prices are *by number* if each cable and each column, or each bar and each row, has its own price.
 #[tactic(auto, using(crate::proofs::Months::proving_cards_are_as_long))]
@@ -57,7 +56,7 @@ pub fn proving_cards_are_shortest()
 
 /// If prices by kind show that a list of settings is shortest, no shorter list reaches the day.
 ///
-/// They show it if they fit, and if the number of loose things plus the sum of the prices is the number of settings.
+/// Prices show it if they fit, and if their sum plus the number of loose things is the number of settings.
 pub fn shown_lists_are_shortest()
     ensures { ShownListsAreShortest }
 {}
@@ -67,10 +66,9 @@ pub fn proving_prices_show()
     ensures { ProvingPricesShow }
 {}
 
-/// If a card with prices by number proves itself, no single price can be raised: the prices would no longer fit.
+/// If a card with prices by number proves itself, no price can be raised alone: the prices would no longer fit.
 ///
-/// The reason: each row and each column of the table of costs has a cell where the prices of row and column add up to
-/// the cost.
+/// The reason: each row and each column of the table of costs has a cell whose prices add up to the cost.
 #[tactic(auto, using(crate::proofs::Months::proving_prices_are_tight))]
 pub fn proving_prices_are_tight()
     ensures { ProvingPricesAreTight }
@@ -78,8 +76,8 @@ pub fn proving_prices_are_tight()
 
 /// On a rotor machine, cards that prove themselves have the fewest settings in total over several days.
 ///
-/// Each card begins with the machine that the card before it reaches. No other lists that reach the same days in turn,
-/// from the same first machine, have fewer settings in total.
+/// Each card begins with the machine that the card before it reaches. No other lists that reach these days, in this
+/// order and from the same first machine, have fewer.
 #[tactic(auto, using(crate::proofs::Months::cards_are_fewest_in_all))]
 pub fn cards_are_fewest_in_all()
     ensures { CardsAreFewestInAll }

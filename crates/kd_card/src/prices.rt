@@ -1,4 +1,5 @@
-//! The prices of a card: one for each cable, pair, bar or row (by number), or one for each kind of them (by kind).
+//! The prices of a card, by number or by kind. By number, each cable, column, bar or row has its own price. By kind,
+//! each kind of them has one price.
 ghost use Rattle.kd_card.specs.Prices.{price_sum, version_of, ArePricesInRange, IsPriceList, ArePrices};
 ghost use Rattle.kd_card.specs.{CardFault.first_text, CardText.price_lines, Kinds.IsGroup, Reading.head_prefix};
 ghost use Rattle.std.specs.Prelude.{◌≡◌, ◌↔◌, ◌+◌, ◌*◌, ◌≤◌, ◌++◌, length, fold, pos, unsigned_abs, ◌+ℤ◌, IsTrue};
@@ -8,12 +9,12 @@ use super::kinds::{BarKind, CableKind, Kind, PairKind, RowKind, are_kinds, price
 use arrayvec::ArrayVec;
 use std::marker::Model;
 
-/// Whether each cable, pair, bar or row of a card has its own price, or each kind of them has one price.
+/// Whether a card has prices by number or by kind.
 #[derive(Clone, Copy)]
 pub enum Version {
-    /// Each cable and each column, or each bar and each row of the sheet, has its own price.
+    /// Each cable and each column, or each bar and each row, has its own price.
     ByNumber,
-    /// Each kind of cables and each kind of columns, or each kind of bars and each kind of rows, has one price.
+    /// Each kind of cables and of columns, or each kind of bars and of rows, has one price.
     ByKind,
 }
 
@@ -42,14 +43,14 @@ impl Version {
     }
 }
 
-/// The table of costs that a card's prices are for: the table of cables and columns, or the table of bars and rows.
+/// The table of costs that a card's prices are for: of cables and columns, or of bars and rows.
 #[derive(Clone, Copy)]
 pub(crate) enum CostTable {
     Cables,
     Bars,
 }
 
-/// The prices of a card: a list for the rows of the table of costs, and a list for its columns.
+/// The prices of a card: a list for the rows of the table of costs, and one for its columns.
 #[derive(Drop)]
 pub enum PriceParts {
     /// A price for each cable, and a price for each column (a pair or an empty column).
@@ -62,7 +63,7 @@ pub enum PriceParts {
     BarKinds(ArrayVec<BarKind, 27>, ArrayVec<RowKind, 27>),
 }
 
-/// Valid prices of a card: each price is from -9999 to 9999, and if the prices are by kind, the kinds are valid.
+/// Valid prices of a card: each price is from -9999 to 9999, and any kinds are valid.
 #[derive(Drop)]
 pub struct Prices {
     parts: PriceParts,
@@ -109,9 +110,9 @@ impl Prices {
 
     /// Makes prices by kind: one for each kind of cables, and one for each kind of columns.
     ///
-    /// `None` if `cables` or `pairs` aren't strictly ascending, or the counts of either don't add up to 13. Also `None`
-    /// if a kind has two letters that are equal or out of order, a letter only at the second end, the count 0, or a
-    /// price below -9999 or above 9999.
+    /// `None` if `cables` or `pairs` aren't strictly ascending, or the counts of one list don't add up to 13. Also
+    /// `None` if a kind has letters that are equal or out of order, or a letter only at the second end. Also `None` if
+    /// a kind has the count 0, or a price below -9999 or above 9999.
     pub fn cable_kinds(cables: &[CableKind], pairs: &[PairKind]) -> Option<Self>
         ensures { let parts =
             PriceParts.CableKinds (record { items = cables.now }) (record { items = pairs.now }) in
@@ -123,8 +124,8 @@ impl Prices {
 
     /// Makes prices by kind: one for each kind of bars, and one for each kind of the sheet's rows.
     ///
-    /// `None` if `bars` or `rows` aren't strictly ascending, or the counts of either don't add up to 27. Also `None` if
-    /// a kind has the count 0, or a price below -9999 or above 9999.
+    /// `None` if `bars` or `rows` aren't strictly ascending, or the counts of one list don't add up to 27. Also `None`
+    /// if a kind has the count 0, or a price below -9999 or above 9999.
     pub fn bar_kinds(bars: &[BarKind], rows: &[RowKind]) -> Option<Self>
         ensures { let parts =
             PriceParts.BarKinds (record { items = bars.now }) (record { items = rows.now }) in
@@ -134,7 +135,7 @@ impl Prices {
         Some(Prices::of_parts(parts))
     }
 
-    /// Whether each cable, pair, bar or row has its own price (by number), or each kind has one price (by kind).
+    /// Whether the prices are by number or by kind.
     pub fn version(&self) -> Version
         ensures value { result ≡ version_of self.now }
         ensures are_prices { ArePrices self.now }

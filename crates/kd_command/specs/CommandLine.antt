@@ -67,11 +67,10 @@ desk_grammar = record {
 }
 
 -- ---- A command with other values in place of its files.
--- Code: `Command` has two type parameters: one for files that are read whole, and one for a file that is
--- streamed.
+-- Code: `Command` has two type parameters: for files that are read whole, and for a file that is streamed.
 -- Test: tests/cases/desk-program.toml
 
--- the task, with `f` applied to a file that is read whole, and `g` applied to a file that is streamed
+-- the task, with `f` applied to its file that is read whole, and `g` to its file that is streamed
 abbrev pub with_task_files : {F G O P : Type 0} → (F → G) → (O → P) → Task F O → Task G P
 with_task_files f g tasks.Card = tasks.Card
 with_task_files f g (tasks.Check card) = tasks.Check (f card)

@@ -9,7 +9,7 @@ use Rattle.kd_command.specs.declared.command.Action.{Action}
 use Rattle.kd_command.specs.declared.command.Task.{Task}
 use Rattle.kd_command.specs.CommandLine.{NamedCommand, IsCommandOf, command_shape, with_action_files, with_task_files}
 
--- a grammar whose only command is `shape`; this command has no subcommands
+-- a grammar whose only command is `shape`, without subcommands
 abbrev pub app_without_subcommands : Shape → App
 app_without_subcommands shape = record { top = shape; subs = [] }
 
@@ -27,7 +27,7 @@ pub record IsMadeOf (grammar : Grammar) (name : List ℕ) (words : List (Bor (Li
   pub shape : app_of grammar ≡ app_without_subcommands (borrowed_shape name words)
   pub local : (out-Command grammar).has_globals ≡ false
 
--- No command has this name and these values of its arguments.
+-- No command has this name and these values for its arguments.
 abbrev pub IsNoCommand : List ℕ × List Row → Type 0
 IsNoCommand said = (command : NamedCommand) → ¬ (IsCommandOf said command)
 

@@ -102,8 +102,8 @@ impl From<AllocError> for NoCommand {
 
 /// Parses the command line `words`, which begins with the program's own name.
 ///
-/// A file name that begins with `-` must come after the argument `--`, unless the name is `-` alone. The argument
-/// `--` may come once, after the command's name. An invalid command line gives `Usage`.
+/// A file name that begins with `-` must come after the argument `--`, unless it is `-` alone. The argument `--` may
+/// come once, after the command's name. An invalid command line gives `Usage`.
 pub fn parse_words<'a, S: AsStr>(
     alloc: Global,
     words: &'a [S],
@@ -122,7 +122,7 @@ pub fn parse_words<'a, S: AsStr>(
     command_of(name, words).ok_or(NoCommand::Usage)
 }
 
-/// The command named `name`; its file names and its day are the arguments in `words`.
+/// The command named `name`. The arguments in `words` give its file names and its day.
 fn command_of<'a>(name: &str, words: &ArgMatches<'a>) -> Option<NamedCommand<'a>>
     ensures said { IfSome result (λ command.
         IsCommandOf (name.now, rows_of (found_of words.now)) (unborrowed_command command)) }
@@ -133,7 +133,7 @@ fn command_of<'a>(name: &str, words: &ArgMatches<'a>) -> Option<NamedCommand<'a>
     Some(Command { machine, action })
 }
 
-/// The action of the command named `name`; its file names and its day are the arguments in `words`.
+/// The action of the command named `name`. The arguments in `words` give its file names and its day.
 fn action_of<'a>(name: &str, words: &ArgMatches<'a>) -> Option<NamedAction<'a>>
     ensures said { IfSome result (λ action.
         IsActionOf (name.now, rows_of (found_of words.now)) (unborrowed_action action)) }

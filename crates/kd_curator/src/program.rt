@@ -207,7 +207,6 @@ fn answer_other_words<W: Sink>(none: NoCommand, sink: &mut W) -> Result<(), Stop
     }
 }
 
-/// Reads the files of `command`.
 fn read_files<'n, F: Files<'n>>(
     alloc: Global,
     command: NamedCommand<'n>,

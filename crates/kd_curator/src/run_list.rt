@@ -58,7 +58,6 @@ pub fn write_list<W: Sink>(
     Ok(())
 }
 
-/// Writes the line of each setting.
 fn put_lines<W: Sink>(sink: &mut W, settings: &[Setting]) -> Result<(), Device>
     ensures text { Writes (W.taken sink.old) (W.taken sink.new) (list_text settings.now) result }
     ensures in_range { OnOk result (All IsSettingInRange settings.now) }

@@ -41,7 +41,6 @@ pub fn end_program<E: Sink>(answer: &Result<(), Stop>, errors: &mut E) -> u8
     }
 }
 
-/// The line on standard error for a refusal.
 fn refusal_line(refused: Refused) -> DayLine
     ensures { result.bytes ≡ refusal_line refused }
 {

@@ -430,7 +430,6 @@ fn sheet_of<'a>(words: &ArgMatches<'a>) -> Option<NamedCommand<'a>>
     Some(Command::EmptySheet { model, days })
 }
 
-/// The options of `sheet` in `words`.
 fn options_of<'a>(words: &ArgMatches<'a>) -> TableOptions<&'a str>
     ensures { texts_of result ≡ option_texts (rows_of (found_of words.now)) }
 {

@@ -220,7 +220,6 @@ fn program_grammar<'a>(alloc: Global) -> Grammar<'a>
         .arg_required_else_help(true)
 }
 
-/// Adds `commands` to `grammar`.
 fn with_commands<'a>(
     alloc: Global,
     grammar: Grammar<'a>,
@@ -237,7 +236,6 @@ fn with_commands<'a>(
     Ok(grammar)
 }
 
-/// The grammar of a command.
 fn command_grammar<'a>(alloc: Global, words: &CommandWords<'a>) -> Result<Grammar<'a>, AllocError>
     ensures { IfOk result (λ grammar. IsMadeOf grammar (shape_of words.now)) }
 {

@@ -6,7 +6,7 @@ use Rattle.kd_desk.specs.declared.fault.DeskFault.{DeskFault}
 use Rattle.kd_desk.specs.declared.fault.DeskFault.TheVariants.{File, Device, ReadTooLong, Message}
 use Rattle.kd_form.specs.Streams.{is_off_key}
 
--- The answer is `NoMemory`. No clause says that memory really ran out.
+-- The answer is `NoMemory`. No contract says that memory has really run out.
 abbrev pub LacksMemory : {A : Type 0} → Result A DeskFault → Type 0
 LacksMemory answer = answer ≡ Err (File NoMemory)
 
@@ -14,7 +14,7 @@ LacksMemory answer = answer ≡ Err (File NoMemory)
 abbrev pub AnswersFault : Result (Unit {0}) DeskFault → DeskFault → Type 0
 AnswersFault answer fault = (answer ≡ Err fault) ⊎ LacksMemory answer
 
--- whether a call was refused before it read a message or wrote anything; a message is a text, an order or a form
+-- whether a call was refused before it read a message (a text, an order or a form) or wrote anything
 abbrev pub is_refused_before_message : Result (Unit {0}) DeskFault → Bool
 is_refused_before_message (Ok _) = false
 is_refused_before_message (Err Device) = false

@@ -30,6 +30,7 @@ status_of (Err (Unread fault)) = 1
 status_of (Err ReadFailed) = 1
 status_of (Err (Refused fault)) = 1
 
--- The program ends with the line and the exit status for `answer`, or with a prefix of the line if standard error failed.
+-- The program ends with the line and the exit status for `answer`. If standard error failed, only a prefix of the line
+-- was written.
 abbrev pub EndsAs : Result (Unit {0}) Stop → Port → ℕ → Type 0
 EndsAs answer errors status = EndsWithLine (error_text answer) (status_of answer) errors status

@@ -1,5 +1,4 @@
--- If a machine uses only its first `number` cables, and no day of a month has more than `number` pairs, no other cable
--- is needed.
+-- If a machine uses only its first `number` cables, they suffice for a month of days with at most `number` pairs.
 use Rattle.std.specs.Prelude.{◌≡◌, ℕ, List, Option, Some, Ok, All}
 use Rattle.kd_state.specs.declared.machine.parts.Parts.{Parts}
 use Rattle.kd_state.specs.declared.setting.Setting.{Setting}
@@ -31,8 +30,8 @@ pub record UsesFirstCablesOnly (number : ℕ) (papers : CardAndFile) : Type 0 wh
   pub card : CardNamesNoneAbove number papers.card
   pub file : FileUsesNoneAbove number papers.file
 
--- If the first machine file uses only the first `number` cables, and each day has at most `number` pairs, the month
--- uses only these cables. So a machine that uses only cables 1 to 10 needs no other cable for at most ten pairs a day.
+-- The first machine file uses only the first `number` cables, and each day has at most `number` pairs. Then the month
+-- uses only these cables. So if only cables 1 to 10 are in use, they suffice for ten pairs a day.
 abbrev pub FewCablesServeAMonth : Type 0
 FewCablesServeAMonth =
     (number : ℕ) (file sheet days : List ℕ) (papers : List CardAndFile) → AreWrittenInTurn file sheet days papers

@@ -29,8 +29,8 @@ with_action_stream g action = with_action_files (λ file. file) g action
 abbrev pub HasNoFailedRead : {O : Type 0} → (O → Bool) → Option O → Type 0
 HasNoFailedRead failed file = IfSome file (λ f. failed f ≡ false)
 
--- A task was carried out, as `IsCommandDone` says of a command: with the machine file `machine` and day `number` of the
--- key sheet `sheet`.
+-- A task was carried out as `IsCommandDone` says of a command. It has the machine file `machine`, and day `number` of
+-- the key sheet `sheet`.
 pub record IsTaskDone (left : KnownFile) (machine sheet : List ℕ) (number : ℕ) (task : KnownTask) (sink : Port)
     (answer : Result (Unit {0}) Stop) : Type 0 where
   pub told : Result (Unit {0}) DeskFault
@@ -40,8 +40,7 @@ pub record IsTaskDone (left : KnownFile) (machine sheet : List ℕ) (number : �
 
 -- ---- Writing a day of a month. No public contract cites these definitions.
 
--- With a machine file of `m` and a key sheet with the day `s`, the desk can write a card for the day, and then a
--- machine file of `n`.
+-- For the day `s`, the desk can write a card from the machine `m`, and then a machine file of `n`.
 abbrev pub CanWriteDay : Parts → Day → Parts → Type 0
 CanWriteDay m s n = (file sheet : List ℕ) → machine_and_day file sheet (day_number s) ≡ Ok (m, s)
     → (papers : CardAndFile) × AreWritten file sheet (day_number s) papers × (machine_of papers.file ≡ Ok n)

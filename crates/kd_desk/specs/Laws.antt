@@ -29,14 +29,14 @@ SettingsHaveOneFault =
 
 -- ---- The laws of a month: its cards set the machine to each day, on an Enigma by the fewest settings in all.
 
--- If cards and machine files are written for one day after another, they set the machine to these days in turn.
+-- Cards and machine files, written for one day after another, set the machine to each of these days.
 abbrev pub MonthsSetTheMachine : Type 0
 MonthsSetTheMachine =
     (file sheet numbers : List ℕ) (papers : List CardAndFile) → AreWrittenInTurn file sheet numbers papers
     → SetTheMachineInTurn file sheet numbers papers
 
--- On a rotor machine, the cards written for days of a sheet, one after another, have the fewest settings in all. Other
--- lists that start from the same machine, and reach the same days in the same order, have no fewer settings.
+-- On a rotor machine, cards written for one day after another have the fewest settings in all. Other lists that reach
+-- these days, in this order and from the same machine, have no fewer settings.
 abbrev pub MonthsAreFewest : Type 0
 MonthsAreFewest =
     (file sheet numbers : List ℕ) (papers : List CardAndFile) (m : Parts) (month : List (Option Day)) (days : List Day)

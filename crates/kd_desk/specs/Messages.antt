@@ -15,7 +15,7 @@ use Rattle.kd_desk.specs.declared.fault.DeskFault.{DeskFault}
 use Rattle.kd_desk.specs.declared.fault.DeskFault.TheVariants as faults
 use Rattle.kd_tables.specs.Ports.{Port}
 
--- the desk's fault for a message's fault: `Device` and `ReadTooLong` stay, and any other fault becomes a `Message`
+-- the desk's fault for a message's fault: `Device` and `ReadTooLong` stay, any other fault becomes a `Message`
 abbrev pub fault_of_message : FormFault → DeskFault
 fault_of_message message.Device = faults.Device
 fault_of_message message.ReadTooLong = faults.ReadTooLong
@@ -45,9 +45,9 @@ IsStreamedOn m s message source sink answer = IsAnswered (StreamsOnKey m s messa
 abbrev pub Sends : Parts → Day → Port → Port → Result (Unit {0}) DeskFault → Type 0
 Sends m s order sink answer = IsStreamedOn m s (order_message s) order sink answer
 
--- How the forms and the orders of day `s` agree. If a form is made from an order, the form's text is the text that the
--- receiver must get. A form with a fault isn't made from any order. If no further bytes can change the fault, no order
--- makes a form that begins with the bytes of the faulty form.
+-- How the forms and the orders of day `s` agree. If a form is made from an order, its text is the text that the
+-- receiver must get. A form with a fault is made from no order. If no further bytes can change the fault, no order's
+-- form begins with the faulty form.
 pub record FormsAgreeWithOrders (s : Day) : Type 0 where
   pub back : (form text order given : List ℕ) → IsTextOf s form text → IsFormOf s order form
       → IsPlaintextOf s order given → text ≡ given

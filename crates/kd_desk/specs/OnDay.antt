@@ -1,4 +1,4 @@
--- How a machine is found in a machine file, and a day in a key sheet, for a call that needs both.
+-- How a call finds a machine in a machine file, and a day in a key sheet.
 -- Test: tests/cases/desk-program.toml
 use Rattle.std.specs.Prelude.{◌≡◌, ◌⊎◌, ℕ, List, Result, Ok, Err, MatchResult, ok_or}
 use Rattle.std.specs.Result.{result_map_both}
@@ -16,7 +16,7 @@ use Rattle.kd_desk.specs.CallAnswers.{LacksMemory}
 abbrev pub or_file_fault : {A : Type 0} → Result A SheetFault → Result A DeskFault
 or_file_fault read = result_map_both (λ value. value) File read
 
--- the machine of a machine file, with day `number` of a key sheet; or the first fault: a file's fault or `NoSuchDay`
+-- the machine of a machine file, and day `number` of a key sheet; or the first fault, such as `NoSuchDay`
 unfoldable pub machine_and_day : List ℕ → List ℕ → ℕ → Result (Parts × Day) DeskFault
 machine_and_day machine sheet number = do
   m ← or_file_fault (machine_of machine)
@@ -24,8 +24,8 @@ machine_and_day machine sheet number = do
   day ← ok_or (day_of month number) NoSuchDay
   Ok (m, day)
 
--- The machine and the day satisfy `Holds`; or one of them can't be found, and the answer is the first fault; or memory
--- ran out.
+-- The machine and the day satisfy `Holds`. Or the machine or the day can't be found, and the answer is the first fault.
+-- Or memory ran out.
 abbrev pub IsAnswerOnDay : List ℕ → List ℕ → ℕ → (Parts → Day → Type 0) → Result (Unit {0}) DeskFault → Type 0
 IsAnswerOnDay machine sheet number Holds answer =
     MatchResult (machine_and_day machine sheet number) (λ found. Holds found.0 found.1) (λ fault. answer ≡ Err fault)

@@ -33,8 +33,8 @@ use Rattle.kd_desk.specs.RunCard.{IsChosenCard, Prints}
 use Rattle.kd_desk.specs.RunCheck.{Checks}
 use Rattle.kd_desk.specs.CallAnswers.{LacksMemory, AnswersFault, is_refused_before_message, is_device}
 
--- A task whose files have been read or opened: it has the bytes of a file that is read whole, and a `KnownFile` for an
--- opened file.
+-- A task whose files have been read or opened. A file that is read whole is given by its bytes, an opened file by a
+-- `KnownFile`.
 abbrev pub KnownTask : Type 0
 KnownTask = Task (List ℕ) KnownFile
 
@@ -49,7 +49,7 @@ abbrev pub with_file : {F X : Type 0} → Result F FileFault → (F → Result X
 with_file (Ok file) made = made file
 with_file (Err fault) made = Err fault
 
--- the task once its files are read or opened, or the fault of the first file that can't be read or opened
+-- the task with its files read or opened, or the fault of the first file for which this fails
 abbrev pub known_task : (List ℕ → Option (List ℕ)) → NamedTask → Result KnownTask FileFault
 known_task held tasks.Card = Ok tasks.Card
 known_task held (tasks.Check card) = with_file (content_of (held card)) (λ bytes. Ok (tasks.Check bytes))
@@ -70,12 +70,12 @@ known_command held command =
 
 -- ---- What each command does, as the contract of its function promises.
 
--- A text was typed on the machine of a machine file, or the machine file was refused, or memory ran out.
+-- A text was typed on the machine of a machine file. Or the machine file was refused, or memory ran out.
 pub record TypesOn (machine : List ℕ) (source sink : Port) (answer : Result (Unit {0}) DeskFault) : Type 0 where
   pub refused : IfErr (machine_of machine) (λ fault. AnswersFault answer (File fault))
   pub typed : IfOk (machine_of machine) (λ m. TypesText m source sink answer ⊎ LacksMemory answer)
 
--- Settings were carried out on the machine of a machine file, or the machine file was refused, or memory ran out.
+-- Settings were carried out on the machine of a machine file. Or the machine file was refused, or memory ran out.
 pub record AppliesTo (machine list : List ℕ) (sink : Port) (answer : Result (Unit {0}) DeskFault) : Type 0 where
   pub refused : IfErr (machine_of machine) (λ fault. AnswersFault answer (File fault))
   pub applied : IfOk (machine_of machine) (λ m. Applies m list sink answer ⊎ LacksMemory answer)
@@ -100,11 +100,11 @@ DoesCommand command source sink answer = DoesAction command.machine command.acti
 
 -- ---- How a command is carried out, and what is left of the file that it opened.
 
--- the opened file as a port: `file` is what is known of it before a call, and `left` after the call
+-- the opened file as a port: `file` is what is known of it before a call, `left` after the call
 abbrev pub file_port : KnownFile → KnownFile → Port
 file_port left file = record { had = file.bytes; has = left.bytes; had_failed = file.failed; has_failed = left.failed }
 
--- Whether a command opened a file and a read of this file failed. `left` is what is known of the file after the call.
+-- Whether a command opened a file, and a read of the file failed. `left` is what is known of the file after the call.
 abbrev pub has_file_failed : Option KnownFile → KnownFile → Bool
 has_file_failed None left = false
 has_file_failed (Some file) left = left.failed
@@ -114,14 +114,14 @@ abbrev pub StopsForMemory : Result (Unit {0}) Stop → Type 0
 StopsForMemory answer = (answer ≡ Err (Refused (File NoMemory))) ⊎ (answer ≡ Err (Unread files.NoMemory))
 
 -- A command was carried out. `told` is the answer of the command's call, such as `run_card`, and `answer` is the
--- program's answer. `left` is what is known of the opened file once the program has given it back.
+-- program's answer. `left` is what is known of the opened file after the program has given it back.
 pub record IsCommandDone (left : KnownFile) (command : KnownCommand) (source sink : Port)
     (answer : Result (Unit {0}) Stop) : Type 0 where
   pub told : Result (Unit {0}) DeskFault
   pub does : DoesCommand (with_command_stream (file_port left) command) source sink told
   pub answers : answer ≡ stop_after (has_file_failed (command_stream command) left) told
 
--- A command was carried out; or a file of the command couldn't be read or opened; or memory ran out.
+-- A command was carried out. Or a file of the command couldn't be read or opened, or memory ran out.
 abbrev pub CarriesOut : KnownFile → Result KnownCommand FileFault → Port → Port → Result (Unit {0}) Stop → Type 0
 CarriesOut left (Ok command) source sink answer =
     IsCommandDone left command source sink answer ⊎ StopsForMemory answer
@@ -129,7 +129,7 @@ CarriesOut left (Err fault) source sink answer = (answer ≡ Err (Unread fault))
 
 -- ---- What holds of the program's answer: the command's answer, the files asked for, and the ports.
 
--- whether the program stopped before it read a message or wrote anything; a message is a text, an order or a form
+-- whether the program stopped before it read a message (a text, an order or a form) or wrote anything
 abbrev pub is_stopped_before_message : Result (Unit {0}) Stop → Bool
 is_stopped_before_message (Ok _) = false
 is_stopped_before_message (Err Usage) = true
@@ -142,9 +142,10 @@ abbrev pub is_stopped_by_port : Result (Unit {0}) Stop → Bool
 is_stopped_by_port (Err (Refused fault)) = is_device (Err fault)
 is_stopped_by_port _ = false
 
--- `asked` has the file names that were asked for. If the answer is `Usage`: none. If it is `Unread`: the names up to
--- and including the first file that couldn't be read or opened. Otherwise: all names, or none if memory ran out while
--- the command line was read.
+-- `asked` has the file names that were asked for:
+-- - none, if the answer is `Usage`;
+-- - if it is `Unread`, the names up to and including the first file that couldn't be read or opened;
+-- - otherwise all names, or none if memory ran out while the command line was read.
 abbrev pub AsksFor : List (List ℕ) → List AskedName → Result (Unit {0}) Stop → Type 0
 AsksFor names asked (Err Usage) = asked ≡ []
 AsksFor names asked (Err (Unread fault)) = AreAskedFor names [] asked false
@@ -157,8 +158,8 @@ abbrev pub CarriesOutKnown : KnownFile → Option (List ℕ → Option (List ℕ
 CarriesOutKnown left known command source sink answer =
     IfSome known (λ held. CarriesOut left (known_command held command) source sink answer)
 
--- The program's answer to a command line. `carried`: the command is carried out, if the files' bytes are known; `left`
--- is the opened file as the program gave it back. `asks`, `none_asked`: which files are asked for. `usage`,
+-- The program's answer to a command line. `left` is the opened file as the program gave it back. `carried`: the command
+-- is carried out, if the files' bytes are known. `asks`, `none_asked`: which files are asked for. `usage`,
 -- `other_words`: when the answer is `Usage`. `untouched`, `failed`: what happens to the ports.
 pub record IsRun (words : List (List ℕ)) (known : Option (List ℕ → Option (List ℕ))) (left : KnownFile)
     (asked : List AskedName) (source sink : Port) (Untouched : Type 0) (answer : Result (Unit {0}) Stop) : Type 0 where
@@ -171,7 +172,7 @@ pub record IsRun (words : List (List ℕ)) (known : Option (List ℕ → Option 
   pub untouched : IsTrue (is_stopped_before_message answer) → Untouched
   pub failed : FailureAgrees source sink (is_stopped_by_port answer)
 
--- The program's answer satisfies `IsSo`, and the program ended with the line and the exit status for this answer.
+-- The program's answer satisfies `IsSo`. The program ended with the line and the exit status for this answer.
 pub record HasEnded (IsSo : Result (Unit {0}) Stop → Type 0) (errors : Port) (status : ℕ) : Type 0 where
   pub answer : Result (Unit {0}) Stop
   pub is_so : IsSo answer

@@ -29,8 +29,8 @@ pub record IsShortestCard (machine : Parts) (day : Day) (settings : List Setting
   pub shown : ShowShortest machine day settings prices
   pub deciphers : EquallySetDecipherOn day
 
--- A card that satisfies `Promise` was written for day `number`, or a prefix of the card was written and the sink
--- failed.
+-- A card that satisfies `Promise` was written for day `number`. Or the sink failed, and only a prefix of the card was
+-- written.
 pub record WritesCard (Promise : List Setting → PriceParts → Type 0) (number : ℕ) (sink : Port)
     (answer : Result (Unit {0}) DeskFault) : Type 0 where
   pub settings : List Setting

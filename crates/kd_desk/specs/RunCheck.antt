@@ -17,7 +17,7 @@ use Rattle.kd_desk.specs.declared.fault.DeskFault.TheVariants as faults
 use Rattle.kd_tables.specs.Ports.{Port}
 use Rattle.kd_host.specs.Writing.{WritesText}
 
--- the line that calls a card with `number` settings shortest
+-- the line that says that a card with `number` settings is shortest
 abbrev pub verdict_text : ℕ → List ℕ
 verdict_text number = codes "SHORTEST " ++ decimal number ++ 10 ∷ []
 
@@ -30,8 +30,11 @@ pub record IsVerdictWritten (m : Parts) (s : Day) (settings : List Setting) (pri
   pub shortest : IsShortest m s settings
   pub written : WritesText faults.Device (verdict_text (length settings)) sink answer
 
--- The checker answers with the first of these faults that applies: the fault of the card's bytes, `OtherDay`, and the
--- first reason why the card doesn't prove itself. If none applies, it writes the line that says SHORTEST.
+-- The checker's answer is the first of these faults that applies:
+-- - the fault of the card's bytes;
+-- - `OtherDay`;
+-- - the first reason why the card doesn't prove itself.
+-- If none applies, the checker writes the line that says SHORTEST.
 pub data Checks (m : Parts) (s : Day) (number : ℕ) (bytes : List ℕ) (sink : Port)
     (answer : Result (Unit {0}) DeskFault) : Type 0 where
   NoCard : (fault : CardFault) → IsCardFault bytes fault → answer ≡ Err (faults.Card fault)

@@ -1,5 +1,5 @@
 -- Settings as bytes: a card if the bytes begin as a card does, otherwise a list.
--- Code: `read_settings` looks at the first five bytes, and then calls the reader of cards or the reader of lists.
+-- Code: `read_settings` looks at the first five bytes, and then calls the reader of cards or of lists.
 -- Test: tests/cases/desk-cards.toml
 use Rattle.std.specs.Prelude.{codes, ◌≡◌, ℕ, nat_eq, Bool, List, IsTrue, IsFalse}
 use Rattle.std.specs.List.{starts_with}
@@ -17,14 +17,13 @@ use Rattle.kd_desk.specs.declared.fault.DeskFault.TheVariants as faults
 abbrev pub begins_as_card : List ℕ → Bool
 begins_as_card bytes = starts_with nat_eq bytes (codes "CARD ")
 
--- The bytes are a card with the settings `settings`, for any day and with any prices; or they are a list of
--- `settings`.
+-- The bytes are a card with the settings `settings`, for any day and with any prices. Or they are a list of `settings`.
 pub data AreSettings (bytes : List ℕ) (settings : List Setting) : Type 0 where
   OfCard : IsTrue (begins_as_card bytes) → (day : ℕ) (prices : PriceParts) → IsCard bytes day settings prices
       → AreSettings bytes settings
   OfList : IsFalse (begins_as_card bytes) → IsListText bytes settings → AreSettings bytes settings
 
--- `fault` is the fault of `bytes`, read as a card if they begin with `CARD` and a space, and otherwise as a list.
+-- `fault` is the fault of `bytes` as a card if they begin with `CARD` and a space, otherwise as a list.
 pub data IsSettingsFault (bytes : List ℕ) (fault : DeskFault) : Type 0 where
   InCard : IsTrue (begins_as_card bytes) → (card : CardFault) → IsCardFault bytes card → fault ≡ faults.Card card
       → IsSettingsFault bytes fault

@@ -16,7 +16,7 @@ abbrev pub stop_without_command : NoCommand → Stop
 stop_without_command none.Usage = Usage
 stop_without_command none.NoMemory = Refused (File NoMemory)
 
--- why the command line can't be read, by the kind of the error: no memory, or an argument that isn't UTF-8
+-- why the command line can't be read, by the kind of error: no memory, or an argument that isn't UTF-8
 abbrev pub stop_of_kind : ErrorKind → Stop
 stop_of_kind OutOfMemory = Refused (File NoMemory)
 stop_of_kind _ = Usage

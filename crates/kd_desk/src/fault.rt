@@ -41,7 +41,7 @@ pub enum DeskFault {
 }
 
 impl DeskFault {
-    /// Returns the refusal's number and name, followed by the fault's values, such as a line or a key, if it has any.
+    /// The refusal's number and name, and then any values of the fault, such as a line or a key.
     pub fn text(&self) -> Text
         ensures { result.bytes ≡ desk_fault_text self.now }
     {

@@ -24,26 +24,26 @@ pub fn bytes_give_one_list_or_one_fault()
     ensures one_fault { SettingsHaveOneFault }
 {}
 
-/// Cards and machine files, written for days of a sheet in turn, set the machine to each of these days.
+/// Cards and machine files, written for one day of a sheet after another, set the machine to each of these days.
 ///
-/// Each card's settings lead from the machine of one file to the machine of the next file. The machine of the next file
-/// is set as the day says, shows the day's letters, and enciphers as the day asks. No fewer settings lead to the day.
+/// Each card's settings lead from the machine of one file to the machine of the next file. The next file's machine is
+/// set as the day says, shows the day's letters, and enciphers as the day asks. No fewer settings lead to the day.
 pub fn months_set_the_machine()
     ensures { MonthsSetTheMachine }
 {}
 
 /// On a rotor machine, a month's cards have the fewest settings in all.
 ///
-/// Other lists that start from the same machine, and reach the same days in the same order, have no fewer settings.
+/// Other lists that reach these days, in this order and from the same machine, have no fewer settings.
 #[tactic(auto, using(crate::proofs::Months::months_are_fewest))]
 pub fn months_are_fewest()
     ensures { MonthsAreFewest }
 {}
 
-/// If a machine uses only its first `number` cables, and no day has more than `number` pairs, no other cable is needed.
+/// If a machine uses only its first `number` cables, they suffice for a month of days with at most `number` pairs.
 ///
-/// For example, a machine uses only its first ten cables, and no day of the month has more than ten pairs. Then no card
-/// of the month names another cable, and the machine never uses one.
+/// For example, a machine uses only its first ten cables, and each day has at most ten pairs. Then the month's cards
+/// name only these cables, and only these are used.
 pub fn few_cables_serve_a_month()
     ensures { FewCablesServeAMonth }
 {}

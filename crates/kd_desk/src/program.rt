@@ -31,11 +31,11 @@ use std::convert::AsStr;
 
 /// Carries out the command line `words`, which begins with the program's own name.
 ///
-/// Returns the exit status: 0 for success, 2 for an invalid command line, 1 for a refusal. With status 1 or 2, one
-/// line that says why is written to `errors`, or a prefix of the line if `errors` fails. Each file is read or opened
-/// once, in the order of the command line. An order or a form is opened in its turn, but read only while the command
-/// is carried out. Every other file is read whole before the next file is read or opened. If a file can't be read or
-/// opened, no later file is asked for, nothing is read from `source`, and nothing is written to `sink`.
+/// Returns the exit status: 0 for success, 2 for an invalid command line, 1 for a refusal. With status 1 or 2, one line
+/// on `errors` says why. If `errors` fails, only a prefix of the line is written. Each file is read or opened once, in
+/// the order of the command line. An order or a form is opened in its turn, but read only while the command is carried
+/// out. Every other file is read whole before the next file is read or opened. If a file can't be read or opened, no
+/// later file is asked for. Then nothing is read from `source`, and nothing is written to `sink`.
 pub fn run_desk<'n, S: AsStr, F: Files<'n>, R: Source, W: Sink, E: Sink>(
     alloc: Global,
     words: &'n [S],
@@ -55,7 +55,7 @@ pub fn run_desk<'n, S: AsStr, F: Files<'n>, R: Source, W: Sink, E: Sink>(
     end_program(run_words(alloc, words, files, source, sink), errors)
 }
 
-/// Carries out the command line `words` as `run_desk` does, but returns why the program stops, and writes no line.
+/// Carries out the command line `words` as `run_desk` does. Returns why the program stops, instead of writing a line.
 pub fn run_words<'n, S: AsStr, F: Files<'n>, R: Source, W: Sink>(
     alloc: Global,
     words: &'n [S],

@@ -13,11 +13,11 @@ use kd_state::{Machine, carry_all};
 use kd_tables::Sink;
 use std::alloc::Global;
 
-/// Carries out the settings of `list` on the machine in the file `machine`; writes the new machine file.
+/// Carries out the settings of `list` on the machine in the file `machine`, and writes the new machine file.
 ///
 /// `list` is a list of settings or a card; a card may be for any day, and have any prices. Faults are tested in this
-/// order: faults of the machine file, faults of `list`, and the first line that the machine refuses. For all of these
-/// faults, nothing is written. For `Device`, only a prefix of the new file is written.
+/// order: faults of the machine file, faults of `list`, and then refused lines. For all of these faults, nothing is
+/// written. For `Device`, only a prefix of the new file is written.
 pub fn run_apply<W: Sink>(
     alloc: Global,
     machine: &[u8],

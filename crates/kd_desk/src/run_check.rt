@@ -20,9 +20,9 @@ use std::alloc::Global;
 /// Checks that `card` proves itself shortest, from the machine in `machine` to day `number` of `sheet`.
 ///
 /// `machine` is a machine file, and `sheet` a key sheet. If the card's prices prove the card shortest, writes SHORTEST
-/// and the number of its settings. Faults are tested in this order: faults of the machine file, faults of the sheet,
-/// `NoSuchDay`, faults of the card, `OtherDay`, and `Doubtful`. `Doubtful` has the first reason why the card doesn't
-/// prove itself. For all of these faults, nothing is written. For `Device`, only a prefix of the line is written.
+/// and the number of its settings. Faults are tested in this order: of the machine file, of the sheet, `NoSuchDay`, of
+/// the card, `OtherDay`, `Doubtful`. `Doubtful` has the first reason why the card doesn't prove itself. For all of
+/// these faults, nothing is written. For `Device`, only a prefix of the line is written.
 pub fn run_check<W: Sink>(
     alloc: Global,
     machine: &[u8],
@@ -62,7 +62,7 @@ pub fn check_card<W: Sink>(
     Ok(())
 }
 
-/// Writes the line that calls a card with `number` settings shortest.
+/// Writes the line that says that a card with `number` settings is shortest.
 fn write_verdict<W: Sink>(sink: &mut W, number: usize) -> Result<(), Device>
     ensures text { Writes (W.taken sink.old) (W.taken sink.new) (verdict_text number) result }
     ensures failed { W.has_failed sink.new ≡ (W.has_failed sink.old || is_err result) }

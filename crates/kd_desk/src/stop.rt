@@ -74,7 +74,7 @@ impl Stop {
     }
 }
 
-/// Writes to `errors` the line for the `Stop` in `answer`, if there is one; returns the exit status.
+/// Writes to `errors` the line for the `Stop` in `answer`, if there is one, and returns the exit status.
 ///
 /// The exit status is the same even if the line can't be written.
 pub fn end_program<E: Sink>(answer: Result<(), Stop>, errors: &mut E) -> u8

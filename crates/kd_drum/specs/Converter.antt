@@ -1,8 +1,8 @@
--- The cipher of the Converter M-209 reverses each letter (A becomes Z), and moves it on by the number of bars that the
--- wheels meet. Wheels are numbered from 1 to 6. Letters of a text and places of a wheel are counted from 0.
+-- The cipher of the Converter M-209. It reverses each letter (A becomes Z), and moves it on by the number of bars that
+-- the wheels meet. Wheels are numbered from 1 to 6. Letters of a text and places of a wheel are counted from 0.
 -- Source: War Department TM 11-380
--- Code: `Converter` turns its wheels at each letter. A table with an entry for each of the 64 sets of wheels tells how
--- many bars are met.
+-- Code: `Converter` turns its wheels at each letter. A table says for each of the 64 sets of wheels how many bars they
+-- meet.
 -- Test: bars_are_met, tests/cases/desk-files.toml
 use Rattle.std.specs.Prelude.{ℕ, ◌+◌, ◌-◌, ◌%◌, ◌≤◌, nat_le, Bool, ◌&&◌, ◌||◌, List, length, map, slice_index}
 use Rattle.std.specs.Prelude.{Contains, unwrap_or}
@@ -12,7 +12,8 @@ use Rattle.kd_pins.specs.PinWheel.{is_effective}
 use Rattle.kd_pins.specs.PinWheels.{pin_wheels, pins_on, acting_offset}
 
 -- A key of the Converter. `pins`: which pins of its six wheels are effective. `letters`: the letters that they show.
--- `bars`: for each bar, the numbers of the wheels at its two lugs, in any order; 0 where there is no wheel.
+-- `bars`: for each bar, the numbers of the wheels at its two lugs, in either order. The number is 0 at a place without
+-- a wheel.
 pub record PinKey : Type 0 where
   pub pins : List (List Bool)
   pub letters : List ℕ
@@ -27,22 +28,22 @@ abbrev pub IsEachOnItsWheel : List ℕ → Type 0
 IsEachOnItsWheel letters = (wheel : ℕ) → 1 ≤ wheel → wheel ≤ 6
     → Contains (ring_of wheel) (slice_index letters (wheel - 1))
 
--- the place of the letter that a wheel has to show (`letters` has one for each wheel); 0 if the wheel lacks this letter
+-- the place of the letter of `letters` that wheel `wheel` shows; 0 if the wheel lacks this letter
 abbrev pub shown_place : List ℕ → ℕ → ℕ
 shown_place letters wheel = unwrap_or (place_on (ring_of wheel) (slice_index letters (wheel - 1))) 0
 
--- whether wheel `wheel` has an effective acting pin after `count` letters; before them, the wheels show `letters`
+-- whether wheel `wheel` has an effective acting pin after `count` letters, if the wheels showed `letters` before
 abbrev pub is_acting_after : List (List Bool) → List ℕ → ℕ → ℕ → Bool
 is_acting_after pins letters count wheel =
     (nat_le 1 wheel && nat_le wheel 6) && is_effective (pins_on pins wheel)
     ((shown_place letters wheel + count + acting_offset wheel) % length (ring_of wheel))
 
--- how many bars are met after `count` letters; a bar is met if it has a lug at a wheel with an effective acting pin
+-- the number of bars met after `count` letters. A bar is met if it has a lug at a wheel with an effective acting pin.
 abbrev pub bars_met : PinKey → ℕ → ℕ
 bars_met key count =
     let acts = is_acting_after key.pins key.letters count in count_by (λ bar. acts bar.0 || acts bar.1) key.bars
 
--- The ciphertext of `text`: each letter is reversed (A becomes Z), and then moved on by the number of bars met.
+-- The ciphertext of `text`. Each letter is reversed (A becomes Z), and then moved on by the number of bars met.
 abbrev pub converter_cipher : PinKey → List ℕ → List ℕ
 converter_cipher key text = map (λ numbered. (25 + bars_met key numbered.0 - numbered.1) % 26) (enumerate_from 0 text)
 

@@ -8,7 +8,7 @@ use Rattle.std.specs.List.{count_by}
 abbrev pub is_in_set : ℕ → ℕ → Bool
 is_in_set wheels wheel = (nat_le 1 wheel && nat_le wheel 6) && nat_eq (wheels / 2 ^ (wheel - 1) % 2) 1
 
--- how many bars have a lug at a wheel of the set; `bars` has for each bar the numbers of its lugs' wheels
+-- the number of bars that have a lug at a wheel of the set. `bars` has two wheel numbers for each bar.
 abbrev pub bars_met_by : List (ℕ × ℕ) → ℕ → ℕ
 bars_met_by bars wheels = count_by (λ bar. is_in_set wheels bar.0 || is_in_set wheels bar.1) bars
 

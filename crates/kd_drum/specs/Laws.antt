@@ -15,6 +15,6 @@ ConverterCipherOfChunks =
     → converter_cipher key (first ++ rest)
     ≡ converter_cipher key first ++ converter_cipher (pin_key_after key (length first)) rest
 
--- The key after `m`, and then `n`, letters is the key after `m + n` letters.
+-- The key after `m` letters, and then after `n` more, is the key after `m + n` letters.
 abbrev pub ConverterKeyAfterChunks : Type 0
 ConverterKeyAfterChunks = (key : PinKey) (m n : ℕ) → pin_key_after (pin_key_after key m) n ≡ pin_key_after key (m + n)

@@ -122,9 +122,9 @@ impl Converter {
         }
     }
 
-    /// The number of bars that the wheels meet when the next letter is enciphered.
+    /// The number of bars that the wheels meet for the next letter.
     ///
-    /// A wheel meets a bar if the wheel's acting pin is effective and the bar has a lug at the wheel.
+    /// A wheel meets a bar if its acting pin is effective, and the bar has a lug at the wheel.
     pub fn met(&self) -> u8
         ensures value { result ≡ bars_met self.now 0 }
         ensures most { result ≤ 27 }
@@ -148,7 +148,7 @@ impl Converter {
 
     /// The set of wheels with an effective acting pin.
     ///
-    /// The set is a sum of powers of two: 1 for wheel 1, 2 for wheel 2, and so on to 32 for wheel 6.
+    /// The set is a sum of powers of two, from 1 for wheel 1 to 32 for wheel 6.
     fn acting_wheels(&self) -> usize
         ensures set { result < 64 }
         ensures each { (wheel : _) → is_in_set result wheel
@@ -176,7 +176,7 @@ impl Converter {
     }
 }
 
-/// Reverses `letter` (A becomes Z, B becomes Y, and so on), and moves it on by `met` places, with A after Z.
+/// Reverses `letter` (A becomes Z, B becomes Y), and moves it on by `met` places, with A after Z.
 fn reversed_letter(met: u8, letter: Letter) -> Letter
     requires { met ≤ 27 }
     ensures { result ≡ (25 + met - letter) % 26 }

@@ -4,9 +4,9 @@ ghost use Rattle.kd_drum.specs.Counts.{AreCounts, is_in_set, bars_met_by};
 
 use kd_tables::Reading;
 
-/// For each set of wheels, counts the bars that are met if exactly these wheels have an effective acting pin.
+/// Counts, for each set of wheels, the bars that are met if only these wheels' acting pins are effective.
 ///
-/// A set is a sum of powers of two: 1 for wheel 1, 2 for wheel 2, and so on to 32 for wheel 6.
+/// A set is a sum of powers of two, from 1 for wheel 1 to 32 for wheel 6.
 pub(crate) fn count_bars_met(bars: &[Reading; 27]) -> [u8; 64]
     ensures { AreCounts bars.now result }
 {

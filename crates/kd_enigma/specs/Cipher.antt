@@ -18,7 +18,7 @@ pub record RotorKey : Type 0 where
   pub reflector : Reflector
   pub plugs : List ℕ
 
--- The plugboard exchanges letters: it is a permutation, and if it is applied twice, it changes nothing.
+-- The plugboard exchanges letters: it is a permutation that is its own inverse.
 pub record IsPlugboard (plugs : List ℕ) : Type 0 where
   pub permutation : IsPermutation26 plugs
   pub own_inverse : IsOwnInverse plugs
@@ -33,7 +33,7 @@ key_after key n = key_turned key (window_after key.wheels key.window n)
 
 -- ---- The current's path as a product of permutations, and the cipher that steps the wheels before each letter.
 -- Source: the published accounts of the current's path.
--- Code: `Enigma` keeps the path for the current window as one table, and makes this table anew after each step.
+-- Code: `Enigma` keeps one table, the path for the letters in the windows, and makes it anew after each step.
 -- Test: tests/refusals
 
 -- the wheels' permutations for given ring letters and window letters; all lists are in order from the left

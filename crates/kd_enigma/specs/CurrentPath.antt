@@ -1,13 +1,12 @@
--- The current's path: in through some wheels, through the core, and back through the same wheels. The core is all
--- that lies to the left of these wheels: the reflector alone, or further wheels and the reflector. No public contract
--- cites this file.
+-- The current's path: in through some wheels, through the core, and back through the same wheels. The core is all that
+-- lies to the left of these wheels: the reflector, perhaps with further wheels before it. No public contract cites this
+-- file.
 use Rattle.std.specs.Prelude.{ℕ, List, ◌∷◌, map}
 use Rattle.kd_tables.specs.Permutation.{alphabet, followed_by, inverse}
 use Rattle.kd_tables.specs.declared.wheel.Wheel.{Wheel}
 use Rattle.kd_enigma.specs.Rotor.{rotor}
 
--- A wheel, its ring, and the board that the current passes before the wheel: the plugboard, or a permutation that
--- changes nothing.
+-- A wheel, its ring, and the board to its right: the plugboard, or a permutation that changes nothing.
 pub record SeatedWheel : Type 0 where
   pub wheel : Wheel
   pub ring : ℕ
@@ -18,14 +17,14 @@ abbrev pub around_wheel : List ℕ → List ℕ → List ℕ → List ℕ
 around_wheel board core wheel = followed_by (followed_by (followed_by board wheel) core)
     (followed_by (inverse wheel) board)
 
--- The current's path through a list of wheels to `core`, through `core`, and back, while the windows show the given
--- letters. Both lists begin at the wheel next to `core`.
+-- The current's path in through a list of wheels to `core`, through `core`, and back, while the windows show `window`.
+-- Wheels and letters are listed from the wheel next to `core`.
 abbrev pub around_wheels : List ℕ → List SeatedWheel → List ℕ → List ℕ
 around_wheels core (s ∷ seated) (letter ∷ window) = around_wheels
     (around_wheel s.board core (rotor s.wheel s.ring letter)) seated window
 around_wheels core _ _ = core
 
--- for each letter in a wheel's window, two permutations of board and wheel: for the way in, and for the way back
+-- for each letter in a wheel's window, two permutations of board and wheel: the way in and the way back
 abbrev pub ways_by_window : Wheel → ℕ → List ℕ → List (List ℕ × List ℕ)
 ways_by_window wheel ring board = map (λ window. let turns = rotor wheel ring window in
     (followed_by board turns, followed_by (inverse turns) board)) alphabet

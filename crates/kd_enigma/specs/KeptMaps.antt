@@ -8,7 +8,7 @@ use Rattle.kd_step.specs.Stepper.{Stepping}
 use Rattle.kd_enigma.specs.CurrentPath.{SeatedWheel, around_wheels}
 use Rattle.kd_enigma.specs.Cipher.{RotorKey, IsPlugboard, path}
 
--- the items of the slow wheels: all items but the last, which belongs to the right wheel
+-- the items of the slow wheels: all but the last item, which is the right wheel's
 abbrev pub slow_slots : {X : Type 0} → List X → List X
 slow_slots slots = take (length slots - 1) slots
 

@@ -73,6 +73,6 @@ EnigmaCipherOfChunks =
     (key : RotorKey) (first rest : List ℕ)
     → enigma_cipher key (first ++ rest) ≡ enigma_cipher key first ++ enigma_cipher (key_after key (length first)) rest
 
--- The key after `m`, and then `n`, key presses is the key after `m + n` key presses.
+-- The key after `m` key presses, and then after `n` more, is the key after `m + n` key presses.
 abbrev pub EnigmaKeyAfterChunks : Type 0
 EnigmaKeyAfterChunks = (key : RotorKey) (m n : ℕ) → key_after (key_after key m) n ≡ key_after key (m + n)

@@ -35,7 +35,7 @@ pub fn enciphering_twice_gives_back()
     ensures { EnigmaTwiceGivesBack }
 {}
 
-/// With a plugboard that is given by its pairs, the path is its own inverse, and takes no letter to itself.
+/// With a plugboard made from pairs, the path is its own inverse, and takes no letter to itself.
 ///
 /// Enciphering twice with the same key gives the text back.
 pub fn keys_with_pairs_lead_back()
@@ -43,7 +43,7 @@ pub fn keys_with_pairs_lead_back()
     ensures cipher { PairedKeysGiveBack }
 {}
 
-/// A text can be enciphered in chunks: each chunk starts from the letters that the windows show after the previous one.
+/// A text can be enciphered in chunks. Each chunk starts from the letters that the windows show after the chunk before.
 #[tactic(auto, using(crate::proofs::Ciphers::cipher_in_turn, crate::proofs::Ciphers::key_in_turn))]
 pub fn chunks_are_enciphered_in_turn()
     ensures cipher { EnigmaCipherOfChunks }

@@ -1,4 +1,4 @@
-//! Permutations of the alphabet, kept in vectors of 32 bytes so that one shuffle composes two of them.
+//! Permutations of the alphabet in vectors of 32 bytes: the processor composes two with one shuffle.
 ghost use Rattle.std.specs.Prelude.{◌≡◌, ◌<◌, ◌≤◌, nat_lt, slice_index, if◌then◌else◌};
 ghost use Rattle.kd_tables.specs.Permutation.{followed_by, shift};
 
@@ -6,7 +6,7 @@ use kd_tables::Letter;
 use std::marker::Model;
 use std::simd::prelude::*;
 
-/// A permutation of the alphabet in 32 bytes. Bytes 26 to 31 stand for no letter, and map to themselves.
+/// A permutation of the alphabet in 32 bytes. Bytes 26 to 31 belong to no letter, and map to themselves.
 #[derive(Clone, Copy)]
 pub(crate) struct Map {
     lanes: u8x32,

@@ -24,7 +24,7 @@ impl LetterTwice {
     }
 }
 
-/// A plugboard: for each letter, the letter that it is exchanged for, or the letter itself if it has no cable.
+/// A plugboard: for each letter, the letter that a cable exchanges it for, or the letter itself.
 #[derive(Clone, Copy)]
 pub struct Plugs {
     table: [Letter; 26],
@@ -60,7 +60,7 @@ impl Plugs {
         Ok(Plugs { table })
     }
 
-    /// The letter that `letter` is exchanged for, or `letter` itself if it has no cable.
+    /// The letter that a cable exchanges `letter` for, or `letter` itself.
     pub fn swap(self, letter: Letter) -> Letter
         ensures value { result ≡ slice_index self letter }
         ensures within { result < 26 }

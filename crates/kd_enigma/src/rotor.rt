@@ -10,7 +10,7 @@ use std::marker::Model;
 
 /// A wheel with its ring, and with a board to its right: the plugboard, or a permutation that changes nothing.
 ///
-/// For each window letter, it keeps two permutations: one for the current's way in, and one for the way back.
+/// For each window letter, a `Rotor` keeps two permutations: the current's way in, and its way back.
 #[derive(Drop)]
 pub(crate) struct Rotor {
     wheel: Wheel,
@@ -58,8 +58,7 @@ impl Rotor {
         }
     }
 
-    /// The path of the current at the window letter `window`: through board and wheel to `core`, through `core`, and
-    /// back.
+    /// The current's path while `window` shows: through board and wheel to `core`, through `core`, and back.
     ///
     /// `core` is the path through all that lies further left: to the reflector, and back.
     pub(crate) fn enclose(&self, core: Map, window: Letter) -> Map

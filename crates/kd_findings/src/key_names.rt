@@ -51,7 +51,8 @@ fn common_end(one: &[u8], other: &[u8]) -> usize {
     count
 }
 
-/// Whether adding, dropping or changing one byte of `one` gives `other`. Small letters count as capitals.
+/// Whether `one` and `other` differ in at most one byte: changed, added or missing. Capital and small letters count as
+/// equal.
 pub fn is_near(one: &[u8], other: &[u8]) -> bool {
     let common = common_start(one, other).saturating_add(common_end(one, other));
     one.len().max(other.len()) <= common.saturating_add(1)

@@ -79,7 +79,6 @@ fn push_unread(
     push_told(text, alloc, name, key, first_line(advice.as_str()))
 }
 
-/// Appends a warning about each unread key.
 fn push_all_unread(
     text: &mut String,
     alloc: Global,
@@ -95,7 +94,6 @@ fn push_all_unread(
     Ok(())
 }
 
-/// Whether `byte` is a capital letter.
 fn is_capital(byte: u8) -> bool
     ensures { result ≡ is_capital byte }
 {

@@ -27,8 +27,8 @@ group_of_body letters = slice_range letters 2 5
 abbrev pub deciphered_key : Day → Indicator → List ℕ
 deciphered_key s indicator = cipher_from s indicator.ground_setting indicator.enciphered_key
 
--- The answer is `WrongGroup` if the body's group is none of the day's groups. Otherwise the answer is the text,
--- deciphered with the message key in the windows.
+-- The answer is `WrongGroup` if the body's group is none of the day's groups. Otherwise it is the text, deciphered with
+-- the message key in the windows.
 abbrev pub IsRotorAnswer : Day → ℕ → Indicator → List ℕ → AnswerRule FormFault (List ℕ)
 IsRotorAnswer s part indicator letters = do
   _ ← Demands (AreADaysGroup s (group_of_body letters)) (WrongGroup part)
@@ -55,9 +55,12 @@ list_of_body letters = slice_range letters 8 10
 abbrev pub text_of_body : List ℕ → List ℕ
 text_of_body letters = slice_range letters 10 (length letters - 10)
 
--- The tests, in order: the indicators before and after the text satisfy `HasIndicatorsAround`; each external letter is
--- on its wheel; the list letters are the day's; there is an internal key. The first test that fails gives the fault.
--- Otherwise the answer is the text, deciphered with the internal key in the windows at the start.
+-- The answer is the text, deciphered with the internal key in the windows at the start. Four tests come first, and the
+-- first that fails gives the fault:
+-- - `HasIndicatorsAround` holds for the indicators before and after the text.
+-- - Each external letter is on its wheel.
+-- - The list letters are the day's.
+-- - There is an internal key.
 abbrev pub IsPinAnswer : Day → ℕ → List ℕ → AnswerRule FormFault (List ℕ)
 IsPinAnswer s part letters = do
   _ ← Demands (HasIndicatorsAround letters) (IndicatorsDiffer part)
@@ -78,7 +81,7 @@ HasIndicator (Pin s) None = Unit {0}
 HasIndicator (Rotor s) None = ⊥
 HasIndicator (Pin s) (Some i) = ⊥
 
--- The answer for the letters of a body: as on a rotor machine if the heading has an indicator, otherwise as on
+-- The answer for the letters of a body. With an indicator in the heading, it is as on a rotor machine, otherwise as on
 -- the Converter M-209.
 abbrev pub IsLettersAnswer : Day → ℕ → Option Indicator → List ℕ → AnswerRule FormFault (List ℕ)
 IsLettersAnswer s part (Some i) letters = IsRotorAnswer s part i letters

@@ -1,6 +1,5 @@
 -- How a form is cut into parts. A part is a heading line and all lines before the next heading line.
--- Code: `FormReader` reads byte by byte; it keeps the first six bytes of a body's line, to see whether the line
--- is a heading line.
+-- Code: `FormReader` reads byte by byte. By the first six bytes of a line it sees whether this is a heading line.
 -- Test: tests/cases/desk-messages.toml
 use Rattle.std.specs.Prelude.{codes, ◌≡◌, ◌≢◌, ◌⊎◌, ℕ, ◌%◌, ◌≤◌, ◌==◌, ◌&&◌, nat_le, Bool, IsTrue, if◌then◌else◌}
 use Rattle.std.specs.Prelude.{List, [], ◌∷◌, ◌++◌, take, slice_index}
@@ -19,7 +18,8 @@ begins_heading bytes =
 abbrev pub BeginsHeading : List ℕ → Type 0
 BeginsHeading bytes = IsTrue (begins_heading bytes)
 
--- The first part of a form, and the list of its other parts. A part ends at each LF before a heading line.
+-- The first part of a form, and the list of its other parts. A part ends at each LF that comes directly before a
+-- heading line.
 abbrev pub cut_at_headings : List ℕ → List ℕ × List (List ℕ)
 cut_at_headings [] = ([], [])
 cut_at_headings (byte ∷ bytes) =
@@ -38,7 +38,7 @@ abbrev pub IsLetterCount : Day → ℕ → Type 0
 IsLetterCount (Rotor s) count = (6 ≤ count) × (count ≤ 250)
 IsLetterCount (Pin s) count = (25 ≤ count) × (count ≤ 520) × (count % 5 ≡ 0)
 
--- The part's number `part` is at least 1, and at most `parts`, the number of all parts. `parts` is at most 99.
+-- The part's number `part` is from 1 to `parts`, the number of all parts, which is at most 99.
 pub record IsFraction (part parts : ℕ) : Type 0 where
   pub first : 1 ≤ part
   pub in_order : part ≤ parts
@@ -55,7 +55,7 @@ pub data IsLineText (line text : List ℕ) : Type 0 where
   WithReturn : line ≡ text ++ 13 ∷ [] → IsLineText line text
   WithoutReturn : text ≡ line → ((front : List ℕ) → line ≢ front ++ 13 ∷ []) → IsLineText line text
 
--- `line` is the first line of `text` without its line end, and `rest` follows the line end. If `text` has no LF,
+-- `line` is the first line of `text`, without its line end, and `rest` follows this line end. If `text` has no LF,
 -- `line` is all of `text`.
 abbrev pub HasFirstLine : List ℕ → List ℕ → List ℕ → Type 0
 HasFirstLine text line rest =

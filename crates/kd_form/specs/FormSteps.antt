@@ -48,8 +48,8 @@ pub record HoldsLine (held part : List ℕ) : Type 0 where
   pub unbroken : IsWithout 10 part
   pub begins : HasBegunHeading part
 
--- `first` has the first six bytes of the last line of `body`, or the whole last line if it is shorter. `line` is the
--- line before `body`.
+-- `first` has the first six bytes of the last line of `body`, or this whole line if it is shorter. `line` comes before
+-- `body`.
 pub record HasLastLineStart (line body first : List ℕ) : Type 0 where
   pub settled : List ℕ
   pub tail : List ℕ
@@ -76,12 +76,12 @@ pub record HoldsPart (s : Day) (b : PartBody) (number : ℕ) (expected : Option 
   pub holds : HoldsBody s b part body
   pub due : HasDueNumbers number expected b.heading
 
--- The reader holds the part `part`, as far as it has been read: its heading line, or its heading and its body.
+-- The reader holds what it has read of the part `part`: a heading line, or a heading and a body.
 abbrev pub HoldsFormStage : Day → FormStage → ℕ → Option ℕ → List ℕ → Type 0
 HoldsFormStage s (stages.Heading line) number expected part = HoldsLine line.items part × (length part < 6 → number ≡ 1)
 HoldsFormStage s (stages.Body b) number expected part = HoldsPart s b number expected part
 
--- The letters of a body after the heading `h` are deciphered to a text, and `made` are the bytes of this text.
+-- The letters of a body after the heading `h` are deciphered, and `made` are the bytes of their text.
 abbrev pub IsBodyPlaintext : Day → Heading → List ℕ → List ℕ → Type 0
 IsBodyPlaintext s h letters made = (text : List ℕ) × IsBodyAnswer s h.part h letters (Ok text)
     × (made ≡ plaintext_bytes s text)
@@ -99,8 +99,8 @@ abbrev pub IsOpenHeading : Day → List ℕ → Option Heading → Type 0
 IsOpenHeading s part found =
     MatchOption found ((h : Heading) (body : List ℕ) → ¬ (HasHeading s part h body)) (λ h. HasHeading s part h [])
 
--- The result of testing the heading `found`: the heading, or `BadHeading` if there is none, or `PartOrder` if its
--- numbers are wrong.
+-- The result of testing the heading `found`: the heading or a fault. The fault is `BadHeading` if there is no heading,
+-- `PartOrder` if its numbers are wrong.
 abbrev pub IsHeadingAnswer : ℕ → Option ℕ → Option Heading → AnswerRule FormFault Heading
 IsHeadingAnswer number expected found = do
   heading ← Finds (λ heading. found ≡ Some heading) (BadHeading number)

@@ -46,11 +46,11 @@ abbrev pub plaintext_byte : Option ℕ → ℕ → ℕ
 plaintext_byte None letter = letter + 65
 plaintext_byte (Some for_space) letter = if letter == for_space then 32 else letter + 65
 
--- the bytes for letters; on the Converter M-209, a space for each Z
+-- the bytes for letters: capital letters, but on the Converter M-209 a space for each Z
 abbrev pub plaintext_bytes : Day → List ℕ → List ℕ
 plaintext_bytes s letters = map (plaintext_byte (space_letter s)) letters
 
--- the text of a form: its letters as bytes, then LF
+-- the text of a form: the bytes of its letters, then LF
 abbrev pub plaintext_with_end : Day → List ℕ → List ℕ
 plaintext_with_end s letters = plaintext_bytes s letters ++ 10 ∷ []
 
@@ -69,12 +69,12 @@ abbrev pub IsAnswerAt : Day → Result (Unit {0}) FormFault → PartsProperty
 IsAnswerAt s answer p [] = (count : ℕ) × (p.expected ≡ Some count) × Demands (p.number ≡ count + 1) PartOrder answer
 IsAnswerAt s answer p (part ∷ parts) = (fault : FormFault) × IsPartAnswer s p part (Err fault) × (answer ≡ Err fault)
 
--- `answer` is the answer for a whole form. `text` is the text of the parts before the form's first fault, or of all
--- parts without a fault.
+-- `answer` is the answer for a whole form. `text` is the text of the parts before the first fault, or of all parts if
+-- there is none.
 abbrev pub IsAnswerAfter : Day → List ℕ → List ℕ → Result (Unit {0}) FormFault → Type 0
 IsAnswerAfter s form text answer = IsFormReadTo s (IsAnswerAt s answer) form text
 
--- The answer for a whole form: the text of its parts, then LF; or its first fault.
+-- The answer for a whole form: the text of its parts and then LF, or its first fault.
 abbrev pub IsFormAnswer : Day → List ℕ → AnswerRule FormFault (List ℕ)
 IsFormAnswer s form (Ok text) = (parts : List ℕ) × IsAnswerAfter s form parts (Ok tt) × (text ≡ parts ++ 10 ∷ [])
 IsFormAnswer s form (Err fault) = (text : List ℕ) × IsAnswerAfter s form text (Err fault)
@@ -90,8 +90,8 @@ IsReceiveFault s form fault = IsFormAnswer s form (Err fault)
 -- ---- Which faults no further bytes can change, and what is written before a fault.
 -- Test: tests/cases/desk-messages.toml, tests/refusals
 
--- The first part not yet read, which begins at `p`, has `fault` whatever bytes follow. Either another part comes after
--- it; or the part's heading line has ended, and `IsContentAnswer` gives the fault.
+-- The first unread part, which begins at `p`, has `fault` whatever bytes follow. Either another part comes after this
+-- part. Or its heading line has ended, and `IsContentAnswer` gives the fault.
 abbrev pub IsPartFaultForGood : Day → FormFault → PartsProperty
 IsPartFaultForGood s fault p [] = ⊥
 IsPartFaultForGood s fault p (part ∷ []) =
@@ -99,7 +99,7 @@ IsPartFaultForGood s fault p (part ∷ []) =
 IsPartFaultForGood s fault p (part ∷ next ∷ others) = IsPartAnswer s p part (Err fault)
 
 -- The form has `fault` whatever bytes follow, and `text` is the text of the parts before the fault. Either the form
--- can't begin with a heading line, whatever bytes follow, or one of its parts has the fault.
+-- begins with no heading line, whatever bytes follow, or one of its parts has the fault.
 pub data IsRefusedForGood (s : Day) (form text : List ℕ) (fault : FormFault) : Type 0 where
   NoHeading : ((more : List ℕ) → ¬ (BeginsHeading (form ++ more))) → text ≡ [] → fault ≡ BadHeading 1
       → IsRefusedForGood s form text fault
@@ -109,7 +109,8 @@ pub data IsRefusedForGood (s : Day) (form text : List ℕ) (fault : FormFault) :
 abbrev pub IsLastPart : PartsProperty
 IsLastPart p parts = (part : List ℕ) × (parts ≡ part ∷ [])
 
--- `text` is written so far: the text of the parts before the fault or, without a fault, of all parts but the last.
+-- `text` is written so far: the text of the parts before the fault. Without a fault, it is the text of all parts but
+-- the last.
 abbrev pub IsTextBefore : Day → Option FormFault → List ℕ → List ℕ → Type 0
 IsTextBefore s None form text = IsFormReadTo s IsLastPart form text
 IsTextBefore s (Some fault) form text = IsAnswerAfter s form text (Err fault)
@@ -125,7 +126,7 @@ form_message s = record {
 
 -- ---- The text that an order's form has to give back.
 
--- The letters that are enciphered for a text: the text's letters; on the Converter M-209 with X appended until the last
+-- The letters that are enciphered for a text: the text's letters. On the Converter M-209, X is appended until the last
 -- group of five is full.
 abbrev pub sent_letters : Day → List ℕ → List ℕ
 sent_letters (Rotor s) letters = letters

@@ -1,4 +1,4 @@
--- Laws: each order and each form has one result or one fault, and an order's form gives back the order's letters.
+-- Laws: each order and each form has one result or one fault. An order's form gives back the order's letters.
 use Rattle.std.specs.Prelude.{ℕ, List, ◌++◌, Result, Err}
 use Rattle.kd_state.specs.AnswerRules.{HasOneAnswer}
 use Rattle.kd_state.specs.SheetDay.{Day, IsLegalDay}
@@ -24,8 +24,8 @@ OrdersStayRefused =
 abbrev pub FormsHaveOneAnswer : Type 0
 FormsHaveOneAnswer = (s : Day) (form : List ℕ) → HasOneAnswer (IsFormAnswer s form)
 
--- If a form is refused for good, appending bytes doesn't change the fault: the longer form has this fault, after the same
--- text, and is refused for good, too.
+-- If a form is refused for good, appending bytes doesn't change the fault. The longer form is refused for good, too,
+-- with this fault after the same text.
 abbrev pub FormsStayRefused : Type 0
 FormsStayRefused =
     (s : Day) (form more text : List ℕ) (fault : FormFault) → IsRefusedForGood s form text fault

@@ -1,5 +1,5 @@
--- An order is its head (a line of keys for each part, then the line TEXT), and then the text to send. Bytes are counted
--- from 1.
+-- An order is a head and then the text to send. The head has a line of keys for each part, and then the line TEXT.
+-- Bytes are counted from 1.
 -- Test: tests/cases/desk-messages.toml
 use Rattle.std.specs.Prelude.{codes, ◌≡◌, ◌≢◌, ◌⊎◌, ℕ, ◌+◌, ◌≤◌, List, [], ◌∷◌, ◌++◌, length}
 use Rattle.kd_state.specs.LineWords.{line_of}
@@ -24,7 +24,7 @@ BeginsWithKeys s (keys ∷ more) Holds bytes =
     (line rest : List ℕ) × AreKeys s keys × IsKeyLine keys line × BeginsWithKeys s more Holds rest
     × (bytes ≡ line ++ rest)
 
--- `bytes` are the head of an order: at most 99 lines of keys, one for each of `keys`, and the line TEXT.
+-- `bytes` are an order's head: a line for each of `keys`, at most 99, and the line TEXT.
 pub record IsOrderHead (s : Day) (keys : List Keys) (bytes : List ℕ) : Type 0 where
   pub lines : BeginsWithKeys s keys (IsLineWithEnd (codes "TEXT")) bytes
   pub few : length keys ≤ 99
@@ -38,14 +38,14 @@ pub record IsOrder (s : Day) (order : List ℕ) (keys : List Keys) (head text : 
   pub joined : order ≡ head ++ text
   pub is_head : IsOrderHead s keys head
 
--- `Incomplete`: with some more bytes, the bytes satisfy `Is`. `Mismatch`: they don't satisfy `Is`, whatever bytes
+-- `Incomplete`: with some more bytes, `bytes` satisfy `Is`. `Mismatch`: `bytes` don't satisfy `Is`, whatever bytes
 -- follow.
 abbrev pub IsPatternFault : (List ℕ → Type 0) → List ℕ → PatternFault → Type 0
 IsPatternFault Is bytes Incomplete = (more : List ℕ) × (more ≢ []) × Is (bytes ++ more)
 IsPatternFault Is bytes Mismatch = (more : List ℕ) → ¬ (Is (bytes ++ more))
 
--- `position` is counted from 1. The order's bytes before `position` can begin a head, but no head begins with these
--- bytes and the byte at `position`. If the order ends within its head, `position` is one past the order's last byte.
+-- `position` is counted from 1. The bytes before `position` can begin a head. No head begins with these bytes and the
+-- byte at `position`. If the order ends within its head, `position` is one past the order's last byte.
 pub record IsOrderHeadFault (s : Day) (order : List ℕ) (position : ℕ) : Type 0 where
   pub before : List ℕ
   pub rest : List ℕ

@@ -57,7 +57,7 @@ pub record AreLettersTaken (s : Day) (keys : List Keys) (w : PartWriter) (letter
   pub made : ArePartTextsMade s 1 (length keys) (take w.written keys)
       (pieces (part_size s) (take (part_size s * w.written) letters)) sent
 
--- At the end of the text, the last part was written, or the text is refused.
+-- At the end of the text, the last part is written, or the text is refused.
 abbrev pub IsTextEndAnswer : Day → List Keys → List ℕ → List ℕ → List ℕ → Result (Unit {0}) FormFault → Type 0
 IsTextEndAnswer s keys letters sent made (Ok _) = IsMadeAnswer s keys letters (Ok (sent ++ made))
 IsTextEndAnswer s keys letters sent made (Err fault) = IsMadeAnswer s keys letters (Err fault) × (made ≡ [])
@@ -76,7 +76,7 @@ pub record HoldsOrderText (s : Day) (keys : List Keys) (w : PartWriter) (order s
   pub allowed : All (λ b. IsTrue (is_text_byte b)) text
   pub taken : AreLettersTaken s keys w (text_letters s text) sent
 
--- The reader holds the order, as far as it has been read: up to a place in its head, or in its text.
+-- The reader holds what it has read of the order, up to a place in the head or in the text.
 abbrev pub HoldsOrderStage : Day → OrderStage → HeadReader → PartWriter → List ℕ → List ℕ → Type 0
 HoldsOrderStage s stages.Head h w order sent = IsHeadBegun s h.keys.items h.line.items order × (sent ≡ [])
     × IsFreshWriter w

@@ -17,7 +17,7 @@ pieces size letters = first_chunks size (div_ceil (length letters) size) letters
 abbrev pub fraction_text : ℕ → ℕ → List ℕ
 fraction_text part parts = decimal part ++ codes "/" ++ decimal parts
 
--- an indicator as words: the ground setting and the enciphered message key; without an indicator, no words
+-- an indicator as words: the ground setting and the enciphered message key. Without an indicator, there are no words.
 abbrev pub indicator_words : Option Indicator → List (List ℕ)
 indicator_words (Some indicator) = letters_text indicator.ground_setting ∷ letters_text indicator.enciphered_key ∷ []
 indicator_words None = []

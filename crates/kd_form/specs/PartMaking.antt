@@ -15,7 +15,7 @@ use Rattle.kd_form.specs.declared.heading.Indicator.{Indicator}
 use Rattle.kd_form.specs.InternalKey.{IsInternalKey}
 use Rattle.kd_form.specs.Part.{Part, part_text}
 
--- the ciphertext of `text` on a machine set as the day says, with the letters of `window` in the windows at the start
+-- the ciphertext of `text` on a machine set as the day says, with `window` in the windows at the start
 abbrev pub cipher_from : Day → List ℕ → List ℕ → List ℕ
 cipher_from s window text = cipher (key_with_window (sheet_key s) window) text
 
@@ -69,8 +69,8 @@ pin_indicators s k = k.chosen ∷ k.chosen ∷ k.external ++ list_letters s
 abbrev pub fill_last_group : List ℕ → List ℕ
 fill_last_group text = text ++ replicate ((5 - length text % 5) % 5) 23
 
--- the body of a part: the indicators, the enciphered text, and the indicators again; `text` is filled to whole
--- groups, and enciphered with the internal key
+-- the body of a part: the indicators, the enciphered text, and the indicators again. `text` is filled to whole groups,
+-- and enciphered with the internal key.
 abbrev pub pin_letters : Day → PinKeys → List ℕ → List ℕ → List ℕ
 pin_letters s k internal text = pin_indicators s k ++ cipher_from s internal (fill_last_group text)
     ++ pin_indicators s k
@@ -96,8 +96,7 @@ IsPartMade s part parts (Pin k) text made =
     (internal : List ℕ) × IsInternalKey (enciphered_choice s k) internal
     × (made ≡ part_of part parts None (pin_letters s k internal text))
 
--- `bytes` are part number `part` of `parts` as a form has it: the heading line, and `text` enciphered with the
--- keys.
+-- `bytes` are part `part` of `parts` as a form has it: the heading line, and `text` enciphered with the keys.
 abbrev pub IsPartTextMade : Day → ℕ → ℕ → Keys → List ℕ → List ℕ → Type 0
 IsPartTextMade s part parts keys text bytes = (made : Part) × IsPartMade s part parts keys text made
     × (bytes ≡ part_text made)

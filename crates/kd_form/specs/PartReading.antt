@@ -1,5 +1,5 @@
--- How one part of a form is read: the result is the letters of its text, or its first fault. Parts and bytes are
--- counted from 1.
+-- How one part of a form is read. The result is the letters of the part's text, or the part's first fault. Parts and
+-- bytes are counted from 1.
 -- Test: tests/cases/desk-messages.toml
 use Rattle.std.specs.Prelude.{◌≡◌, ℕ, ◌+◌, ◌-◌, List, [], ◌∷◌, ◌++◌, length, Option, Some, None, MatchOption}
 use Rattle.kd_state.specs.AnswerRules.{AnswerRule, ◌>>=◌, Yields, Finds, Demands}
@@ -14,7 +14,7 @@ use Rattle.kd_form.specs.BodyCipher.{IsLettersAnswer}
 use Rattle.kd_form.specs.FormParts.{IsHeading, HasFirstLine, IsLineText}
 
 -- The start of a part. `number`: the part's number. `expected`: the number of all parts, if an earlier heading gave it.
--- `bytes_before`: how many bytes of the form come before the part.
+-- `bytes_before`: the number of the form's bytes before the part.
 pub record PartStart : Type 0 where
   pub number : ℕ
   pub expected : Option ℕ
@@ -32,7 +32,7 @@ IsEndedHeading s part found =
     ((h : Heading) (body : List ℕ) → ¬ (HasHeading s (part ++ 10 ∷ []) h body))
     (λ h. IsHeading s h × IsLineText part (line_of (heading_words h)))
 
--- `parts` is the number of parts that the earlier headings say. Without an earlier heading, `parts` may be any number.
+-- The earlier headings say that there are `parts` parts. Without an earlier heading, `parts` may be any number.
 abbrev pub IsExpectedCount : Option ℕ → ℕ → Type 0
 IsExpectedCount None parts = Unit {0}
 IsExpectedCount (Some first) parts = first ≡ parts
@@ -47,8 +47,8 @@ pub record PartContent : Type 0 where
   pub heading : Heading
   pub body : List ℕ
 
--- The result of reading the bytes of a part that starts at `p`: the part must begin with a heading line, with the right
--- numbers, and each byte of its body must be allowed.
+-- The result of reading the bytes of a part that starts at `p`. They must begin with a heading line, whose numbers are
+-- right, and each byte of the body must be allowed.
 abbrev pub IsContentAnswer : Day → PartStart → List ℕ → AnswerRule FormFault PartContent
 IsContentAnswer s p part = do
   content ← Finds (λ content. HasHeading s part content.heading content.body) (BadHeading p.number)
@@ -56,8 +56,8 @@ IsContentAnswer s p part = do
   _ ← IsBytesAnswer (p.bytes_before + (length part - length content.body) + 1) content.body
   Yields content
 
--- The answer is `CountWrong` if the body has more or fewer letters than its heading says. Otherwise it is the
--- answer for the body's letters by `IsLettersAnswer`.
+-- The answer is `CountWrong` if the body has more or fewer letters than its heading says. Otherwise `IsLettersAnswer`
+-- says the answer.
 abbrev pub IsBodyAnswer : Day → ℕ → Heading → List ℕ → AnswerRule FormFault (List ℕ)
 IsBodyAnswer s number h letters = do
   _ ← Demands (length letters ≡ h.letters) (CountWrong number)

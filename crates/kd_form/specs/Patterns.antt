@@ -27,8 +27,7 @@ IsPatternLine pattern bytes = (letters : List ℕ) × IsFilledLine pattern lette
 
 -- ---- one byte
 
--- whether `byte` fits `mark`, a byte of a pattern: any capital letter fits `_`, and each other mark fits only
--- itself
+-- whether `byte` fits `mark`, a byte of a pattern: `_` takes any capital letter, each other mark only itself
 abbrev pub fits_mark : ℕ → ℕ → Bool
 fits_mark mark byte = if mark == 95 then nat_le 65 byte && nat_le byte 90 else byte == mark
 

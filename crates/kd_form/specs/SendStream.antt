@@ -18,8 +18,8 @@ pub record IsAllowedPrefix (text front : List ℕ) : Type 0 where
   pub allowed : All (λ b. IsTrue (is_text_byte b)) front
   pub ends : (byte : ℕ) (more : List ℕ) → rest ≡ byte ∷ more → IsFalse (is_text_byte byte)
 
--- `written` is the number of parts that can be written once `letters` letters have been read; in all there are `parts`
--- parts. A part has at most `size` letters, and can be written once a letter of the next part has been read.
+-- Once `letters` letters have been read, `written` of the `parts` parts can be written. A part has at most `size`
+-- letters. It can be written once a letter of the next part has been read.
 pub record IsWritableCount (size parts letters written : ℕ) : Type 0 where
   pub writable : (written ≡ 0) ⊎ ((written < parts) × (size * written < letters))
   pub most : (other : ℕ) → other < parts → size * other < letters → other ≤ written

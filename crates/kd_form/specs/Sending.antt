@@ -16,12 +16,12 @@ use Rattle.kd_form.specs.Order.{IsOrder, IsOrderHeadFault}
 -- ---- The letters that an order's text gives, and how many parts they need.
 -- Test: tests/cases/desk-messages.toml
 
--- the letter that is sent for a space: Z on the Converter M-209; none on a rotor machine
+-- the letter that is sent for a space: Z on the Converter M-209, none on a rotor machine
 abbrev pub space_letter : Day → Option ℕ
 space_letter (Rotor s) = None
 space_letter (Pin s) = Some 25
 
--- the letter that a byte gives: a capital letter gives itself, a space gives `for_space`, other bytes give none
+-- the letter that a byte gives: for a capital letter this letter, for a space `for_space`, for other bytes none
 abbrev pub letter_of_byte : Option ℕ → ℕ → Option ℕ
 letter_of_byte for_space byte = if is_capital byte then Some (byte - 65) else if byte == 32 then for_space else None
 
@@ -33,11 +33,11 @@ letters_from for_space text = filter_map (letter_of_byte for_space) text
 abbrev pub text_letters : Day → List ℕ → List ℕ
 text_letters s text = letters_from (space_letter s) text
 
--- The result of testing whether the byte at `position` is allowed in a text.
+-- The result of testing whether a text may have the byte at `position`.
 abbrev pub IsByteAnswer : ℕ → ℕ → AnswerRule FormFault (Unit {0})
 IsByteAnswer position byte = Demands (IsTrue (is_text_byte byte)) (BadByte position)
 
--- The result of testing whether each byte of `text` is allowed in a text; the first byte is at `position`.
+-- The result of testing whether a text may have each byte of `text`; the first byte is at `position`.
 abbrev pub IsBytesAnswer : ℕ → List ℕ → AnswerRule FormFault (Unit {0})
 IsBytesAnswer position text = InTurn IsByteAnswer position text
 
@@ -58,8 +58,8 @@ ArePartTextsMade s part parts (k ∷ keys) (piece ∷ pieces) bytes =
 ArePartTextsMade s part parts [] (piece ∷ pieces) bytes = ⊥
 ArePartTextsMade s part parts (k ∷ keys) [] bytes = ⊥
 
--- The answer for an order with the keys `keys` and the text's letters `letters`: the order's form, in which all parts
--- but the last are full. The text must have a letter, and must need as many parts as there are lines of keys.
+-- The answer for an order with the keys `keys` and the text's letters `letters`: its form, or a fault. In the form, all
+-- parts but the last are full. The text must have a letter, and must need as many parts as there are lines of keys.
 abbrev pub IsMadeAnswer : Day → List Keys → List ℕ → AnswerRule FormFault (List ℕ)
 IsMadeAnswer s keys letters = do
   _ ← Demands (letters ≢ []) EmptyText
@@ -76,20 +76,20 @@ pub record OrderParts : Type 0 where
   pub text : List ℕ
 
 -- The result of cutting an order into head and text. Without a complete head, the fault is `BadByte`, with the position
--- of the first byte with which no head can go on.
+-- that `IsOrderHeadFault` says.
 abbrev pub IsDividedAnswer : Day → List ℕ → AnswerRule FormFault OrderParts
 IsDividedAnswer s order (Ok parts) = IsOrder s order parts.keys parts.head parts.text
 IsDividedAnswer s order (Err fault) = (position : ℕ) × IsOrderHeadFault s order position × (fault ≡ BadByte position)
 
--- The result of reading an order up to its text: the order must have a complete head, and the keys of each part must
--- suit the day.
+-- The result of reading an order up to its text. The order must have a complete head, and each part's keys must suit
+-- the day.
 abbrev pub IsHeadAnswer : Day → List ℕ → AnswerRule FormFault OrderParts
 IsHeadAnswer s order = do
   parts ← IsDividedAnswer s order
   _ ← InTurn (IsKeysAnswer s) 1 parts.keys
   Yields parts
 
--- The result of reading the bytes of an order: its head must be right, and each byte of its text must be allowed.
+-- The result of reading the bytes of an order. Its head must be right, and each byte of its text must be allowed.
 abbrev pub IsReadAnswer : Day → List ℕ → AnswerRule FormFault OrderParts
 IsReadAnswer s order = do
   parts ← IsHeadAnswer s order
@@ -110,8 +110,8 @@ IsFormOf s order form = IsOrderAnswer s order (Ok form)
 abbrev pub IsSendFault : Day → List ℕ → FormFault → Type 0
 IsSendFault s order fault = IsOrderAnswer s order (Err fault)
 
--- The order has `fault`, and no further bytes can change that: the fault is found while the bytes are read. If it is
--- `BadByte`, the byte is one of the order's, and isn't missing at the order's end.
+-- The order has `fault`, and no further bytes can change it: it is found while the bytes are read. A `BadByte` is then
+-- for one of the order's bytes, not for a byte missing at its end.
 pub record IsOrderFaultForGood (s : Day) (order : List ℕ) (fault : FormFault) : Type 0 where
   pub found : IsReadAnswer s order (Err fault)
   pub inside : (position : ℕ) → fault ≡ BadByte position → position ≤ length order

@@ -23,7 +23,7 @@ pub record HasRoom (m : Message) (holds : List ℕ → List ℕ → Type 0) (roo
   pub held : HasReadSoFar m holds bytes text
   pub within : length bytes + room < 2 ^ 63
 
--- The bytes have `fault` whatever bytes follow, and `text` is written before the fault.
+-- `bytes` have `fault`, whatever bytes follow. Before this fault, `text` is written.
 pub record HasFaultForGood (m : Message) (bytes text : List ℕ) (fault : FormFault) : Type 0 where
   pub stands : (more : List ℕ) → m.stands (bytes ++ more) fault
   pub refused : (more : List ℕ) → m.refused (bytes ++ more) fault
@@ -38,8 +38,8 @@ IsFeedAnswer m old new byte made answer =
     → MatchResult answer (λ _. HasReadSoFar m new (bytes ++ byte ∷ []) (text ++ made))
     (HasFaultForGood m (bytes ++ byte ∷ []) text)
 
--- At the end of the message, the reader outputs `made`: the rest of the result or, if there is a fault, the rest of the
--- text that is written before the fault.
+-- At the end of the message, the reader outputs `made`. It is the rest of the result or, with a fault, the rest of the
+-- text before the fault.
 abbrev pub IsEndAnswer : Message → (List ℕ → List ℕ → Type 0) → List ℕ → Result (Unit {0}) FormFault → Type 0
 IsEndAnswer m old made answer = (bytes text : List ℕ) → HasReadSoFar m old bytes text
     → IsMessageAnswer m bytes (text ++ made) answer
@@ -64,7 +64,7 @@ pub record IsPrefixOfDue (m : Message) (bytes text : List ℕ) : Type 0 where
   pub open_yet : IsOpen m front due
   pub of_due : FallsShort due text
 
--- The reader has read `bytes`; or the bytes have a fault; or the sink failed.
+-- The reader has read `bytes`. Or the bytes have a fault, or the sink failed.
 abbrev pub HasBeenFed : Message → (List ℕ → List ℕ → Type 0) → List ℕ → List ℕ → Result (Unit {0}) Interruption → Type 0
 HasBeenFed m new bytes text (Ok _) = HasReadSoFar m new bytes text
 HasBeenFed m new bytes text (Err (Refused fault)) = HasFaultForGood m bytes text fault
@@ -77,7 +77,7 @@ pub record IsFed (m : Message) (new : List ℕ → List ℕ → Type 0) (bytes t
   pub written : Appends sink.had sink.has made
   pub fed : HasBeenFed m new bytes (text ++ made) answer
 
--- The reader, in a state that satisfies `old`, reads the bytes `more`, and its output is written to the sink.
+-- The reader's state satisfies `old`. The reader reads the bytes `more`, and its output is written to the sink.
 abbrev pub IsFeedAllAnswer : Message → (List ℕ → List ℕ → Type 0) → (List ℕ → List ℕ → Type 0) → List ℕ → Port
     → Result (Unit {0}) Interruption → Type 0
 IsFeedAllAnswer m old new more sink answer =
@@ -85,7 +85,8 @@ IsFeedAllAnswer m old new more sink answer =
 
 -- ---- the end
 
--- All text due at the message's end was written; or the sink failed, and only a proper prefix of it was written.
+-- At the end of the message, all text that was due was written. Or the sink failed, and only a proper prefix was
+-- written.
 abbrev pub HasBeenEnded : Message → List ℕ → List ℕ → Result (Unit {0}) Interruption → Type 0
 HasBeenEnded m bytes text (Ok _) = IsMessageAnswer m bytes text (Ok tt)
 HasBeenEnded m bytes text (Err (Refused fault)) = IsMessageAnswer m bytes text (Err fault)
@@ -99,7 +100,7 @@ pub record IsClosed (m : Message) (bytes text : List ℕ) (sink : Port) (answer 
   pub written : Appends sink.had sink.has made
   pub ended : HasBeenEnded m bytes (text ++ made) answer
 
--- The reader, in a state that satisfies `old`, ends the message.
+-- The reader's state satisfies `old`. The reader ends the message.
 abbrev pub IsFinishAnswer : Message → (List ℕ → List ℕ → Type 0) → Port → Result (Unit {0}) Interruption → Type 0
 IsFinishAnswer m old sink answer = (bytes text : List ℕ) → HasReadSoFar m old bytes text
     → IsClosed m bytes text sink answer
@@ -139,7 +140,7 @@ HasBeenRead m new source sink bytes more text (Ok count) =
     × KeepsFailureFlag sink
 HasBeenRead m new source sink bytes more text (Err stop) = IsReadStopped m new source sink (bytes ++ more) text stop
 
--- At most `room` bytes were taken from the source and fed to the reader, and its output was written to the sink.
+-- At most `room` bytes were taken from the source and fed to the reader. Its output was written to the sink.
 pub record IsChunkRead (m : Message) (new : List ℕ → List ℕ → Type 0) (bytes text : List ℕ) (room : ℕ)
     (source sink : Port)
     (answer : Result ℕ Interruption) : Type 0 where
@@ -150,7 +151,7 @@ pub record IsChunkRead (m : Message) (new : List ℕ → List ℕ → Type 0) (b
   pub written : Appends sink.had sink.has made
   pub read : HasBeenRead m new source sink bytes more (text ++ made) answer
 
--- The reader, in a state that satisfies `old`, reads the next bytes of the source.
+-- The reader's state satisfies `old`. The reader reads the next bytes of the source.
 abbrev pub IsReadNextAnswer : Message → (List ℕ → List ℕ → Type 0) → (List ℕ → List ℕ → Type 0) → ℕ → Port → Port
     → Result ℕ Interruption → Type 0
 IsReadNextAnswer m old new room source sink answer =
@@ -159,7 +160,7 @@ IsReadNextAnswer m old new room source sink answer =
 
 -- ---- a whole message
 
--- The result of the message was written; or the message has a fault; or the sink failed.
+-- The result of the message was written. Or the message has a fault, or the sink failed.
 abbrev pub IsWriteMessageAnswer : Message → List ℕ → Port → Result (Unit {0}) Interruption → Type 0
 IsWriteMessageAnswer m bytes sink (Ok _) = (text : List ℕ) × m.becomes bytes text × Appends sink.had sink.has text
 IsWriteMessageAnswer m bytes sink (Err (Refused fault)) = m.refused bytes fault

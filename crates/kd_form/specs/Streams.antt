@@ -11,8 +11,8 @@ use Rattle.kd_form.specs.declared.fault.FormFault.TheVariants.{NotReady, Device,
 use Rattle.kd_form.specs.OnTheKey.{IsReadyOnKey, IsKeyFault}
 
 -- A kind of message, such as orders. `stands`: the first bytes of a message have a fault that no further bytes can
--- change. `refused`: a whole message has a fault. `becomes`: a whole message has a result. `written_before`: all text
--- that is written before the fault is returned or, without a fault, before further bytes are read.
+-- change. `refused`: a whole message has a fault. `becomes`: a whole message has a result. `written_before`: the text
+-- that is written before the fault is returned or, without a fault, before more bytes are read.
 pub record Message : Type 1 where
   pub stands : List ℕ → FormFault → Type 0
   pub refused : List ℕ → FormFault → Type 0
@@ -31,11 +31,11 @@ IsMessageAnswer m bytes text answer =
     (λ fault. m.refused bytes fault × m.written_before (Some fault) bytes text)
 
 -- ---- What a call answers, reads and writes for a message.
--- Code: `stream_message` reads a message chunk by chunk; the readers of orders and forms take it byte by byte.
+-- Code: `stream_message` reads a message chunk by chunk. The readers of orders and forms take the chunks byte by byte.
 -- Test: tests/cases/desk-messages.toml
 
--- `text` is all text that is due after some prefix of `read` without a fault; or, if the source ends after `read`, all
--- text that is due at this end.
+-- `text` is all text that is due after some prefix of `read` without a fault. Or the source ends after `read`, and
+-- `text` is all text that is due then.
 pub data IsDue (m : Message) (source : Port) (read text : List ℕ) : Type 0 where
   ByThen : (front : List ℕ) → StartsWith read front → IsOpen m front text → IsDue m source read text
   ByTheEnd : (answer : Result (Unit {0}) FormFault) → IsAtEnd source.has → IsMessageAnswer m read text answer
@@ -103,7 +103,7 @@ pub record IsUntouched (p : Port) : Type 0 where
   pub has : p.has ≡ p.had
   pub well : KeepsFailureFlag p
 
--- Either the answer is a fault that satisfies `is_fault`, and both ports are left as they were; or `may` holds, and the
+-- Either the answer is a fault that satisfies `is_fault`, and both ports are left as they were. Or `may` holds, and the
 -- call reads and writes as `IsStreamed` says.
 pub data StreamsUnlessFault (is_fault : FormFault → Type 0) (may : Type 0) (message : Message) (source sink : Port)
     (answer : Result (Unit {0}) FormFault) : Type 0 where

@@ -27,7 +27,7 @@ cipher_text enciphers bytes = letters_text (enciphers (typed_letters bytes))
 abbrev pub IsTextFault : List ℕ → FormFault → Type 0
 IsTextFault bytes fault = IsBytesAnswer 1 bytes (Err fault)
 
--- typed texts, as a kind of message; all letters before the first byte that isn't allowed are enciphered
+-- typed texts, as a kind of message. All letters before the first byte that isn't allowed are enciphered.
 abbrev pub text_message : (List ℕ → List ℕ) → Message
 text_message enciphers = record {
   stands = IsTextFault;

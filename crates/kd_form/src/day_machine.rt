@@ -1,4 +1,5 @@
-//! `DayMachine`, a machine set as the day says, with any letters in its windows; and the number of its slots.
+//! `DayMachine`: a machine set as the day says, with any letters in its windows. Also the number of slots of a day's
+//! machine.
 ghost use Rattle.std.specs.Prelude.{◌≡◌, ◌↔◌, ◌≤◌, ◌<◌, length, All, IsTrue, MatchOption};
 ghost use Rattle.std.specs.Bool.{OnTrue};
 ghost use Rattle.kd_state.specs.EngineKey.{IsWindow};
@@ -43,7 +44,7 @@ impl<'day> DayMachine<'day> {
         }
     }
 
-    /// Enciphers or deciphers `text` in place, with the letters of `window` in the windows at the start.
+    /// Enciphers or deciphers `text` in place. At the start, `window` is in the windows.
     ///
     /// Returns whether `window` has one letter for each slot or pin wheel, and each letter is on its wheel.
     pub(crate) fn encipher(&mut self, window: &[Letter], text: &mut [Letter]) -> bool
@@ -86,7 +87,7 @@ impl<'day> DayMachine<'day> {
     }
 }
 
-/// How many slots the day's machine has; `None` for the Converter M-209.
+/// The number of slots of the day's machine; `None` for the Converter M-209.
 pub fn slots_of(day: &SheetDay) -> Option<usize>
     ensures { MatchOption result
         (IsConverterDay day.now)

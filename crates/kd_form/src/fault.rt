@@ -43,7 +43,7 @@ pub enum FormFault {
 }
 
 impl FormFault {
-    /// The text of the refusal, such as `28 BadByte 5`: its number, its name, and then the fields of the variant.
+    /// The refusal's text, such as `28 BadByte 5`: number and name, and then the variant's fields.
     pub fn text(&self) -> Text
         ensures { result.bytes ≡ form_fault_text self.now }
     {

@@ -7,15 +7,15 @@ use kd_tables::Letter;
 pub struct Heading {
     /// The part's number, counted from 1.
     pub part: u8,
-    /// How many parts the form has.
+    /// The number of parts of the form.
     pub parts: u8,
-    /// How many letters the body has.
+    /// The number of letters in the body.
     pub letters: usize,
     /// The indicator of a rotor machine's part; `None` on the Converter M-209.
     pub indicator: Option<Indicator>,
 }
 
-/// The ground setting and the enciphered message key, which the heading of a rotor machine's part has.
+/// What the heading of a rotor machine's part has besides numbers: the ground setting and the enciphered message key.
 #[derive(Clone, Copy)]
 pub struct Indicator {
     /// The ground setting: the letters in the windows before the message key is deciphered.

@@ -1,4 +1,4 @@
-//! Laws: each order and each form has one result or one fault, and a form gives back its order's letters.
+//! Laws: each order and each form has one result or one fault. A form gives back its order's letters.
 ghost use Rattle.kd_form.specs.Laws.{OrderIsAnswered, OrdersHaveOneAnswer, OrdersStayRefused, FormIsAnswered};
 ghost use Rattle.kd_form.specs.Laws.{FormsHaveOneAnswer, FormsStayRefused, OrdersGiveLetters, FormsGiveTheirOrders};
 
@@ -43,7 +43,7 @@ pub fn forms_have_an_answer(day: &SheetDay, form: &[u8])
 
 /// Deciphering an order's form gives back the letters of the order's text.
 ///
-/// On the Converter M-209, X fills the last group of five letters, and the received text has a space for each Z.
+/// On the Converter M-209, X fills the last group of five letters. The received text has a space for each Z.
 pub fn forms_give_their_orders()
     ensures letters { OrdersGiveLetters }
     ensures back { FormsGiveTheirOrders }

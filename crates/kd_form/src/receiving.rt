@@ -1,6 +1,6 @@
 //! Receives a form: `receive` returns its text, and `receive_stream` writes it to a sink.
 //!
-//! A form is an enciphered message: each part has a heading line and a body of letters in groups of five.
+//! A form is an enciphered message. Each of its parts has a heading line, and a body of letters in groups of five.
 ghost use Rattle.std.specs.Prelude.{◌≡◌, ℕ, List, IsTrue};
 ghost use Rattle.kd_tables.specs.Ports.{FailureAgrees, port};
 ghost use Rattle.kd_form.specs.FormText.{form_message, IsTextOf, IsReceiveFault};
@@ -27,9 +27,9 @@ use std::alloc::Global;
 ///
 /// On the Converter M-209, the text has a space in place of each Z. `NotReady` and `NotOnKey` are tested first, then
 /// the parts of the form, one after another. For each part, `BadHeading`, `PartOrder`, `BadByte` and `CountWrong` are
-/// tested in this order. Then come the indicators, the external letters, the group (or the list letters) and the
-/// internal key. If parts are missing at the end of the form, the fault is `PartOrder`. `NoMemory` comes only if the
-/// form has no fault.
+/// tested in this order. After `CountWrong`, the indicators, the external letters, the group (or the list letters) and
+/// the internal key are tested. If parts are missing at the end of the form, the fault is `PartOrder`. `NoMemory` comes
+/// only if the form has no fault.
 pub fn receive(
     alloc: Global,
     machine: &Machine,
@@ -46,11 +46,11 @@ pub fn receive(
 
 /// Reads a form from `source`, and writes the form's text to `sink`, part by part.
 ///
-/// At most one part is held, and nothing is allocated. `NotReady` and `NotOnKey` are returned before anything is
-/// read. A fault that further bytes can't change is returned once it is found, even if the source is too long or
-/// would fail later. Other faults are found at the form's end. Before a fault of the form is returned, the texts of
-/// the parts before the fault are written. `ReadTooLong` means that the source has more than `READ_LIMIT` bytes,
-/// and `Device` that a get or a put failed.
+/// At most one part is held, and nothing is allocated. `NotReady` and `NotOnKey` are returned before anything is read.
+/// A fault that further bytes can't change is returned at once, before the rest of the source is read. Other faults are
+/// found at the form's end. Before a fault of the form is returned, the texts of the parts before the fault are
+/// written. `ReadTooLong` means that the source has more than `READ_LIMIT` bytes, and `Device` that a get or a put
+/// failed.
 pub fn receive_stream<R: Source, W: Sink>(
     machine: &Machine,
     day: &SheetDay,

@@ -30,9 +30,8 @@ use std::alloc::Global;
 
 /// Enciphers `order` into a form on `machine`, which must be on the day's key.
 ///
-/// `NotReady` and `NotOnKey` are tested first. Then come the faults of the order's head, of the keys of each part, and
-/// of the bytes of the text. `EmptyText` and `PartKeys` are tested last. `NoMemory` comes only if the order has no
-/// fault.
+/// `NotReady` and `NotOnKey` are tested first. Then come faults of the order's head, of the parts' keys, and of the
+/// text's bytes. `EmptyText` and `PartKeys` are tested last. `NoMemory` comes only if the order has no fault.
 pub fn send(
     alloc: Global,
     machine: &Machine,
@@ -49,11 +48,11 @@ pub fn send(
 
 /// Reads an order from `source`, and writes the order's form to `sink`, part by part.
 ///
-/// At most one part is held, and nothing is allocated. `NotReady` and `NotOnKey` are returned before anything is
-/// read or written. A fault that further bytes can't change is returned once it is found, even if the source is too
-/// long or would fail later. Other faults are found at the order's end. A part is written once the first letter of
-/// the next part has been read. So parts of a refused order may have been written. At most 1,048,576 bytes are
-/// read, and one byte more to see whether the source ends.
+/// At most one part is held, and nothing is allocated. `NotReady` and `NotOnKey` are returned before anything is read
+/// or written. A fault that further bytes can't change is returned at once, before the rest of the source is read.
+/// Other faults are found at the order's end. A part is written once the first letter of the next part has been read.
+/// So parts of a refused order may have been written. At most 1,048,576 bytes are read, and then one more, which shows
+/// whether the source has ended.
 pub fn send_stream<R: Source, W: Sink>(
     machine: &Machine,
     day: &SheetDay,

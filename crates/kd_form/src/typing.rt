@@ -18,9 +18,9 @@ use kd_tables::{Letter, Sink, Source, put_all};
 /// Types the text from `source` on `machine`, and writes the lamps as capital letters, then LF.
 ///
 /// `NotReady` is returned before anything is read or written. The first byte that isn't allowed is refused once it is
-/// found, even if the source is too long or would fail later. Before the refusal, the lamps of all letters before this
-/// byte are written; if the sink fails to take them, the fault is `Device`. At most 1,048,576 bytes are read, and one
-/// byte more to see whether the source ends.
+/// found, before further chunks are read. Before the refusal, the lamps of all letters before this byte are written. If
+/// the sink fails to take them, the fault is `Device`. At most 1,048,576 bytes are read, and then one more, which shows
+/// whether the source has ended.
 pub fn type_stream<R: Source, W: Sink>(
     machine: &Machine,
     source: &mut R,
@@ -47,7 +47,7 @@ pub fn type_stream<R: Source, W: Sink>(
 #[derive(Drop)]
 pub(crate) struct Typist {
     engine: Engine,
-    /// How many bytes of the text were read.
+    /// The number of the text's bytes that were read.
     read: usize,
     /// The letters of the current chunk, enciphered in place.
     ///

@@ -24,7 +24,7 @@ pub record KnownFile : Type 0 where
 abbrev pub known_file : {O : Type 0} → (O → Option (List ℕ)) → (O → Bool) → O → KnownFile
 known_file bytes failed file = record { bytes = bytes file; failed = failed file }
 
--- an opened file with all of its bytes still to be read; or the fault `Device` if there is no file
+-- an opened file with all of its bytes unread, or the fault `Device` if there is no file
 abbrev pub opening_of : Option (List ℕ) → Result KnownFile FileFault
 opening_of None = Err Device
 opening_of (Some bytes) = Ok (record { bytes = Some bytes; failed = false })
@@ -33,14 +33,15 @@ opening_of (Some bytes) = Ok (record { bytes = Some bytes; failed = false })
 abbrev pub bytes_in_files : List (Bor (List ℕ) × Bor (List ℕ)) → List ℕ → Option (List ℕ)
 bytes_in_files files name = option_map (λ file. file.1.now) (find (λ file. bytes_eq file.0.now name) files)
 
--- `answer` and `meant` are the same fault. Or `answer` is an opened file, and the function `known` maps this file to
--- `meant`.
+-- `answer` and `meant` are the same fault. Or `answer` is an opened file, which `known` maps to `meant`.
 abbrev pub IsOpenAnswer : {O : Type 0} → Result KnownFile FileFault → (O → KnownFile) → Result O FileFault → Type 0
 IsOpenAnswer meant known answer = result_map_both known (λ fault. fault) answer ≡ meant
 
--- `read` has the bytes that were read from a source. For `Ok`, all bytes of the source; for `ReadTooLong`, one byte
--- more than a file may have; for `Device`, the bytes before the failed read, at most as many as a file may have; for
--- `NoMemory`, the bytes before memory ran out, at most one more than a file may have.
+-- `read` has the bytes that were read from a source.
+-- - With `Ok`, these are all bytes of the source.
+-- - With `ReadTooLong`, they are one more than a file may have.
+-- - With `Device`, the next read failed, and they are at most as many as a file may have.
+-- - With `NoMemory`, memory ran out, and they are at most one more than a file may have.
 abbrev pub IsReadWholeAs : Port → List ℕ → Result (List ℕ) FileFault → Type 0
 IsReadWholeAs source read (Ok bytes) = (bytes ≡ read) × (length read ≤ read_limit) × IsAtEnd source.has
     × KeepsFailureFlag source
@@ -74,14 +75,14 @@ pub record MissesOne (names : List (List ℕ)) (old new : List AskedName) : Type
   pub names_are : names ≡ before ++ name ∷ after
   pub asked : new ≡ old ++ (map asked_and_had before ++ asked_and_missed name ∷ [])
 
--- `new` is `old` followed by the names asked for: all of `names`, or the names up to and including the first file that
--- couldn't be read or opened.
+-- `new` is `old` followed by the names asked for. With `true`, these are all of `names`. With `false`, they end with
+-- the first file that couldn't be read or opened.
 abbrev pub AreAskedFor : List (List ℕ) → List AskedName → List AskedName → Bool → Type 0
 AreAskedFor names old new true = new ≡ old ++ map asked_and_had names
 AreAskedFor names old new false = MissesOne names old new
 
 -- ---- What an inner function answers that reads or opens several files. No public contract cites this definition.
 
--- `answer` and `meant` are the same fault, or the function `known` maps `answer` to `meant`; or `answer` is `NoMemory`.
+-- `answer` and `meant` are the same fault, or `known` maps `answer` to `meant`, or `answer` is `NoMemory`.
 abbrev pub IsReadAnswer : {X Y : Type 0} → Result Y FileFault → (X → Y) → Result X FileFault → Type 0
 IsReadAnswer meant known answer = AgreesOrNoMemory NoMemory meant (result_map_both known (λ fault. fault) answer)

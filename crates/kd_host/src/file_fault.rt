@@ -9,7 +9,7 @@ use std::io;
 /// Why a file can't be read whole, or can't be opened.
 #[derive(Clone, Copy, Debug, PartialEq, Eq)]
 pub enum FileFault {
-    /// Memory ran out while the file was read.
+    /// Memory ran out before the file was read whole.
     NoMemory,
     /// The file can't be opened, or a read failed.
     Device,

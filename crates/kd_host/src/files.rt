@@ -15,7 +15,7 @@ pub trait Files<'n> {
 
     /// Maps a name to the bytes of the file with this name, if there is one.
     ///
-    /// `None` in place of the map means that the files' bytes aren't known, as for the host's files.
+    /// `None` in place of the map: the files' bytes aren't known, as for the host's files.
     ghost known: { Self → Option (List ℕ → Option (List ℕ)) } = { λ _. None };
 
     /// The names asked for, in order. Beside each name: whether the file could be read or opened.
@@ -26,7 +26,7 @@ pub trait Files<'n> {
 
     /// Reads the file `name` whole.
     ///
-    /// Returns `Device` if the file can't be opened or a read fails, and `ReadTooLong` if the file has more than
+    /// Returns `Device` if the file can't be opened, or a read fails. Returns `ReadTooLong` if the file has more than
     /// 1,048,576 bytes. At most three names may be asked for.
     fn read_content(&mut self, alloc: Global, name: &'n str) -> Result<Content, FileFault>
         requires { length (asked self.old) < 3 }

@@ -15,7 +15,7 @@ use std::fs::File;
 pub struct HostFiles<'n> {
     rt: &'n HostRuntime,
     asked: AskedNames<'n>,
-    /// Whether a read had failed in the opened file that was taken back last.
+    /// Whether a read of the opened file that was taken back last had failed.
     has_failed: bool,
 }
 

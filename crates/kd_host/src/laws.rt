@@ -1,4 +1,4 @@
-//! Laws: which files can fail.
+//! The law of files in memory: no read of them fails.
 ghost use Rattle.std.specs.Prelude.{◌≡◌, false};
 
 use crate::files::Files;

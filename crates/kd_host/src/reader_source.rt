@@ -27,14 +27,14 @@ impl<R: Read + Drop> ReaderSource<R> {
         }
     }
 
-    /// Why the last failed read failed; `None` if no read has failed.
+    /// The fault of the last failed read; `None` if no read has failed.
     pub fn fault(&self) -> Option<FileFault>
         ensures { result ≡ self.now.fault }
     {
         self.fault
     }
 
-    /// Records `answer`, which the reader gave to a read, and returns how many bytes the reader gave.
+    /// Records `answer`, the reader's answer to a read, and returns how many bytes the reader gave.
     fn note(&mut self, answer: io::Result<usize>) -> Result<usize, Failed>
         ensures count { IfOk result (λ count. answer ≡ Ok count) }
         ensures refused { IsErr result ↔ IsErr answer }

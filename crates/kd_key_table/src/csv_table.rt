@@ -73,7 +73,6 @@ fn draw_lines<W: Sink>(sink: &mut W, has_lists: bool, sheet: &Sheet, numbers: &[
     }
 }
 
-/// Writes the row of a day.
 fn draw_day<W: Sink>(sink: &mut W, has_lists: bool, day: Option<&SheetDay>)
     ensures { Draws W.taken W.has_failed sink.old sink.new
         (day_line has_lists (option_copied day.entry)) }
@@ -94,7 +93,6 @@ fn draw_entry<W: Sink>(sink: &mut W, has_lists: bool, entry: &Entry)
     }
 }
 
-/// Writes the row of a rotor machine's day.
 fn draw_rotor_line<W: Sink>(sink: &mut W, has_lists: bool, entry: &RotorEntry)
     ensures { Draws W.taken W.has_failed sink.old sink.new
         (rotor_line has_lists (rotor_values entry.now)) }
@@ -151,7 +149,6 @@ fn draw_list_cells<W: Sink>(sink: &mut W, has_lists: bool)
     draw(sink, if has_lists { NO_LIST } else { "" });
 }
 
-/// Writes the row of a Converter's day.
 fn draw_pin_line<W: Sink>(sink: &mut W, entry: &PinEntry)
     ensures { Draws W.taken W.has_failed sink.old sink.new (pin_line (pin_values entry.now)) }
 {
@@ -186,7 +183,6 @@ fn draw_wheel<W: Sink>(sink: &mut W, letters: &[Letter], pins: &[bool])
     draw_effective(sink, letters, pins);
 }
 
-/// Writes the letters of the effective pins.
 fn draw_effective<W: Sink>(sink: &mut W, letters: &[Letter], pins: &[bool])
     ensures { Draws W.taken W.has_failed sink.old sink.new
         (flat_map effective_letter (zip letters.now pins.now)) }

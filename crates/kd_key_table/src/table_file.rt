@@ -49,7 +49,6 @@ fn draw_file<W: Sink>(sink: &mut W, language: Language, form: TableForm, sheet: 
     }
 }
 
-/// Writes the page.
 fn draw_page<W: Sink>(sink: &mut W, language: Language, sheet: &Sheet)
     ensures { Draws W.taken W.has_failed sink.old sink.new (page_text language sheet.now) }
 {

@@ -15,7 +15,6 @@ fn have_same_slot(one: &SheetDay, other: &SheetDay, slot: u8) -> bool {
         && one.window(slot) == other.window(slot)
 }
 
-/// Whether both days have the same pins.
 fn have_same_pins(one: &SheetDay, other: &SheetDay) -> bool {
     match (one.pins(), other.pins()) {
         (Some(pins), Some(others)) => pins.has_same_pins(&others),

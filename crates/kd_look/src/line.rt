@@ -14,10 +14,10 @@ use kd_sheet::{Key, SheetFault};
 use std::alloc::{AllocError, Global};
 use toml::{Table, Value};
 
-/// The most bytes of a file in which the lines of faults are looked for.
+/// In a file of more bytes, no lines of faults are looked for.
 const MOST_BYTES: usize = 65_536;
 
-/// The most line ends of a file in which the lines of faults are looked for. The file is parsed up to each line end.
+/// In a file with more line ends, no lines of faults are looked for. The file is parsed up to each line end.
 const MOST_LINES: usize = 2_048;
 
 /// What to look for in a document, in order to find the line of a fault.
@@ -52,7 +52,6 @@ fn table_at(document: &Table, entry: Option<usize>) -> Option<&Table>
     }
 }
 
-/// Whether `document` has any key.
 fn has_any_key(document: &Table) -> bool
     ensures { result ≡ has_any_key (table_view document.now) }
 {
@@ -70,7 +69,6 @@ fn has_key(document: &Table, entry: Option<usize>, key: Key) -> bool
     }
 }
 
-/// Whether `document` has what is looked for.
 #[tactic(auto, unfolding(crate::specs::Line::has_value))]
 fn has_value(document: &Table, sought: Sought) -> bool
     ensures { result ≡ has_value sought (table_view document.now) }

@@ -145,7 +145,6 @@ fn push_cable(text: &mut String, machine: &Machine, cable: u8) -> Result<(), All
     }
 }
 
-/// Appends a space and `letter`.
 #[tactic(auto, using(std::proofs::Common::append_assoc))]
 fn push_spaced_letter(text: &mut String, letter: Letter) -> Result<(), AllocError>
     ensures { OnOk result (string_bytes text.new

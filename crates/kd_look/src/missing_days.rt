@@ -23,7 +23,6 @@ pub struct FileSummary<'f> {
     pub contents: Contents,
 }
 
-/// Whether at least one sheet has a day for `model`.
 fn has_day(summaries: &[FileSummary<'_>], model: Model) -> bool {
     for file in summaries {
         if let Contents::Sheet(models) = &file.contents

@@ -19,7 +19,6 @@ pub enum Sort {
     WithoutGroups,
 }
 
-/// Whether `day` is of this sort.
 fn is_of_sort(sort: Sort, day: &SheetDay) -> bool
     ensures { result ≡ is_of_sort sort day.now }
 {
@@ -104,7 +103,6 @@ fn push_sort(text: &mut String, sheet: &Sheet, title: &str, sort: Sort) -> Resul
     Ok(())
 }
 
-/// Appends the lines of the days for `model`.
 fn push_model(text: &mut String, sheet: &Sheet, model: Model) -> Result<(), AllocError>
     ensures { OnOk result (string_bytes text.new ≡ string_bytes text.old ++ model_words sheet.now model) }
 {
@@ -134,7 +132,6 @@ pub fn models_of(alloc: Global, sheet: &Sheet) -> Result<Vec<Model>, AllocError>
     Ok(models)
 }
 
-/// Whether `sheet` has a day for `model`.
 fn has_model(sheet: &Sheet, model: Model) -> bool {
     for number in 1..32 {
         if has_day(sheet, Sort::Of(model), number) {

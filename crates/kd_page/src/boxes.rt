@@ -38,7 +38,6 @@ fn draw_boxes_of<W: Sink>(sink: &mut W, page: &Page<'_>, spot: &Spot, settings: 
     }
 }
 
-/// Writes the checkbox of `setting`, if it is at `spot`.
 fn draw_box_at<W: Sink>(sink: &mut W, page: &Page<'_>, spot: &Spot, setting: &Setting)
     ensures { Draws W.taken W.has_failed sink.old sink.new
         (box_at page.now spot.now setting.now) }

@@ -69,8 +69,7 @@ fn draw_rotor_steps<W: Sink>(sink: &mut W, page: &Page<'_>)
     draw_windows_step(sink, page);
 }
 
-/// Writes what to compare first. Pictures show the wheels before and after the settings. If there are no settings,
-/// there is one picture.
+/// Writes what to compare first, with pictures of the wheels.
 fn draw_wheels<W: Sink>(sink: &mut W, page: &Page<'_>)
     ensures { Draws W.taken W.has_failed sink.old sink.new (wheels_text page.now) }
 {
@@ -81,7 +80,6 @@ fn draw_wheels<W: Sink>(sink: &mut W, page: &Page<'_>)
     }
 }
 
-/// Writes the steps of a Converter.
 fn draw_pin_steps<W: Sink>(sink: &mut W, page: &Page<'_>)
     ensures { Draws W.taken W.has_failed sink.old sink.new (pin_text page.now) }
 {

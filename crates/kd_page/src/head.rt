@@ -65,7 +65,6 @@ fn draw_title<W: Sink>(
     }
 }
 
-/// The last of the days `day` and `others`.
 fn last_of(day: ListedDay, others: &[ListedDay]) -> ListedDay
     ensures { result ≡ last_of day others.now }
 {

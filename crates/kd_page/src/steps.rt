@@ -46,8 +46,7 @@ pub(crate) fn draw_idle<W: Sink>(sink: &mut W, page: &Page<'_>, title: Word)
     );
 }
 
-/// Writes the head of a step with more checkboxes than settings. `count` is the number of settings, which is left out
-/// if it is 0.
+/// Writes the head of a step with more checkboxes than its `count` settings.
 pub(crate) fn draw_full_step<W: Sink>(sink: &mut W, page: &Page<'_>, title: Word, count: u8)
     ensures { Draws W.taken W.has_failed sink.old sink.new (full_step_text page.now title count) }
 {

@@ -187,8 +187,7 @@ fn draw_again<W: Sink>(sink: &mut W, language: Language, has_number: bool, lette
     }
 }
 
-/// Writes the note at the end of the page. It has a line for the letters when the machine is put away, and the number
-/// of settings.
+/// Writes the note at the end of the page.
 fn draw_note<W: Sink>(sink: &mut W, page: &Page<'_>)
     ensures { Draws W.taken W.has_failed sink.old sink.new
         (note_text page.now.language (model_of page.now.after) page.now.settings) }

@@ -109,7 +109,6 @@ pub(crate) fn letter_shown(machine: &Machine, number: u8) -> Option<Letter>
     letter_in_slot(machine, number).or(machine.shown(number))
 }
 
-/// The letter in the window of a slot.
 fn letter_in_slot(machine: &Machine, slot: u8) -> Option<Letter>
     ensures { result ≡ letter_in_slot machine.now slot }
 {

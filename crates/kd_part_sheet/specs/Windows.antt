@@ -13,7 +13,7 @@ window_words is_converter number letter =
     if is_converter then filled markup.WHEEL_WORDS.now (decimal number ∷ letter_text letter ∷ [])
     else filled markup.WINDOW_WORDS.now (decimal number ∷ letter_text letter ∷ ordinal_text letter ∷ [])
 
--- the words for windows, from number `number` on; `first` stands before the first window, commas before the others
+-- the words for windows from number `number` on, with `first` before them and commas between them
 abbrev pub words_after : Bool → List ℕ → ℕ → List ℕ → List ℕ
 words_after is_converter first number [] = []
 words_after is_converter first number (letter ∷ letters) =

@@ -178,8 +178,7 @@ pub fn push_choice<const N: usize>(
     }
 }
 
-/// The mark of a printed letter. Wheel `taken` was the last to take a letter. If the next wheel has the printed letter,
-/// this wheel takes it; otherwise the letter is struck out. After wheel 6, no letter is needed.
+/// The mark of a printed letter. Wheel `taken` was the last to take a letter.
 fn mark_of(taken: u8, letter: Letter) -> Mark
     requires { taken ≤ 6 }
     ensures { result ≡ mark_of taken letter }
@@ -222,7 +221,6 @@ pub(crate) fn draw_place<W: Sink>(sink: &mut W, line: Line, cell: &Cell)
     }
 }
 
-/// Writes a sign.
 fn draw_sign<W: Sink>(sink: &mut W, sign: Sign)
     ensures { Draws W.taken W.has_failed sink.old sink.new (sign_text sign) }
 {
@@ -233,7 +231,6 @@ fn draw_sign<W: Sink>(sink: &mut W, sign: Sign)
     }
 }
 
-/// Writes the mark of a letter.
 fn draw_mark<W: Sink>(sink: &mut W, mark: Mark)
     ensures { Draws W.taken W.has_failed sink.old sink.new (mark_text mark) }
 {

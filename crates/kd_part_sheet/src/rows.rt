@@ -66,7 +66,6 @@ pub(crate) fn progress_after(progress: Progress, row: &[Cell]) -> Progress
     }
 }
 
-/// How many letters of a row are pressed.
 fn pressed_count(row: &[Cell]) -> usize
     ensures value { result ≡ pressed_count row.now }
     ensures few { result ≤ length row.now }

@@ -38,8 +38,7 @@ fn windows_title(language: Language, is_converter: bool) -> &'static str
     }
 }
 
-/// Writes the words for windows, from number `number` on. `first` stands before the first window, commas before the
-/// others.
+/// Writes the words for windows from number `number` on, with `first` before them and commas between them.
 fn draw_all_words<W: Sink>(
     sink: &mut W,
     language: Language,

@@ -10,7 +10,7 @@ use kd_pictures::{Language, draw, draw_in};
 use kd_state::SheetWheel;
 use kd_tables::{Letter, Sink};
 
-/// Writes letters, or their numbers. `first` stands before the first, `separator` before the others.
+/// Writes letters, or their numbers, with `first` before them and `separator` between them.
 pub(crate) fn draw_shown<W: Sink>(
     sink: &mut W,
     are_numbers: bool,
@@ -38,7 +38,7 @@ fn draw_one<W: Sink>(sink: &mut W, is_number: bool, letter: Letter)
     }
 }
 
-/// Writes the names of wheels. `first` stands before the first name, spaces before the others.
+/// Writes the names of wheels, with `first` before them and spaces between them.
 pub(crate) fn draw_wheels<W: Sink>(sink: &mut W, first: &str, wheels: &[SheetWheel])
     ensures { Draws W.taken W.has_failed sink.old sink.new (wheels_after first.now wheels.now) }
 {
@@ -49,7 +49,7 @@ pub(crate) fn draw_wheels<W: Sink>(sink: &mut W, first: &str, wheels: &[SheetWhe
     }
 }
 
-/// Writes the letters and numbers of rings. `first` stands before the first ring, commas before the others.
+/// Writes the letters and numbers of rings, with `first` before them and commas between them.
 pub(crate) fn draw_rings<W: Sink>(
     sink: &mut W,
     language: Language,
@@ -81,7 +81,7 @@ pub(crate) fn draw_cables<W: Sink>(sink: &mut W, language: Language, pairs: &[(L
     }
 }
 
-/// Writes pairs of letters. `first` stands before the first pair, spaces before the others.
+/// Writes pairs of letters, with `first` before them and spaces between them.
 fn draw_pairs<W: Sink>(sink: &mut W, first: &str, pairs: &[(Letter, Letter)])
     ensures { Draws W.taken W.has_failed sink.old sink.new (pairs_after first.now pairs.now) }
 {

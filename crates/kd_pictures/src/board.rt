@@ -88,7 +88,6 @@ pub fn has_cables(machine: &Machine, numbers: &[u8]) -> bool
     }
 }
 
-/// Whether the cable has a plug.
 fn is_plugged(machine: &Machine, number: u8) -> bool
     ensures { result ≡ is_plugged machine.now number }
 {
@@ -96,7 +95,7 @@ fn is_plugged(machine: &Machine, number: u8) -> bool
     one.is_some()
 }
 
-/// Writes the plugged cables in words. `separator` stands before the first cable, commas before the others.
+/// Writes the plugged cables in words, with `separator` before them and commas between them.
 fn draw_cables_after<W: Sink>(
     sink: &mut W,
     language: Language,
@@ -154,14 +153,12 @@ fn cable_of(machine: &Machine, number: u8) -> Cable
     machine.cable(number).unwrap_or((None, None))
 }
 
-/// Whether the cable has a plug at the letter.
 fn has_plug(machine: &Machine, number: u8, letter: Letter) -> bool
     ensures { result ≡ has_plug machine.now number letter }
 {
     lies_in(&cable_of(machine, number), letter)
 }
 
-/// Writes the lines of the cables.
 fn draw_lines<W: Sink>(
     sink: &mut W,
     language: Language,

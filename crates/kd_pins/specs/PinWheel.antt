@@ -1,13 +1,13 @@
--- One pin wheel: the letter that it shows, and the acting pin, which acts on the drum while this letter shows.
--- Places are counted from 0, in the wheel's own order.
+-- One pin wheel and its acting pin. The letter that the wheel shows decides which of its pins acts on the drum. Places
+-- are counted from 0, in the wheel's own order.
 -- Source: War Department TM 11-380.
--- Code: `PinWheel` keeps the place of the acting pin, and counts back from this place to find the shown letter.
+-- Code: `PinWheel` keeps the acting pin's place, and counts back from there to find the shown letter.
 -- Test: the_acting_pin_is_counted_in_the_wheels_own_order
 use Rattle.std.specs.Prelude.{◌≡◌, ℕ, ◌+◌, ◌-◌, ◌%◌, ◌<◌, Bool, false, List, slice_index, slice_index_or, unwrap_or}
 use Rattle.kd_tables.specs.Rings.{IsRing, place_on}
 
--- A pin wheel as contracts see it. `ring`: its letters in order. `offset`: how many places the acting pin is past the
--- shown letter. `pins`: which pins are effective. `place`: the place of the shown letter.
+-- A pin wheel as contracts see it. `ring`: its letters in order. `offset`: the number of places from the shown letter
+-- on to the acting pin. `pins`: which pins are effective. `place`: the place of the shown letter.
 pub record TurnedWheel : Type 0 where
   pub ring : List ℕ
   pub offset : ℕ
@@ -46,7 +46,7 @@ wheel_showing wheel letter = wheel_at_place wheel (unwrap_or (place_on wheel.rin
 
 -- ---- What the code keeps. No public contract cites these definitions.
 
--- the place of the shown letter: `offset` places before the acting pin, which is at place `acting`
+-- the place of the shown letter, if the acting pin is at place `acting`, `offset` places further
 abbrev pub shown_place_at_acting : ℕ → ℕ → ℕ → ℕ
 shown_place_at_acting size acting offset = place_past size acting (size - offset)
 

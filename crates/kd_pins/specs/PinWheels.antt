@@ -9,7 +9,7 @@ use Rattle.kd_pins.specs.declared.pin_set.PinSet.{PinSet}
 abbrev pub pin_wheels : List ℕ
 pin_wheels = range_with_len 1 6
 
--- how many places a wheel's acting pin is past the shown letter
+-- the number of places from a wheel's shown letter on to its acting pin
 abbrev pub acting_offset : ℕ → ℕ
 acting_offset wheel = slice_index (15 ∷ 14 ∷ 13 ∷ 12 ∷ 11 ∷ 10 ∷ []) (wheel - 1)
 
@@ -17,6 +17,7 @@ acting_offset wheel = slice_index (15 ∷ 14 ∷ 13 ∷ 12 ∷ 11 ∷ 10 ∷ [])
 abbrev pub pins_of : PinSet → List (List Bool)
 pins_of pins = pins.w1 ∷ pins.w2 ∷ pins.w3 ∷ pins.w4 ∷ pins.w5 ∷ pins.w6 ∷ []
 
--- for each pin of wheel `wheel`, from 1 to 6, whether it is effective; none for a number above 6
+-- for each pin of wheel `wheel`, whether it is effective. Wheels are numbered from 1 to 6; a greater number has no
+-- pins.
 abbrev pub pins_on : List (List Bool) → ℕ → List Bool
 pins_on pins wheel = slice_index_or pins (wheel - 1) []

@@ -1,4 +1,4 @@
-//! One pin wheel: the letter that it shows, and the acting pin, which acts on the drum while this letter shows.
+//! One pin wheel and its acting pin. The letter that the wheel shows decides which of its pins acts on the drum.
 ghost use Rattle.std.specs.Prelude.{◌≡◌, ◌↔◌, ◌<◌, ◌≤◌, ◌+◌, ◌%◌, IsOk, IsTrue, OnOk, Contains};
 ghost use Rattle.kd_tables.specs.Refusals.{refusal_name};
 ghost use Rattle.kd_tables.specs.Rings.{IsRing};
@@ -25,8 +25,8 @@ impl NotOnWheel {
 
 /// A pin wheel: its letters, in the wheel's own order, with a pin beside each letter.
 ///
-/// The wheel may lack some letters of the alphabet. The field `acting` has the place of the acting pin, not of the
-/// shown letter, because each key press needs the acting pin.
+/// The wheel may lack some letters of the alphabet. The field `acting` is the place of the acting pin, which each key
+/// press needs.
 #[derive(Clone, Copy)]
 pub struct PinWheel<const N: usize> {
     ring: Ring<N>,
@@ -94,7 +94,7 @@ impl<const N: usize> PinWheel<N> {
         pins[*acting]
     }
 
-    /// Turns the wheel by one place, to the next letter in the wheel's order; after the last letter comes the first.
+    /// Turns the wheel to the next letter in the wheel's order; after the last letter comes the first.
     pub fn advance(&mut self)
         ensures next { self.new ≡ wheel_at_place self.old (place_past N self.old.place 1) }
         ensures wheel { IsWheel N self.new }
@@ -162,7 +162,7 @@ impl<const N: usize> PinWheel<N> {
 
 /// The place after `place` on a wheel of `size` places, with place 0 after the last place.
 ///
-/// The code compares rather than divides, because each key press waits for the result.
+/// The code compares, because a division would slow each key press.
 fn next_place(place: usize, size: usize) -> usize
     requires { place < size }
     ensures { result ≡ place_past size place 1 }

@@ -9,7 +9,7 @@ abbrev pub StandAlike : Parts → ℕ → ℕ → Type 0
 StandAlike (Rotor machine) place other = slice_get machine.cables place ≡ slice_get machine.cables other
 StandAlike (Pin machine) place other = slice_get machine.bars place ≡ slice_get machine.bars other
 
--- The day's columns at `place` and `other`, counted from 0, are both empty; on a Converter, the day's rows there are
+-- The day's columns at `place` and `other`, counted from 0, are both empty. On a Converter, the day's rows there are
 -- equal.
 abbrev pub ReadAlike : Day → ℕ → ℕ → Type 0
 ReadAlike (Rotor day) place other = (length day.pairs ≤ place) × (length day.pairs ≤ other)

@@ -10,8 +10,7 @@ use Rattle.kd_card.specs.Proving.{AreSettingsNeeded, Expands, IsSettingNeeded, p
 use Rattle.kd_prices.specs.declared.doubt.Doubt.TheVariants.{NeedlessLine, NotTheSheet, PriceMissing, PriceTooHigh}
 use Rattle.kd_prices.specs.declared.doubt.Doubt.{Doubt, TheVariants.{IllegalAt, OtherModel, SumDiffers}}
 
--- The prices suit the machine: they are prices of cables and columns for a rotor machine, or of bars and rows for a
--- Converter M-209.
+-- The prices suit the machine: a rotor machine's are for cables and columns, a Converter's for bars and rows.
 abbrev pub PricesSuitMachine : Parts → PriceParts → Type 0
 PricesSuitMachine (Rotor machine) (Cables row col) = Unit {0}
 PricesSuitMachine (Rotor machine) (CableKinds row col) = Unit {0}
@@ -19,7 +18,7 @@ PricesSuitMachine (Pin machine) (Bars row col) = Unit {0}
 PricesSuitMachine (Pin machine) (BarKinds row col) = Unit {0}
 PricesSuitMachine _ _ = ⊥
 
--- Row by row, the cell in row `i` and column `j` comes before the cell in row `row` and column `column`.
+-- Row by row, the cell in row `i`, column `j` comes before the cell in row `row`, column `column`.
 abbrev pub CellComesBefore : ℕ → ℕ → ℕ → ℕ → Type 0
 CellComesBefore i j row column = (i < row) ⊎ ((i ≡ row) × (j < column))
 
@@ -88,15 +87,15 @@ IsDoubt machine day settings prices doubt = IsCheckedAnswer machine day settings
 
 -- ---- The steps of finding the first doubt. No public contract cites these definitions.
 
--- The result of checking settings by the prices `rows` and `columns` of the table of costs, `number` prices each:
+-- The result of checking settings by two lists of `number` prices: `rows` and `columns` of the table of costs. It is
 -- success if the settings lead to the day and are proved shortest, otherwise the first doubt.
 abbrev pub IsByPricesAnswer : Parts → Day → List Setting → ℕ → List ℤ → List ℤ → AnswerRule Doubt (Unit {0})
 IsByPricesAnswer machine day settings number rows columns answer =
     (prices : PriceParts) → machine_prices prices ≡ rows → day_prices prices ≡ columns → table_size prices ≡ number
     → IsByNumberAnswer machine day settings prices answer
 
--- The result of finding a price for each row and each column of the table of costs: both lists of prices, or the first
--- doubt. `make` makes the prices of a card from the two lists.
+-- The result of finding the prices of the table's rows and columns: two lists of prices, or the first doubt. `make`
+-- makes the prices of a card from the two lists.
 abbrev pub ArePricesFound : Parts → Day → PriceParts → (List ℤ → List ℤ → PriceParts)
     → AnswerRule Doubt (List ℤ × List ℤ)
 ArePricesFound machine day prices make = do

@@ -6,7 +6,7 @@ use Rattle.kd_card.specs.Prices.{cost_at, price_at}
 abbrev pub ListsFitAt : List (List ℕ) → List ℤ → List ℤ → ℕ → ℕ → Type 0
 ListsFitAt costs rows columns i j = (price_at rows i +ℤ price_at columns j) ≤ℤ pos (cost_at costs i j)
 
--- In a row with these costs, the row's `price` plus the price of column `j` is at most the cost in column `j`.
+-- The row's `price` plus the price of column `j` is at most the row's cost in column `j`.
 abbrev pub FitsAtColumn : List ℕ → ℤ → List ℤ → ℕ → Type 0
 FitsAtColumn costs price columns j = (price +ℤ price_at columns j) ≤ℤ pos (slice_index costs j)
 

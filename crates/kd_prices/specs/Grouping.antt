@@ -9,7 +9,7 @@ abbrev pub HaveOnePriceEach : {X : Type 0} → List (X × ℤ) → Type 0
 HaveOnePriceEach {X} pairs =
     (key : X) (price other : ℤ) → Contains pairs (key, price) → Contains pairs (key, other) → price ≡ other
 
--- The key (letters, a standing or a reading) has the form that a card writes, and its price is from -9999 to 9999.
+-- A card may have the key (letters, a standing or a reading), and the price is from -9999 to 9999.
 abbrev pub IsValidKeyAndPrice : {K X : Type 0} → KindFormat K X → X × ℤ → Type 0
 IsValidKeyAndPrice format pair = format.InForm pair.0 × (unsigned_abs pair.1 ≤ 9999)
 
@@ -28,9 +28,9 @@ pub record CanBeKinds {K X : Type 0} (format : KindFormat K X) (pairs : List (X 
   pub one_price : HaveOnePriceEach pairs
   pub fine : All (IsValidKeyAndPrice format) pairs
 
--- `new` is `old` followed by added kinds. The added kinds count the key of `kind` as often as `kind` does, and each key
--- in `pairs` once, all with their prices. Suppose that these keys can be grouped into valid kinds. Then the added kinds
--- are valid and strictly ascending. If the key of `kind` comes after a kind `last`, so do all added kinds.
+-- `new` is `old` followed by added kinds. Together, these count what `kind` counts, and each key of `pairs` with its
+-- price. Suppose that these keys can be grouped into valid kinds. Then the added kinds are valid and strictly
+-- ascending. If the key of `kind` comes after a kind `last`, so do all added kinds.
 pub record AppendsKinds {K X : Type 0} (format : KindFormat K X) (kind : KindOf X) (pairs : List (X × ℤ))
     (old new : List K) : Type 0 where
   pub made : List K
@@ -46,6 +46,6 @@ pub record AppendsKinds {K X : Type 0} (format : KindFormat K X) (kind : KindOf 
 abbrev pub HasNoneLeft : {X : Type 0} → List (KindOf X) → X → Type 0
 HasNoneLeft kinds key = All (λ pair. pair.0 ≢ key) (expansion kinds)
 
--- Without one `key` that has the price `price`, `kinds` count the same keys and prices as `left`.
+-- `kinds` count what `left` counts, and one more `key` with the price `price`.
 abbrev pub TakesOne : {X : Type 0} → List (KindOf X) → X → ℤ → List (KindOf X) → Type 0
 TakesOne kinds key price left = IsPermutation (expansion kinds) ((key, price) ∷ expansion left)

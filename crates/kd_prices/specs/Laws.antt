@@ -39,8 +39,8 @@ RestIsShortest =
     → Proves machine day settings prices → lines ≤ length settings → Leads machine (take lines settings) between
     → AreShortest between day (drop lines settings) (length settings - lines)
 
--- On a rotor machine, cables with the same letters have equal prices, and all columns without a pair have equal prices.
--- On a Converter, bars with the same standing have equal prices, and rows with the same reading have equal prices.
+-- On a rotor machine, cables with the same letters have equal prices, and so have all columns without a pair. On a
+-- Converter, bars with the same standing have equal prices, and so have rows with the same reading.
 pub record AreEqualWhereAlike (machine : Parts) (day : Day) (prices : PriceParts) : Type 0 where
   pub rows :
       (place other : ℕ) → place < table_size prices → other < table_size prices → StandAlike machine place other

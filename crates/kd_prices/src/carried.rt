@@ -15,7 +15,7 @@ pub(crate) struct Carried {
     pub need_result: Result<(), Doubt>,
 }
 
-/// Carries out `settings` in turn. Returns the machine reached, and whether each setting was needed.
+/// Carries out `settings` in turn. Returns the machine reached, and any doubt about the first needless setting.
 ///
 /// A setting is needed if it changes a cable or a bar, or lowers the number of loose things by one. The error is the
 /// doubt about the first setting that the machine refuses.
@@ -48,10 +48,10 @@ pub(crate) fn carry_settings(
     })
 }
 
-/// Checks that `setting`, on line `line`, is needed: it changes a cable or a bar, or lowers the number of loose things
-/// by one.
+/// Checks that the setting on line `line` is needed.
 ///
-/// The number of loose things is `before` before the setting, and `after` after it.
+/// It is needed if it changes a cable or a bar, or if `before` is `after` plus one. These are the numbers of loose
+/// things before and after the setting.
 fn check_need(setting: &Setting, line: usize, before: usize, after: usize) -> Result<(), Doubt>
     requires { after ≤ 137 }
     ensures { let is_needed = IsFalse (proving.is_priced_setting setting.now) → before ≡ after + 1 in

@@ -33,7 +33,7 @@ pub fn check(machine: &Machine, day: &SheetDay, card: &Card) -> Result<(), Doubt
     first_doubt(machine, day, card)
 }
 
-/// Compares the models, finds a price for each row and column of the table of costs, and checks the card by the prices.
+/// Compares the models, finds the prices of the table's rows and columns, and checks the card by the prices.
 fn first_doubt(machine: &Machine, day: &SheetDay, card: &Card) -> Result<(), Doubt>
     ensures answer { IsCheckedAnswer machine.now day.now card.now.settings.items card.now.prices result }
     ensures machine { IsMachine machine.now }
@@ -77,7 +77,7 @@ fn cable_prices(
     }
 }
 
-/// Finds the price of each bar and each row of the sheet: its own price, or the price of its kind.
+/// Finds the price of each bar and each row: its own price, or the price of its kind.
 fn bar_prices(
     parts: &PinParts,
     entry: &PinEntry,
@@ -98,7 +98,7 @@ fn bar_prices(
     }
 }
 
-/// Finds the first doubt about a card's `settings`, by the prices of the rows and columns of the table of costs.
+/// Finds the first doubt about a card's `settings`, given the prices of rows and columns of the table of costs.
 ///
 /// If the prices weren't found, the result is the doubt in `prices`.
 fn check_by_prices<const N: usize>(

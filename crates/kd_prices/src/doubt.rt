@@ -14,26 +14,26 @@ pub enum Doubt {
     ///
     /// Cards for rotor machines have prices of cables, and cards for the Converter have prices of bars.
     OtherModel,
-    /// The card has a price for each kind, but its kinds or their counts differ from the machine's or the day's.
+    /// The card has prices by kind, but its kinds or their counts differ from the machine's or the day's.
     PriceMissing,
     /// The machine refuses this line, for this reason, after the lines before it are carried out.
     IllegalAt(usize, Why),
-    /// After all settings of the card, the machine isn't set as the day says, or doesn't show the day's letters.
+    /// After the card's settings, the machine isn't set as the day says, or shows other letters than the day's.
     NotTheSheet,
-    /// In the table of costs, the prices of this row and this column add up to more than the cost in their cell.
+    /// In the table of costs, the prices of this row and this column together exceed the cost in their cell.
     ///
     /// This cell is the first whose prices are too high, row by row. Rows and columns are counted from 1. A row of the
-    /// table is for a cable or a bar; a column is for a pair, for no pair, or for a row of the sheet.
+    /// table is for a cable or a bar. A column is for a pair, for no pair, or for a row of the sheet.
     PriceTooHigh(u8, u8),
     /// The sum of the prices isn't the number of lines that change a cable or a bar.
     SumDiffers,
-    /// This line is the first that isn't needed: it changes no cable and no bar, and doesn't lower the number of
-    /// loose things by one.
+    /// This line is the first that isn't needed. It changes no cable and no bar, and doesn't lower the number of loose
+    /// things by one.
     NeedlessLine(usize),
 }
 
 impl Doubt {
-    /// The text of the refusal, such as `17 NeedlessLine 2`: number and name, and then the details that the doubt has.
+    /// The refusal's text, such as `17 NeedlessLine 2`: number and name, and then any details of the doubt.
     pub fn text(&self) -> Text
         ensures { result.bytes ≡ doubt_text self.now }
     {

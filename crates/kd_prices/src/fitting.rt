@@ -1,8 +1,8 @@
-//! Finds the first cell of a table of costs where the prices of row and column add up to more than the cost.
+//! Finds the first cell of a table of costs where the prices of row and column together exceed the cost.
 ghost use Rattle.std.specs.Prelude.{◌≡◌, ◌↔◌, ℕ, ◌<◌, length, MatchOption, IsTrue};
 ghost use Rattle.kd_prices.specs.{Doubt.IsFirstWithout, Fitting.{FitsAtColumn, IsFirstPlaceWithout, ListsFitAt}};
 
-/// Finds the first cell, row by row, where the prices of row and column add up to more than the cell's cost.
+/// Finds the first cell, row by row, where the prices of row and column together exceed the cost.
 ///
 /// The cell's row and column are counted from 0.
 pub(crate) fn first_too_high<const N: usize>(
@@ -24,7 +24,7 @@ pub(crate) fn first_too_high<const N: usize>(
     None
 }
 
-/// Finds the first column, counted from 0, where the sum of the row's `price` and the column's price is above the cost.
+/// Finds the first column, counted from 0, where the row's `price` plus the column's price exceeds the cost.
 fn first_column_too_high(costs: &[u8], price: i16, columns: &[i16]) -> Option<usize>
     requires { length costs.now ≡ length columns.now }
     ensures { MatchOption result

@@ -7,7 +7,8 @@ use super::kind_keys::is_same_key;
 use arrayvec::ArrayVec;
 use kd_card::{Kind, KindOf};
 
-/// Groups keys into kinds. If keys and prices are valid, and equal keys have equal prices, equal keys share one kind.
+/// Groups keys with prices into kinds. Equal keys share one kind, if they have equal prices, and all keys and prices
+/// are valid.
 ///
 /// `pairs` are keys (the letters of a cable or column, a standing or a reading) with their prices. If equal keys have
 /// different prices, several kinds have this key, and `Prices` refuses the kinds.
@@ -37,9 +38,9 @@ fn kind_of_one<T: Copy>(pair: &(T, i16)) -> KindOf<T>
     }
 }
 
-/// Appends `kind` to `kinds`, and then the kinds of `pairs`. Each of the `pairs` is a key with its price.
+/// Appends `kind` to `kinds`, and then the kinds of `pairs`, which are keys with prices.
 ///
-/// If the list `pairs` begins with pairs that have the key and the price of `kind`, they are counted in `kind`.
+/// If the first `pairs` have the key and the price of `kind`, they are counted in `kind`.
 fn push_kinds<K: Kind, const N: usize>(
     kind: KindOf<K::Key>,
     pairs: &[(K::Key, i16)],

@@ -1,4 +1,4 @@
-//! Finds the price of each cable, column, bar or row on a card where each kind has one price.
+//! Finds the price of each cable, column, bar or row on a card with prices by kind.
 ghost use Rattle.std.specs.Prelude.{◌≡◌, ◌↔◌, ◌<◌, length, map, ℤ, List, IsTrue, MatchOption};
 ghost use Rattle.kd_card.specs.{Kinds.{AreKindsOf, IsGroup}, Prices.ArePricesInRange};
 ghost use Rattle.kd_prices.specs.Grouping.{HasNoneLeft, TakesOne};
@@ -7,9 +7,10 @@ use super::kind_keys::is_same_key;
 use arrayvec::ArrayVec;
 use kd_card::{Kind, KindOf};
 
-/// Finds the price of each cable, column, bar or row by its key in `keys`: the price of the kind with this key.
+/// Finds a price for each key in `keys`: the price of the kind with this key.
 ///
-/// `None` if a key has no kind, or if `keys` doesn't have each key as often as the count of its kind says.
+/// A key is of a cable, column, bar or row. `None` if a key has no kind, or comes more or less often than its kind's
+/// count says.
 pub(crate) fn prices_of<K: Kind, const N: usize>(
     keys: &[K::Key],
     mut kinds: ArrayVec<K, N>,

@@ -1,5 +1,4 @@
-//! Checks whether a card proves itself. Converts cards with a price for each cable, pair, bar or row to cards with a
-//! price for each kind.
+//! Checks whether a card proves itself. Converts prices by number (for each cable, pair, bar or row) to prices by kind.
 #![tactic(auto)]
 
 mod carried;

@@ -16,7 +16,7 @@ use Rattle.kd_sheet.specs.declared.key.Key.{Key}
 use Rattle.kd_sheet.specs.declared.fault.SheetFault.{SheetFault}
 use Rattle.kd_sheet.specs.declared.fault.SheetFault.TheVariants.{NotToml, Missing, BadValue}
 
--- the values of the items, in order, or the first fault; `parse` reads an item, given the values of the items before it
+-- the values of the items, in order, or the first fault; `parse` gets the earlier items' values and the item
 abbrev pub read_items : {A : Type 0} → (List A → Data → Result A SheetFault) → List Data → Result (List A) SheetFault
 read_items parse [] = Ok []
 read_items parse (first ∷ rest) = do
@@ -30,7 +30,7 @@ document_of bytes = if is_utf8 bytes then ok_or (parse_document bytes) NotToml e
 abbrev pub value_at : Key → Members → Result Data SheetFault
 value_at key table = ok_or (get_member (key_name key) table) (Missing key)
 
--- the result of `parse` for the value at `key`; `Missing` if the key is absent, `BadValue` if `parse` gives `None`
+-- the result of `parse` for the value at `key`. `Missing` if the key is absent, `BadValue` if `parse` gives `None`.
 abbrev pub read_at : {A : Type 0} → Key → (Data → Option A) → Members → Result A SheetFault
 read_at key parse table = value_at key table >>= (λ value. ok_or (parse value) (BadValue key))
 
@@ -44,7 +44,7 @@ items_list (item first rest) = first ∷ items_list rest
 abbrev pub as_items : Data → Option (List Data)
 as_items value = option_map items_list (as_array value)
 
--- the values that `parse` gives for the items of the array `value`; the number of items must pass the test `fits`
+-- the values that `parse` gives for the items of the array `value`; their number must pass the test `fits`
 abbrev pub read_array : {A : Type 0} → Key → (ℕ → Bool) → (List A → Data → Result A SheetFault) → Data
     → Result (List A) SheetFault
 read_array key fits parse value = do

@@ -1,5 +1,5 @@
--- The laws of machine files and key sheets: a written machine is read back, and a day is legal exactly if some entry of
--- a key sheet describes it.
+-- The laws of machine files and key sheets. A written machine is read back. A day is legal exactly if some entry of a
+-- key sheet describes it.
 use Rattle.std.specs.Prelude.{◌≡◌, ◌↔◌, ℕ, List, [], ◌∷◌, Contains, Some, Ok}
 use Rattle.toml.specs.Data.{Data}
 use Rattle.kd_state.specs.declared.machine.parts.Parts.{Parts}
@@ -12,8 +12,7 @@ use Rattle.kd_sheet.specs.Sheet.{day_of, month_of}
 use Rattle.kd_sheet.specs.SheetFile.{day_for, sheet_of}
 use Rattle.kd_sheet.specs.SheetText.{AreSheetDays, sheet_text}
 
--- The file written for a machine's legal parts is read as the same parts, but with each cable's letters in alphabetical
--- order.
+-- The file written for legal parts is read as the same parts, but with each cable's letters in alphabetical order.
 abbrev pub LegalPartsAreReadBack : Type 0
 LegalPartsAreReadBack = (m : Parts) → IsLegal m → machine_of (machine_text m) ≡ Ok (with_cables_in_order m)
 
@@ -30,8 +29,8 @@ WrittenSheetsAreReadBack = (day : Day) (days : List Day) → AreSheetDays [] (da
 abbrev pub LegalDaysAreDescribed : Type 0
 LegalDaysAreDescribed = (day : Day) → IsLegalDay day ↔ ((entry : Data) × (day_for [] entry ≡ Ok day))
 
--- Let the entries of a key sheet describe `days` without a fault. Then day `number` of the month is the day described
--- by the entry with this number.
+-- Suppose that the entries of a key sheet describe `days` without a fault. Then day `number` of the month is the day
+-- described by the entry with this number.
 abbrev pub DaysAreTheEntries : Type 0
 DaysAreTheEntries = (entries : List Data) (days : List Day) (number : ℕ) (day : Day)
     → read_items day_for entries ≡ Ok days

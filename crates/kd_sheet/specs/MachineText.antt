@@ -24,7 +24,7 @@ use Rattle.kd_sheet.specs.declared.key.Key.TheVariants as keys
 abbrev pub quoted_text : List ℕ → List ℕ
 quoted_text text = codes "\"" ++ text ++ codes "\""
 
--- an array: `texts` in double quotes, with a comma and a space between them, and brackets around them all
+-- an array: `texts` in double quotes, with a comma and a space between them, all in brackets
 abbrev pub array_text : List (List ℕ) → List ℕ
 array_text texts = codes "[" ++ join_by quoted_text (codes ", ") texts ++ codes "]"
 
@@ -32,7 +32,7 @@ array_text texts = codes "[" ++ join_by quoted_text (codes ", ") texts ++ codes 
 abbrev pub key_line : Key → List ℕ → List ℕ
 key_line key value = key_name key ++ codes " = " ++ value ++ codes "\n"
 
--- the lowest version of machine files that has `model`; machines of `model` are written in this version
+-- the version in which machines of `model` are written: the lowest version that has this model
 abbrev pub file_version : Model → ℕ
 file_version M4 = 2
 file_version _ = 1

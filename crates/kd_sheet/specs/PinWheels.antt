@@ -16,15 +16,15 @@ use Rattle.kd_sheet.specs.declared.key.Key.TheVariants as keys
 use Rattle.kd_sheet.specs.declared.fault.SheetFault.{SheetFault}
 use Rattle.kd_sheet.specs.declared.fault.SheetFault.TheVariants.{BadValue}
 
--- the letters that the six wheels show, from the text at `key`: the first letter is on wheel 1, and so on
+-- the letters that the six wheels show, from wheel 1 to wheel 6, as the text at `key` has them
 unfoldable pub shown_letters_in : Key → Members → Result (List ℕ) SheetFault
 shown_letters_in key table = do
   letters ← letters_at key 6 table
   demand (list_all (λ numbered. has_letter (ring_of numbered.0) numbered.1) (enumerate_from 1 letters)) (BadValue key)
   Ok letters
 
--- The pins of a wheel, in the order of the wheel's letters `ring`: a pin is effective if `text` has the pin's letter.
--- The result is `None` if a byte of `text` isn't a capital letter of the wheel, or comes twice.
+-- The pins of a wheel, in the order of the wheel's letters `ring`. A pin is effective if `text` has its letter. The
+-- result is `None` if a byte of `text` isn't a capital letter of the wheel, or comes twice.
 unfoldable pub pins_of_text : List ℕ → List ℕ → Option (List Bool)
 pins_of_text ring text =
     if list_all (has_letter (letters_text ring)) text && are_new_and_distinct text []

@@ -1,5 +1,5 @@
 -- A key sheet as a month, in which some days have an entry.
--- Code: `Sheet` has an array of 31 places; each day that is read is put at the place of its number.
+-- Code: `Sheet` has an array of 31 places, and puts each day at the place of its number.
 -- Test: tests/cases/desk-files.toml
 use Rattle.std.specs.Prelude.{◌≡◌, ℕ, ◌==◌, List, length, map, find, Option, Some}
 use Rattle.std.specs.List.{range_with_len}

@@ -19,7 +19,7 @@ section_gap started = if started then codes "\n" else []
 abbrev pub section_text : Bool → List (List ℕ) → List ℕ
 section_text started lines = section_gap started ++ codes "[[day]]\n" ++ concat lines
 
--- the sections of several days; for each day, its lines are given
+-- the sections of several days, each given by its lines
 abbrev pub sections_text : Bool → List (List (List ℕ)) → List ℕ
 sections_text started [] = []
 sections_text started (lines ∷ days) = section_text started lines ++ sections_text true days
@@ -68,7 +68,7 @@ day_lines (Pin s) = pin_day_lines s
 unfoldable pub sheet_text : List Day → List ℕ
 sheet_text days = sections_text false (map day_lines days)
 
--- Each day in the second list is legal, and no day before it, in either list, has its number.
+-- Each day in the second list is legal. Its number differs from the numbers of all days before it, in both lists.
 abbrev pub AreSheetDays : List Day → List Day → Type 0
 AreSheetDays earlier [] = ⊤
 AreSheetDays earlier (day ∷ days) =

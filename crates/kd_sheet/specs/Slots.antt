@@ -1,4 +1,4 @@
--- How the wheels in the slots of a machine file or a day are read, item by item from the left.
+-- How the wheels in slots are read from a machine file or a day, item by item from the left.
 -- Test: tests/cases/desk-files.toml
 use Rattle.std.specs.Prelude.{nat_eq, ◌+◌, false, not, List, [], length, Option, Some, None, Result, Ok}
 use Rattle.std.specs.Prelude.{ok_or}
@@ -17,7 +17,7 @@ use Rattle.kd_sheet.specs.declared.key.Key.TheVariants as keys
 use Rattle.kd_sheet.specs.declared.fault.SheetFault.{SheetFault}
 use Rattle.kd_sheet.specs.declared.fault.SheetFault.TheVariants.{BadValue, WheelTwice, WheelNotAllowed}
 
--- The wheel that `item` names, for the next slot after `slots`: the model must allow the wheel there, and no slot of
+-- The wheel that `item` names, for the next slot after `slots`. The model must allow the wheel there, and no slot of
 -- `slots` may hold it. If `item` names a wheel that the model lacks, the fault is `WheelNotAllowed`, not `BadValue`.
 unfoldable pub wheel_for : Key → Model → List (Option Wheel) → Data → Result Wheel SheetFault
 wheel_for key model slots item = do
@@ -26,7 +26,7 @@ wheel_for key model slots item = do
   demand (not (list_any (λ slot. option_map_or (same_wheel wheel) slot false) slots)) WheelTwice
   Ok wheel
 
--- the content of the next slot after `slots`: the wheel that `item` names; in a machine file, `""` is an empty slot
+-- the content of the next slot after `slots`: the wheel that `item` names. In a machine file, `""` means an empty slot.
 unfoldable pub slot_for : Key → Model → List (Option Wheel) → Data → Result (Option Wheel) SheetFault
 slot_for keys.Slots model slots (string []) = Ok None
 slot_for key model slots item = wheel_for key model slots item >>= (λ wheel. Ok (Some wheel))

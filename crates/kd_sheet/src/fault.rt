@@ -12,14 +12,14 @@ use thiserror::Error;
 pub enum SheetFault {
     /// The bytes aren't a TOML document.
     NotToml,
-    /// The text at `model` isn't the name of a model, or names the M4 in a machine file of version 1.
+    /// The text at `model` names no model, or the M4 in a machine file of version 1.
     UnknownModel,
     /// A required key is absent.
     Missing(Key),
     /// A key's value is wrong.
     ///
-    /// The value or one of its items has the wrong type, form or length; is a number out of range; names no wheel, or
-    /// no reflector of the model; has a letter that isn't on its pin wheel; or names a pin twice.
+    /// The value or one of its items may have the wrong type, form or length, or be a number out of range. It may name
+    /// no wheel, or no reflector of the model. It may have a letter that isn't on its pin wheel, or name a pin twice.
     BadValue(Key),
     /// A letter occurs twice among the cables, or among the pairs.
     LetterTwice,

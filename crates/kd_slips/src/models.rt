@@ -120,7 +120,6 @@ pub fn model_at(alloc: Global, table: &Table) -> Result<Model, Slip> {
     }
 }
 
-/// Whether one of the model's reflectors has this name.
 fn has_reflector(model: Model, name: &str) -> bool {
     match Reflector::from_text(name.as_bytes()) {
         Some(reflector) => model.reflectors().contains(&reflector),

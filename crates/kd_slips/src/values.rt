@@ -179,7 +179,6 @@ fn is_printed(byte: u8) -> bool
     32 <= byte && byte != 127
 }
 
-/// Whether each byte of `bytes` can be printed.
 fn are_printed(bytes: &[u8]) -> bool
     ensures { result ≡ list_all is_printed bytes.now }
 {

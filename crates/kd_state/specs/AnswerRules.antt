@@ -14,7 +14,7 @@ pub data ThenNext {F X Y : Type 0} (First : Result X F → Type 0) (Next : X →
   HasFault : (fault : F) → First (Err fault) → answer ≡ Err fault → ThenNext First Next answer
   GoesOn : (x : X) → First (Ok x) → Next x answer → ThenNext First Next answer
 
--- A rule for two steps: the first by `says`; the second by `next x`, where `x` is the value that the first found.
+-- The rule for two steps: first `says`, and then `next x` for the value `x` that the first step finds.
 infixl 10 ◌>>=◌
 abbrev pub ◌>>=◌ : {F X Y : Type 0} → AnswerRule F X → (X → AnswerRule F Y) → AnswerRule F Y
 says >>= next = ThenNext says next
@@ -23,17 +23,16 @@ says >>= next = ThenNext says next
 abbrev pub Yields : {F X : Type 0} → X → AnswerRule F X
 Yields x answer = answer ≡ Ok x
 
--- the rule of a search: any value with the property is a right answer; if no value has it, the fault is the right
--- answer
+-- the rule of a search: any value with the property is right. If no value has it, the fault is right.
 abbrev pub Finds : {F X : Type 0} → (X → Type 0) → F → AnswerRule F X
 Finds Holds due (Ok x) = Holds x
 Finds {X} Holds due (Err fault) = ((x : X) → ¬ (Holds x)) × (fault ≡ due)
 
--- The rule for a test: success is right if the statement holds, and the fault is right if the statement doesn't hold.
+-- The rule for a test: success is right if the statement holds, and otherwise the fault is right.
 abbrev pub Demands : {F : Type 0} → Type 0 → F → AnswerRule F (Unit {0})
 Demands Holds due = Finds (λ _. Holds) due
 
--- The rule for a step that always finds a value: a value with the property is right, and a fault never is.
+-- The rule for a step that always finds a value: any value with the property is right, a fault never.
 abbrev pub FindsAlways : {F X : Type 0} → (X → Type 0) → AnswerRule F X
 FindsAlways Holds (Ok x) = Holds x
 FindsAlways Holds (Err fault) = ⊥

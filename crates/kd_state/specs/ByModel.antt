@@ -1,14 +1,12 @@
--- Definitions by cases: a rotor machine with a rotor machine's day, a Converter with a Converter's day, and a machine
--- with a day of the other sort. `f = by_model u r p` means `f machine day = by_model u r p machine day`. `X` is a type
--- of values or of statements.
+-- Definitions by three cases: machine and day are both of rotor machines, both of Converters, or of different sorts. `f
+-- = by_model u r p` means `f machine day = by_model u r p machine day`. `X` is a type of values or of statements.
 use Rattle.kd_state.specs.declared.machine.rotor_parts.RotorParts.{RotorParts}
 use Rattle.kd_state.specs.declared.machine.pin_parts.PinParts.{PinParts}
 use Rattle.kd_state.specs.declared.machine.parts.Parts.{Parts}
 use Rattle.kd_state.specs.declared.machine.parts.Parts.TheVariants.{Rotor, Pin}
 use Rattle.kd_state.specs.SheetDay.{RotorDay, PinDay, Day, Rotor, Pin}
 
--- `rotor machine day` for a rotor machine with a rotor machine's day, `pin machine day` for a Converter with a
--- Converter's day, otherwise `unlike`
+-- `rotor machine day` if both are of rotor machines, `pin machine day` if both are of Converters, otherwise `unlike`
 abbrev pub by_model {ℓ} : {X : Type ℓ} → X → (RotorParts → RotorDay → X) → (PinParts → PinDay → X) → Parts → Day → X
 by_model unlike rotor pin (Rotor machine) (Rotor day) = rotor machine day
 by_model unlike rotor pin (Pin machine) (Pin day) = pin machine day

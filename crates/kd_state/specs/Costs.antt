@@ -1,4 +1,4 @@
--- The number of settings that give a cable exactly the letters of a column, or a bar the reading of a row.
+-- The fewest settings that give a cable the letters of a column, or a bar the reading of a row.
 -- Code: `cable_cost` goes through the alphabet; `bar_cost` tries the one or two standings that read as the row.
 -- Test: kd_trials/src/state.rt
 use Rattle.std.specs.Prelude.{ℕ, ◌+◌, ◌-◌, nat_eq, nat_lt, min, Bool, false, not, ◌&&◌, List, [], ◌∷◌, ◌++◌, length}
@@ -30,12 +30,12 @@ one_unless same = if same then 0 else 1
 abbrev pub column_letters : Option (ℕ × ℕ) → List ℕ
 column_letters column = option_map_or (λ pair. pair.0 ∷ pair.1 ∷ []) column []
 
--- the cost of a cable and a column: how many letters are in the cable or in the column's pair, but not in both
+-- the cost of a cable and a column: the number of letters that only one of them has
 abbrev pub cable_cost : Option ℕ × Option ℕ → Option (ℕ × ℕ) → ℕ
 cable_cost cable column =
     count_by (λ l. exactly_one (has_letter (cable_letters cable) l) (has_letter (column_letters column) l)) alphabet
 
--- how many lugs have to be moved for the first standing to become the second
+-- the number of lugs to move from the first standing to the second
 abbrev pub lugs_moved : Place × Place → Place × Place → ℕ
 lugs_moved bar other = one_unless (is_same_place bar.0 other.0) + one_unless (is_same_place bar.1 other.1)
 
@@ -48,8 +48,7 @@ standings_as row =
 abbrev pub bar_cost : Place × Place → ℕ × ℕ → ℕ
 bar_cost standing row = fold min 2 (map (lugs_moved standing) (standings_as row))
 
--- of the standings that read as the row, the one with the fewest lugs to move; if there are two, the first in
--- `standings`
+-- the standing that reads as the row with the fewest lugs to move; of two, the first in `standings`
 abbrev pub nearest_standing : Place × Place → ℕ × ℕ → Option (Place × Place)
 nearest_standing bar row = find (λ other. nat_eq (lugs_moved bar other) (bar_cost bar row)) (standings_as row)
 
@@ -64,14 +63,15 @@ columns_of pairs = map Some pairs ++ replicate (13 - length pairs) None
 abbrev pub costs_by : {X Y : Type 0} → (X → Y → ℕ) → List X → List Y → List (List ℕ)
 costs_by cost rows columns = map (λ row. map (cost row) columns) rows
 
--- the costs for a machine and a day of the same model: of each cable with each column, or of each bar with each row
+-- the cost table for machine and day of one model: cables with columns, or bars with rows
 abbrev pub cost_table : Parts → Day → List (List ℕ)
 cost_table = by_model [] (λ machine day. costs_by cable_cost machine.cables (columns_of day.pairs))
     (λ machine day. costs_by bar_cost machine.bars day.rows)
 
 -- ---- Loose things: all things that differ from the day, except cables and bars.
 
--- how many loose things there are: slots, reflector, rings and letters of the day's wheels; or pins and letters shown
+-- the number of loose things: slots, reflector, rings and letters of the day's wheels. On a Converter: pins and shown
+-- letters.
 abbrev pub loose_count : Parts → Day → ℕ
 loose_count = by_model 0
     (λ machine day.
@@ -85,7 +85,7 @@ loose_count = by_model 0
 
 -- ---- How the standings for a row are found. No public contract cites these definitions.
 
--- the place on a bar where this pin wheel acts; for 0, the left one of the two places without a wheel
+-- the place on a bar where this pin wheel acts; for 0, the left place without a wheel
 abbrev pub place_of_pin_wheel : ℕ → Place
 place_of_pin_wheel wheel = slice_index_or (ZeroLeft ∷ One ∷ Two ∷ Three ∷ Four ∷ Five ∷ Six ∷ []) wheel Six
 

@@ -1,4 +1,4 @@
--- The name of each reason to refuse a setting, and the text of each fault of a setting or a list.
+-- The names of the reasons to refuse a setting, and the texts of the faults of settings and lists.
 use Rattle.std.specs.Prelude.{codes, decimal, ℕ, List, ◌++◌}
 use Rattle.kd_tables.specs.declared.refusal.Refusal.TheVariants as refusals
 use Rattle.kd_tables.specs.Refusals.{refusal_name, word_after_space}

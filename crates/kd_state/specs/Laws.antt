@@ -43,7 +43,7 @@ ListsHaveOneResult =
     (machine after other : Parts) (settings : List Setting) → Leads machine settings after
     → Leads machine settings other → after ≡ other
 
--- If settings lead from one machine to another, none of them is refused on the way.
+-- If settings lead from one machine to another, no setting is refused on the way.
 abbrev pub LeadsOrRefuses : Type 0
 LeadsOrRefuses =
     (machine after : Parts) (settings : List Setting) (line : ℕ) (why : Why) → Leads machine settings after
@@ -97,22 +97,20 @@ ReadsAsDayEnciphersAsDay =
 abbrev pub OnKeyIsReady : Type 0
 OnKeyIsReady = (machine : Parts) (day : Day) → IsMachine machine → IsLegalDay day → OnKey machine day → IsReady machine
 
--- A machine on the day's key enciphers as the day asks, but it starts from the letters that it shows, not from the
--- day's letters.
+-- A machine on the day's key enciphers as the day asks, starting from the letters that it shows.
 abbrev pub OnKeyEnciphersByDaysKey : Type 0
 OnKeyEnciphersByDaysKey =
     (machine : Parts) (day : Day) (text : List ℕ) → IsMachine machine → IsLegalDay day → OnKey machine day
     → physical_cipher machine text ≡ cipher (key_with_window (sheet_key day) (window_of machine)) text
 
--- If a machine on the day's key is turned to other letters, it then enciphers by the day's key, starting from these
--- letters.
+-- A machine on the day's key that is turned to other letters enciphers by the day's key, starting from these letters.
 abbrev pub TurnedEnciphersByDaysKey : Type 0
 TurnedEnciphersByDaysKey =
     (machine turned : Parts) (day : Day) (window text : List ℕ) → IsMachine machine → IsLegalDay day → OnKey machine day
     → IsTurnedTo machine window turned
     → physical_cipher turned text ≡ cipher (key_with_window (sheet_key day) window) text
 
--- A ready machine can be turned to any letters that fit its slots or pin wheels, and its parts stay legal.
+-- A ready machine can be turned to any letters that fit its slots or pin wheels. Its parts stay legal.
 abbrev pub MachinesCanBeTurned : Type 0
 MachinesCanBeTurned =
     (machine : Parts) (window : List ℕ) → IsMachine machine → IsReady machine → IsWindow (physical_key machine) window
@@ -126,7 +124,7 @@ EquallySetDecipher =
     → window_of machine ≡ window_of other → All (λ letter. letter < 26) text
     → physical_cipher other (physical_cipher machine text) ≡ text
 
--- An engine on the day's key deciphers its own ciphertext, if it is turned back to the letters with which it began.
+-- An engine on the day's key deciphers its own ciphertext once it is turned back to its first letters.
 abbrev pub DaysEngineDeciphersItself : Type 0
 DaysEngineDeciphersItself = (day : Day) (window text : List ℕ) → IsLegalDay day → All (λ letter. letter < 26) text
     → cipher (key_with_window (sheet_key day) window) (cipher (key_with_window (sheet_key day) window) text) ≡ text
@@ -143,13 +141,13 @@ TurningChangesOnlyLetters =
     (machine turned : Parts) (window : List ℕ) → IsTurnedTo machine window turned
     → physical_key turned ≡ key_with_window (physical_key machine) window
 
--- A text can be enciphered in two chunks, the second with the key that the engine has after the first.
+-- A text can be enciphered in two chunks. The second chunk starts from the engine's key after the first chunk.
 abbrev pub CipherOfChunks : Type 0
 CipherOfChunks =
     (key : EngineKey) (first rest : List ℕ)
     → cipher key (first ++ rest) ≡ cipher key first ++ cipher (engine_key_after key (length first)) rest
 
--- The key after `count` letters, and then `more` letters, is the key after `count + more` letters.
+-- The key after `count` letters, and then after `more` letters, is the key after `count + more` letters.
 abbrev pub KeyAfterChunks : Type 0
 KeyAfterChunks =
     (key : EngineKey) (count more : ℕ)

@@ -13,7 +13,7 @@ use Rattle.kd_state.specs.declared.setting.Setting.TheVariants.{LugTo}
 use Rattle.kd_state.specs.declared.setting.list.ListFault.{ListFault}
 use Rattle.kd_state.specs.declared.setting.list.ListFault.TheVariants.{BadLine, TooMany}
 
--- the word for an effective or an ineffective pin in a line
+-- the word for a pin in a line: `ON` if it is effective, otherwise `OFF`
 abbrev pub on_off_text : Bool → List ℕ
 on_off_text effective = if effective then codes "ON" else codes "OFF"
 
@@ -60,15 +60,15 @@ pub record BeginsWithSettingLines (bytes : List ℕ) (settings : List Setting) (
 abbrev pub BeginsWithNoSetting : List ℕ → Type 0
 BeginsWithNoSetting bytes = (x : Setting) (rest : List ℕ) → IsSettingInRange x → bytes ≢ setting_line x ++ 10 ∷ rest
 
--- `bytes` are the lines of at most 192 `settings`, and then `rest`, which doesn't begin with a setting's line and LF.
+-- `bytes` are the lines of at most 192 `settings`, and then `rest`. `rest` doesn't begin with a setting's line and LF.
 pub record BeginsWithAllSettings (bytes : List ℕ) (settings : List Setting) (rest : List ℕ) : Type 0 where
   pub lines : BeginsWithSettingLines bytes settings rest
   pub few : length settings ≤ 192
   pub none_more : BeginsWithNoSetting rest
 
 -- Why the bytes aren't the text of a list. `BadLine` has the number, counted from 1, of the first line that has no LF
--- or isn't the line of a setting. At most 192 settings come before this line. `TooMany`: the bytes begin with the lines
--- of 193 settings.
+-- or isn't a setting's. At most 192 settings come before this line. `TooMany`: the bytes begin with the lines of 193
+-- settings.
 abbrev pub IsListFault : List ℕ → ListFault → Type 0
 IsListFault bytes (BadLine line) =
     (settings : List Setting) × (rest : List ℕ)

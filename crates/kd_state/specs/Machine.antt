@@ -59,7 +59,7 @@ abbrev pub HasAllPins : PinSet → Type 0
 HasAllPins pins = (wheel : ℕ) → length (wheel_pins pins wheel) ≡ length (ring_of wheel)
 
 -- ---- Which parts make a machine.
--- Source: the published accounts of the models; War Department TM 11-380; how a bar may stand is this desk's
+-- Source: the published accounts of the models; War Department TM 11-380. Which standings a bar may have is this desk's
 -- own rule.
 -- Code: `Machine` has these rules as its invariant.
 
@@ -110,11 +110,11 @@ abbrev pub model_of : Parts → Model
 model_of (Rotor machine) = machine.model
 model_of (Pin machine) = M209
 
--- the ring of a wheel, whether the wheel is in a slot or not; `None` if the model lacks the wheel
+-- the ring of a wheel, in a slot or in the box; `None` if the model lacks the wheel
 abbrev pub ring_at : RotorParts → Wheel → Option ℕ
 ring_at machine wheel = slice_get machine.rings (place_in_box machine.model wheel)
 
--- the window letter of a wheel, whether the wheel is in a slot or not; `None` if the model lacks the wheel
+-- the window letter of a wheel, in a slot or in the box; `None` if the model lacks the wheel
 abbrev pub letter_at : RotorParts → Wheel → Option ℕ
 letter_at machine wheel = slice_get machine.letters (place_in_box machine.model wheel)
 

@@ -1,5 +1,5 @@
--- When a machine is on a day's key (set as the day says), and when it also shows the day's letters.
--- Code: `on_key` sorts the cables of machine and day, or readings and rows, and compares them.
+-- When a machine is set as a day says (on the day's key), and when it shows the day's letters.
+-- Code: `on_key` sorts the cables of machine and day, or the bars' readings and the day's rows, and then compares.
 -- Test: tests/cases/desk-cards.toml
 use Rattle.std.specs.Prelude.{◌≡◌, ℕ, ◌-◌, List, ◌++◌, length, map, replicate, All, IsPermutation, Option, Some, None}
 use Rattle.std.specs.Option.{option_map, option_map_or}
@@ -32,12 +32,13 @@ pub record IsRotorOnKey (machine : RotorParts) (day : RotorDay) : Type 0 where
   pub reflector : machine.reflector ≡ day.reflector
   pub cables : IsPermutation machine.cables (cables_of day.pairs)
 
--- The machine is set as the day says, whatever letters it shows. Its bars have the day's readings, in any order.
+-- The machine is set as the day says, whatever letters it shows. On a Converter, the bars have the day's readings, in
+-- any order.
 abbrev pub OnKey : Parts → Day → Type 0
 OnKey = by_model ⊥ IsRotorOnKey
     (λ machine day. (machine.pins ≡ day.pins) × IsPermutation (map reading_of machine.bars) day.rows)
 
--- Each of the day's wheels has the day's window letter; on a Converter, the six pin wheels show the day's letters.
+-- Each of the day's wheels has the day's window letter. On a Converter, the six pin wheels show the day's letters.
 abbrev pub ShowsWindow : Parts → Day → Type 0
 ShowsWindow = by_model ⊥ (λ machine day. All (λ w. letter_at machine w.wheel ≡ Some w.letter) day.wheels)
     (λ machine day. machine.letters ≡ day.window)
@@ -49,6 +50,6 @@ pub record ReadsAs (machine : Parts) (day : Day) : Type 0 where
 
 -- ---- The cables by columns. No public contract cites this definition.
 
--- the cable for a column: it has the letters of the column's pair, in alphabetical order, or is empty without a pair
+-- the cable for a column: with the letters of the column's pair in alphabetical order, or empty without a pair
 abbrev pub cable_of_column : Option (ℕ × ℕ) → Option ℕ × Option ℕ
 cable_of_column column = option_map_or (λ pair. (Some pair.0, Some pair.1)) (pair_in_order column) (None, None)

@@ -1,4 +1,4 @@
--- The effect of a setting, part by part: when a machine allows the setting, and the one thing that changes.
+-- When a machine allows a setting, and which one thing the setting changes, part by part.
 -- Source: this desk's own rules; `outcome` in Setting.antt has the same rules as steps, with the reasons for refusals.
 -- Code: `carry` changes the machine in place.
 use Rattle.std.specs.Prelude.{◌≡◌, ◌≢◌, ◌↔◌, ℕ, ◌+◌, IsTrue, Bool, List, length, map, Contains}
@@ -23,8 +23,8 @@ pub record IsItemChanged {X : Type 0} (before : List X) (number : ℕ) (value : 
   pub item : numbered_item after number ≡ Some value
   pub others : (other : ℕ) → other ≢ number → numbered_item after other ≡ numbered_item before other
 
--- The machine has no reason to refuse the setting, and `after` is the machine with one item of one part changed.
--- Everything else stays, also the rings and letters of the wheels in the box. `Seat` also empties the wheel's old slot.
+-- The machine has no reason to refuse the setting. `after` is the machine with one item of one part changed. Everything
+-- else stays, also the rings and letters of the wheels in the box. `Seat` also empties the wheel's old slot.
 abbrev pub MakesOneChange : Parts → Setting → Parts → Type 0
 MakesOneChange (Rotor m) (Pull cable letter) after =
     (held : Option ℕ × Option ℕ) × (numbered_item m.cables cable ≡ Some held) × Contains (cable_letters held) letter
@@ -63,7 +63,7 @@ MakesOneChange (Pin m) (LugTo bar lug place) after =
     × (Pin (record m { bars = bars }) ≡ after)
 MakesOneChange _ _ after = ⊥
 
--- A machine carries a setting out exactly if it allows the setting, and then only one thing changes.
+-- A machine carries a setting out exactly if it allows the setting. Then only one thing changes.
 abbrev pub SettingsChangeOneThing : Type 0
 SettingsChangeOneThing =
     (machine after : Parts) (setting : Setting) → IsMachine machine

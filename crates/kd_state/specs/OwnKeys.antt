@@ -1,4 +1,4 @@
--- The key to which a machine is set, the key that a day asks for, and machines turned to other letters.
+-- The keys of machines and of days, and machines turned to other letters.
 -- Code: one type, `Engine`, serves all models.
 use Rattle.std.specs.Prelude.{◌≡◌, ℕ, List, map}
 use Rattle.kd_tables.specs.Permutation.{exchange}

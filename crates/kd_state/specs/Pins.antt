@@ -6,7 +6,7 @@ use Rattle.kd_pins.specs.declared.pin_set.PinSet.{PinSet}
 use Rattle.kd_pins.specs.PinWheels.{pins_of}
 use Rattle.kd_state.specs.SameParts.{numbered_item}
 
--- the pins of the pin wheel with this number, in the order of the wheel's letters; none if there is no such wheel
+-- the pins of the pin wheel with this number, in the wheel's order; none without such a wheel
 abbrev pub wheel_pins : PinSet → ℕ → List Bool
 wheel_pins pins wheel = unwrap_or (numbered_item (pins_of pins) wheel) []
 
@@ -20,7 +20,7 @@ pin_set lists =
     let at = λ (place : ℕ). slice_index_or lists place [] in
     record { w1 = at 0; w2 = at 1; w3 = at 2; w4 = at 3; w5 = at 4; w6 = at 5 }
 
--- `pins` with the pin at `letter` of wheel `wheel` made effective, or not effective
+-- `pins` after the pin at `letter` of wheel `wheel` is made effective or ineffective
 abbrev pub with_pin : PinSet → ℕ → ℕ → Bool → PinSet
 with_pin pins wheel letter effective =
     pin_set (slice_set (pins_of pins) (wheel - 1)

@@ -18,7 +18,7 @@ same_wheel = (wheel_eq.ghosts).eq
 abbrev pub same_reflector : Reflector → Reflector → Bool
 same_reflector = (reflector_eq.ghosts).eq
 
--- the place of the wheel in the model's box, counted from 0; the length of the box if the wheel isn't in it
+-- the wheel's place in the model's box, counted from 0; the box's length if the wheel isn't in it
 abbrev pub place_in_box : Model → Wheel → ℕ
 place_in_box model wheel = position_or_len (same_wheel wheel) (box_of model)
 

@@ -46,7 +46,7 @@ cable_without letter cable = if option_map_or (nat_eq letter) cable.0 false then
 abbrev pub cable_with : ℕ → Option ℕ × Option ℕ → Option ℕ × Option ℕ
 cable_with letter cable = cable_in_order (option_or cable.0 cable.1) (Some letter)
 
--- the content of a slot once this wheel is taken out: nothing if the slot held this wheel, otherwise as before
+-- a slot's content once this wheel is taken out: nothing if the slot held the wheel, otherwise as before
 abbrev pub seat_without : Wheel → Option Wheel → Option Wheel
 seat_without wheel seated = if option_map_or (same_wheel wheel) seated false then None else seated
 
@@ -55,9 +55,9 @@ seat_without wheel seated = if option_map_or (same_wheel wheel) seated false the
 -- Code: `carry` changes the machine in place.
 -- Test: tests/cases/desk-lists.toml
 
--- The machine after the setting; or, if the setting is refused, the first reason, in the order of the lines below.
--- `Seat` empties the wheel's old slot. A wheel that was in the new slot is then in no slot. Both wheels keep their
--- rings and window letters.
+-- The machine after the setting, or the first reason to refuse the setting. The lines below are in the order of
+-- testing. `Seat` empties the wheel's old slot. A wheel that was in the new slot is then in no slot. Both wheels keep
+-- their rings and window letters.
 abbrev pub outcome : Parts → Setting → Result Parts Why
 outcome (Rotor machine) (Pull cable letter) = do
   held ← ok_or (numbered_item machine.cables cable) NoSuchCable
@@ -128,8 +128,8 @@ pub record IsFirstIllegal (machine : Parts) (settings : List Setting) (line : �
 
 -- ---- What `carry` answers for machines of one sort. No public contract cites this definition.
 
--- The answer to a setting is right. Either the machine has carried the setting out; or the machine is unchanged,
--- and the answer is the first reason to refuse the setting.
+-- The answer to a setting is right. With success, the machine has carried the setting out. With a reason, it is the
+-- first reason to refuse, and the machine is unchanged.
 abbrev pub IsCarryAnswer : Parts → Setting → Parts → Result ⊤ Why → Type 0
 IsCarryAnswer machine setting after answer =
     MatchResult answer (λ _. Carries machine setting after) (λ why. Refuses machine setting why × (after ≡ machine))

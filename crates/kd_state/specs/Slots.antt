@@ -14,6 +14,6 @@ abbrev pub HasSlotCount : {T : Type 0} → Slots T → Type 0
 HasSlotCount (Three values) = length values ≡ 3
 HasSlotCount (Four values) = length values ≡ 4
 
--- the list of values as `Three` if it has three values, and otherwise as `Four`
+-- the values as `Three` if there are three, otherwise as `Four`
 abbrev pub slots_of_values : {T : Type 0} → List T → Slots T
 slots_of_values values = if length values == 3 then Three values else Four values

@@ -16,7 +16,7 @@ HasWheelCount (Five values) = length values ≡ 5
 HasWheelCount (Eight values) = length values ≡ 8
 HasWheelCount (Ten values) = length values ≡ 10
 
--- the list of values as `Five` if it has five values, as `Eight` if it has eight, and otherwise as `Ten`
+-- the values as `Five` if there are five, as `Eight` if there are eight, otherwise as `Ten`
 abbrev pub wheels_of_values : {T : Type 0} → List T → Wheels T
 wheels_of_values values =
     if length values == 5 then Five values else (if length values == 8 then Eight values else Ten values)

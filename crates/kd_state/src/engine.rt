@@ -129,7 +129,7 @@ pub fn own_engine(day: &SheetDay) -> Engine
     }
 }
 
-/// Turns a rotor machine's wheels until they show `letters`. False if there aren't as many letters as wheels.
+/// Turns a rotor machine's wheels until they show `letters`. Returns false if the numbers of letters and wheels differ.
 fn turn_wheels<const S: usize>(enigma: &mut Enigma<S>, letters: &[Letter]) -> bool
     ensures window { IsTrue result ↔ AreLetters S letters.now }
     ensures turned { OnTrue result (enigma.new ≡ key_turned enigma.old letters.now) }

@@ -30,7 +30,7 @@ pub fn settings_keep_machines()
     ensures lists { ListsKeepMachines }
 {}
 
-/// A machine carries a setting out exactly if it has no reason to refuse it, and then only one thing changes.
+/// A machine carries a setting out exactly if it has no reason to refuse the setting. Then only one thing changes.
 ///
 /// All else stays, also the rings and letters of the wheels in the box.
 #[tactic(auto, using(crate::proofs::OneChange::settings_change_one_thing))]
@@ -44,7 +44,7 @@ pub fn lists_have_one_result()
     ensures { ListsHaveOneResult }
 {}
 
-/// If settings lead from one machine to another, none of them is refused on the way.
+/// If settings lead from one machine to another, no setting is refused on the way.
 pub fn settings_lead_or_are_refused()
     ensures { LeadsOrRefuses }
 {}
@@ -56,15 +56,14 @@ pub fn engines_encipher_as_their_machines()
     ensures turned { TurnedEngineEnciphersAsMachine }
 {}
 
-/// If a machine is set as the day says and shows the day's letters, it is ready, and enciphers as the day asks.
+/// A machine that is set as the day says, and shows the day's letters, is ready. It enciphers as the day asks.
 #[tactic(auto, using(crate::proofs::Keys::reading_ready, crate::proofs::Keys::reading_cipher))]
 pub fn reads_as_day_enciphers_as_day()
     ensures ready { ReadsAsDayIsReady }
     ensures cipher { ReadsAsDayEnciphersAsDay }
 {}
 
-/// A machine on the day's key is ready. It enciphers as the day asks, but it starts from the letters that it shows, not
-/// from the day's letters.
+/// A machine on the day's key is ready. It enciphers as the day asks, starting from the letters that it shows.
 #[tactic(auto, using(crate::proofs::Keys::on_key_ready, crate::proofs::Keys::on_key_cipher))]
 pub fn on_key_enciphers_by_days_key()
     ensures ready { OnKeyIsReady }
@@ -73,8 +72,8 @@ pub fn on_key_enciphers_by_days_key()
 
 /// If a machine is turned to other letters, the rest of its key stays the same.
 ///
-/// A machine on the day's key stays on the key when it is turned. It then enciphers by the day's key, starting from
-/// the letters that it shows.
+/// A machine on the day's key stays on the key when it is turned. It then enciphers by the day's key, starting from the
+/// letters that it shows.
 #[tactic(auto, using(crate::proofs::Keys::turned_key, crate::proofs::Keys::turned_on_key, crate::proofs::Keys::turned_cipher))]
 pub fn turning_keeps_the_key()
     ensures key { TurningChangesOnlyLetters }
@@ -92,14 +91,13 @@ pub fn ready_machines_can_be_turned()
 
 /// If two machines on the day's key show the same letters, each deciphers the other's ciphertext.
 ///
-/// An engine on the day's key also deciphers its own ciphertext, if it is turned back to the letters with which it
-/// began.
+/// An engine on the day's key also deciphers its own ciphertext once it is turned back to its first letters.
 pub fn equally_set_machines_decipher()
     ensures another { EquallySetDecipher }
     ensures itself { DaysEngineDeciphersItself }
 {}
 
-/// A text can be enciphered in two chunks, the second with the key that the engine has after the first.
+/// A text can be enciphered in two chunks. The second chunk starts from the engine's key after the first chunk.
 #[tactic(auto, using(crate::proofs::Keys::cipher_in_turn, crate::proofs::Keys::key_in_turn))]
 pub fn chunks_are_enciphered_in_turn()
     ensures cipher { CipherOfChunks }

@@ -46,8 +46,8 @@ impl Machine {
     /// Creates a rotor machine, or `None` if `parts` aren't legal.
     ///
     /// Legal parts have an item in `slots` for each slot of the model, and a reflector of the model. They have a ring
-    /// and a letter for each wheel of the model's box. Each wheel is allowed in its slot, no wheel is in two slots, and
-    /// all letters in the cables are different. A cable's letters may come in either order.
+    /// and a letter for each wheel of the model's box. Each wheel is allowed in its slot, and no wheel is in two slots.
+    /// All letters in the cables are different. A cable's letters may come in either order.
     pub fn rotor(parts: RotorParts) -> Option<Machine>
         ensures exists { IsSome result ↔ AreLegalRotorParts parts }
         ensures value { IfSome result (λ machine. machine ≡ with_cables_in_order (Parts.Rotor parts)) }
@@ -75,7 +75,7 @@ impl Machine {
 
     /// Carries `setting` out.
     ///
-    /// If the machine refuses the setting, the machine stays as it was, and the error has the first reason to refuse.
+    /// If the machine refuses the setting, it stays as it was, and the error has the first reason.
     pub fn carry(&mut self, setting: Setting) -> Result<(), Illegal>
         ensures carried { OnOk result (Carries self.old setting self.new) }
         ensures refused { IfErr result (λ illegal. Refuses self.old setting illegal.why) }

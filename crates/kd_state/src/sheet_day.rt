@@ -41,7 +41,7 @@ impl SheetDay {
     /// Creates a day of a rotor machine, or `None` if no key sheet can have these values.
     ///
     /// `day` must be from 1 to 31, and the model must have `reflector`. `wheels` must have a wheel for each slot, from
-    /// the left; each must be allowed in its slot, and none may be in two slots. There may be at most 13 pairs and at
+    /// the left. Each must be allowed in its slot, and none may be in two slots. There may be at most 13 pairs and at
     /// most 4 groups. All letters in the pairs must be different.
     pub fn rotor(
         day: u8,
@@ -178,7 +178,7 @@ impl SheetDay {
 
     /// The day's groups of three letters, at most 4. `None` on the Converter M-209.
     ///
-    /// Each part of a message carries one of these groups, to show the receiver that the part is of this day.
+    /// Each part of a message carries one of these groups, which shows the receiver the day.
     pub fn groups(&self) -> Option<&[[Letter; 3]]>
         ensures value { option_copied result ≡ option_map (λ s. s.groups) (rotor_day self.now) }
         ensures few { IfSome result (λ groups. length groups.now ≤ 4) }

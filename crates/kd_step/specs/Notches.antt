@@ -1,5 +1,5 @@
--- The notches of a wheel as a table: for each letter that it can show, whether the wheel is at a notch. No public
--- contract cites this file.
+-- A wheel's notches as a table: for each window letter, whether the wheel is at a notch. No public contract cites this
+-- file.
 use Rattle.std.specs.Prelude.{◌≡◌, ℕ, ◌+◌, ◌-◌, ◌<◌, Bool, false, List, length, slice_get, slice_index_or, IsSomeAnd}
 use Rattle.kd_tables.specs.Tables.{is_notch}
 use Rattle.kd_tables.specs.declared.wheel.Wheel.{Wheel}

@@ -1,8 +1,7 @@
--- One step of the wheels: the letters in the windows decide which wheels move. Wheels are counted from the right,
--- beginning at 0: the right wheel, the middle wheel, the left wheel, and on the M4 the Greek wheel, which never moves.
+-- One step of the wheels: the letters in the windows decide which wheels move. Wheels are counted from the right: 0 is
+-- the right wheel, 1 the middle wheel, 2 the left wheel. On the M4, 3 is the Greek wheel, which never moves.
 -- Source: the published accounts of the stepping, with its double step.
--- Code: `Stepper` has a table for the middle wheel, and one for the right wheel: whether the wheel is at a notch,
--- for each letter that it can show.
+-- Code: `Stepper` keeps a table of notches for the middle wheel, and one for the right wheel.
 -- Test: wheels_step
 use Rattle.std.specs.Prelude.{◌≡◌, ◌↔◌, ℕ, zero, suc, ◌+◌, ◌-◌, ◌%◌, ◌≤◌, List, ◌++◌, length, take, drop, map}
 use Rattle.std.specs.Prelude.{slice_get, slice_index, Bool, false, IsTrue, IsFalse, if◌then◌else◌}
@@ -19,7 +18,7 @@ pub record Stepping : Type 0 where
 abbrev pub next_letter : ℕ → ℕ
 next_letter letter = (letter + 1) % 26
 
--- whether a wheel is at one of its notches, the right wheel if `from_right` is 0, the middle wheel if it is 1
+-- whether a wheel is at one of its notches: for 0 the right wheel, for 1 the middle wheel
 abbrev pub stands_at_notch : List Wheel → List ℕ → ℕ → Bool
 stands_at_notch wheels window from_right =
     let index = length window - (from_right + 1) in
@@ -43,8 +42,8 @@ pub record IsStep (wheels : List Wheel) (before after : List ℕ) : Type 0 where
 -- ---- Several steps: as a chain of steps, and as a function, which the ciphers need.
 -- Code: `Stepper` overwrites the letters of its window at each step.
 
--- `n` steps lead from the window `first` to the window `last`: a chain of `n + 1` windows joins the two, and a step
--- leads from each window to the next.
+-- `n` steps lead from the window `first` to the window `last`. There is a chain of `n + 1` windows from `first` to
+-- `last`. One step leads from each window of the chain to the next.
 abbrev pub LeadsInSteps : List Wheel → List ℕ → ℕ → List ℕ → Type 0
 LeadsInSteps wheels first zero last = last ≡ first
 LeadsInSteps wheels first (suc n) last =

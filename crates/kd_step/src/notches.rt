@@ -1,4 +1,4 @@
-//! The notches of a wheel as a table: for each letter that it can show, whether the wheel is at a notch.
+//! A wheel's notches as a table: for each window letter, whether the wheel is at a notch.
 ghost use Rattle.std.specs.Prelude.{◌≡◌};
 ghost use Rattle.kd_step.specs.Notches.{IsNotchTable};
 

@@ -206,7 +206,7 @@ pub fn day_in(text: &[u8]) -> Option<u8>
     }
 }
 
-/// How many slots for wheels a machine of this model has; 0 if the model isn't known.
+/// How many slots a machine of this model has; 0 if the model isn't known.
 pub fn slots(model: Option<Model>) -> usize
     ensures { result ≡ slots model }
 {
@@ -226,7 +226,6 @@ pub fn windows(model: Option<Model>) -> usize
     }
 }
 
-/// Whether there are exactly `count` values.
 fn are_exactly<T>(values: &Option<Values<T>>, count: usize) -> bool
     ensures { result ≡ is_some (option_and_then (exactly count)
         (option_map (λ values. values.items) values.now)) }
@@ -271,7 +270,6 @@ pub fn is_read(model: Option<Model>, cell: Cell, text: &[u8]) -> bool
     }
 }
 
-/// Whether `text` names a reflector of `model`.
 fn names_reflector(model: Option<Model>, text: &[u8]) -> bool
     ensures { result ≡ is_some (option_and_then (λ known. reflector_named known text.now) model) }
 {

@@ -39,8 +39,7 @@ fn is_no_break(byte: u8) -> bool
     byte == 160 || byte == 194
 }
 
-/// Whether `byte` is a gap between items. Gaps are blanks, tabs, line ends and no-break spaces. Commas, hyphens, full
-/// stops, slashes and semicolons are gaps, too.
+/// Whether `byte` is a gap between items, such as a blank or a comma.
 pub fn is_gap(byte: u8) -> bool
     ensures { result ≡ is_gap byte }
 {

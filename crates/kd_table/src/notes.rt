@@ -91,7 +91,6 @@ fn is_still_blank(blank: bool, head: &Head<'_>, row: &ByteRecord) -> bool
     blank && is_blank_row(head.columns(), row)
 }
 
-/// Appends the notes on the rows under the first row, and a line if all are blank.
 fn push_rows(
     note: &mut Vec<u8>,
     table: &[u8],

@@ -48,7 +48,6 @@ pub fn separator_of(table: &[u8]) -> u8
     }
 }
 
-/// Whether `byte` ends a cell.
 fn ends_cell(separator: u8, byte: u8) -> bool
     ensures { result ≡ ends_cell separator byte }
 {

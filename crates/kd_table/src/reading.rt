@@ -63,7 +63,6 @@ fn read_body_row(
     Ok(refused)
 }
 
-/// Reads the next row.
 fn read_row(
     reading: &mut Reading,
     options: &TableOptions<&[u8]>,

@@ -70,7 +70,6 @@ fn push_plugs_lines(text: &mut FileString, entry: &RotorEntry)
     push_list_line(text, Key::Groups, entry.groups.as_slice());
 }
 
-/// Appends the lines of a rotor machine's day.
 fn push_rotor_day(text: &mut FileString, entry: &RotorEntry)
     requires legal { IsLegalRotorDay (rotor_values entry.now) }
     requires room { array_string_len text.old ≤ 16 }
@@ -93,7 +92,6 @@ fn push_converter_lines(text: &mut FileString, entry: &PinEntry)
     push_list_line(text, Key::Rows, &entry.rows);
 }
 
-/// Appends the lines of a Converter's day.
 fn push_pin_day(text: &mut FileString, entry: &PinEntry)
     requires legal { IsLegalPinDay (pin_values entry.now) }
     requires room { array_string_len text.old ≤ 16 }

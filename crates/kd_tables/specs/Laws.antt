@@ -68,13 +68,13 @@ InversesOfProducts =
 abbrev pub InversesOfShifts : Type 0
 InversesOfShifts = (k : ℕ) → k ≤ 26 → inverse (shift k) ≡ shift (26 - k)
 
--- If a pin wheel has a letter at a place, `place_on` finds this place for the letter.
+-- If a pin wheel has a letter at a place, `place_on` gives this place for the letter.
 abbrev pub LettersLeadToPlaces : Type 0
 LettersLeadToPlaces =
     (size : ℕ) (ring : List ℕ) → IsRing size ring → (place : ℕ) → place < size
     → place_on ring (slice_index ring place) ≡ Some place
 
--- If `place_on` finds a place for a letter, the pin wheel has this letter at this place.
+-- If `place_on` gives a place for a letter, the pin wheel has this letter at this place.
 abbrev pub PlacesLeadToLetters : Type 0
 PlacesLeadToLetters =
     (size : ℕ) (ring : List ℕ) → IsRing size ring → (place letter : ℕ) → place_on ring letter ≡ Some place

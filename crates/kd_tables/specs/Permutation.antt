@@ -1,6 +1,5 @@
--- Permutations of the alphabet, as lists of numbers (A is 0): letter `x` becomes item `x` of the list.
--- Code: a permutation is a table of 32 bytes; a product is one shuffle of bytes, and an inverse is one loop over
--- letters.
+-- Permutations of the alphabet, as lists of numbers; A is 0. Letter `x` becomes item `x` of the list.
+-- Code: a permutation is a table of 32 bytes. A product is one shuffle of bytes. An inverse is one loop over letters.
 -- Test: tests/refusals
 use Rattle.std.specs.Prelude.{◌≡◌, ◌≢◌, ℕ, ◌+◌, ◌%◌, ◌==◌, List, [], ◌∷◌, length, map, slice_index, All, if◌then◌else◌}
 use Rattle.std.specs.List.{range_with_len, position_or_len}

@@ -7,7 +7,7 @@ use Rattle.kd_tables.specs.declared.place.Place.TheVariants.{One, ZeroLeft, Two,
 use Rattle.kd_tables.specs.declared.lug.Lug.{Lug}
 use Rattle.kd_tables.specs.declared.lug.Lug.TheVariants as lugs
 
--- for each place of a bar: its name, how many places are to its left, and its pin wheel's number, or 0 without one
+-- for each place: its name, the number of places to its left, and its pin wheel's number (0 without a wheel)
 abbrev pub place_table : Place → List ℕ × ℕ × ℕ
 place_table One = (codes "1", 0, 1)
 place_table ZeroLeft = (codes "0L", 1, 0)
@@ -22,7 +22,7 @@ place_table Six = (codes "6", 7, 6)
 abbrev pub place_text : Place → List ℕ
 place_text place = (place_table place).0
 
--- how many places are to the left of a place
+-- the number of places to the left of a place
 abbrev pub place_rank : Place → ℕ
 place_rank place = (place_table place).1
 
@@ -46,7 +46,7 @@ lug_text lugs.Right = codes "R"
 -- ---- How a bar can stand: the places of its left and its right lug.
 -- Code: `Standing::new` compares the two places; `Standing::from_text` splits a standing's text at the hyphen.
 
--- all standings of a bar, ordered by the left lug's place, then by the right lug's place, which is further right
+-- all standings of a bar, ordered by the left lug's place, then by the right lug's place
 abbrev pub standings : List (Place × Place)
 standings = flat_map (λ l. map (λ r. (l, r)) (filter (λ r. nat_lt (place_rank l) (place_rank r)) places)) places
 
@@ -60,13 +60,13 @@ standing_text standing = place_text standing.0 ++ codes "-" ++ place_text standi
 abbrev pub smaller_first : ℕ → ℕ → ℕ × ℕ
 smaller_first a b = (min a b, max a b)
 
--- The two numbers are a reading: both from 0 to 6, the smaller one first, and different unless both are 0.
+-- The two numbers are a reading. Both are from 0 to 6, and the smaller one comes first. They differ, or both are 0.
 pub record IsReading (numbers : ℕ × ℕ) : Type 0 where
   pub ordered : numbers.0 ≤ numbers.1
   pub within : numbers.1 ≤ 6
   pub equal : numbers.0 ≡ numbers.1 → numbers.0 ≡ 0
 
--- the reading of a bar with its lugs at these places: the numbers of the wheels there, the smaller one first
+-- the reading of a bar with its lugs at these places: the pin wheels' numbers there, the smaller number first
 abbrev pub reading_of : Place × Place → ℕ × ℕ
 reading_of standing = smaller_first (place_number standing.0) (place_number standing.1)
 
@@ -80,6 +80,6 @@ reading_text numbers = digit_text numbers.0 ++ codes "-" ++ digit_text numbers.1
 
 -- ---- Reading a standing. No public contract cites this definition.
 
--- The first text is the name of the left lug's place, and the second text the name of the right lug's place.
+-- The two texts are the names of the left lug's place and of the right lug's place.
 abbrev pub ArePlaceNames : Place × Place → List ℕ → List ℕ → Type 0
 ArePlaceNames standing left right = (place_text standing.0 ≡ left) × (place_text standing.1 ≡ right)

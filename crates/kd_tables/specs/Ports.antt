@@ -1,4 +1,4 @@
--- Sources and sinks: the bytes that one `get` or one `put` moves, and the state of a source or a sink in memory.
+-- Sources and sinks, in memory and elsewhere: the bytes that one `get` or one `put` moves.
 -- Code: a source is any type whose `get` satisfies `Gets`; a sink is any type whose `put` satisfies `Puts`.
 -- Test: tests/refusals
 use Rattle.std.specs.Prelude.{◌≡◌, ◌⊎◌, ℕ, ◌<◌, ◌≤◌, Bool, true, false, List, [], ◌∷◌, length, take, Option, Result}
@@ -11,8 +11,8 @@ use Rattle.kd_tables.specs.declared.ports.writing.Device.{Device}
 abbrev pub read_limit : ℕ
 read_limit = 1048576
 
--- A `put` takes a prefix of `bytes`, and returns the prefix's length. It takes at least one byte, unless `bytes`
--- is empty. A `put` that fails takes no byte.
+-- A `put` takes a prefix of `bytes`, and returns the prefix's length. This prefix is empty only if `bytes` are empty. A
+-- `put` that fails takes no byte.
 pub record Puts (old new : Option (List ℕ)) (bytes : List ℕ) (answer : Result ℕ Failed) : Type 0 where
   pub within : IfOk answer (λ count. count ≤ length bytes)
   pub some : IfOk answer (λ count. 0 < length bytes → 0 < count)
@@ -35,25 +35,26 @@ pub record MemorySourceState : Type 0 where
   pub gets_left : Option ℕ
   pub failed : Bool
 
--- A sink in memory: the bytes taken so far, the most bytes that it can take, and whether a `put` has failed.
+-- A sink in memory. `taken`: the bytes taken so far. `limit`: the most bytes that it can take. `failed`: whether a
+-- `put` has failed.
 pub record MemorySinkState : Type 0 where
   pub taken : List ℕ
   pub limit : ℕ
   pub failed : Bool
 
 -- ---- A port before and after a call: its bytes, and whether it has failed.
--- Code: a source or a sink that can fail keeps a flag, which is set when a `get` or a `put` fails.
+-- Code: a source or a sink that can fail keeps a flag, which a failed `get` or `put` sets.
 -- Test: tests/refusals
 
--- A port (a source or a sink) before a call and after the call. `had` (before) and `has` (after) are the bytes that a
--- source can still give, or that a sink has taken; `None` if they aren't known.
+-- A port (a source or a sink) before and after a call. `had` and `has`: the bytes before and after, `None` if they
+-- aren't known. A source has the bytes that it can still give, a sink the bytes that it has taken.
 pub record Port : Type 0 where
   pub had : Option (List ℕ)
   pub has : Option (List ℕ)
   pub had_failed : Bool
   pub has_failed : Bool
 
--- The `Port` of a source or a sink, made from its value `old` before a call and its value `new` after the call.
+-- The `Port` of a source or a sink that is `old` before a call and `new` after it.
 abbrev pub port : {P : Type 0} → (P → Option (List ℕ)) → (P → Bool) → P → P → Port
 port bytes failed old new =
     record { had = bytes old; has = bytes new; had_failed = failed old; has_failed = failed new }

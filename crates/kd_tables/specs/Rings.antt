@@ -16,7 +16,7 @@ ring_texts =
 unfoldable pub ring_of : ℕ → List ℕ
 ring_of number = letters_of (slice_index_or ring_texts number [])
 
--- A pin wheel can have the letters `letters`: they are `size` letters, all different and below 26.
+-- `letters` can be the letters of a pin wheel: `size` different numbers below 26.
 pub record IsRing (size : ℕ) (letters : List ℕ) : Type 0 where
   pub full : length letters ≡ size
   pub within : All (λ letter. letter < 26) letters

@@ -16,8 +16,8 @@ abbrev pub letters_of : List ℕ → List ℕ
 letters_of text = map (λ byte. byte - 65) text
 
 -- The name, the wiring and the notches of each wheel. The wiring: the letters that A to Z become as the current passes
--- from right to left. The notches: the letters at which the wheel's next step also moves the wheel to its left, unless
--- that wheel is Beta or Gamma.
+-- from right to left. The notches: while one of these letters shows, the wheel's next step also moves the wheel to its
+-- left. Beta and Gamma never move.
 abbrev pub wheel_table : Wheel → List ℕ × List ℕ × List ℕ
 wheel_table I = (codes "I", codes "EKMFLGDQVZNTOWYHXUSPAIBRCJ", codes "Q")
 wheel_table II = (codes "II", codes "AJDKSIRUXBLHWTMCQGZNPYFVOE", codes "E")
@@ -78,7 +78,7 @@ model_table M209 = (codes "M-209", 0, [])
 abbrev pub model_text : Model → List ℕ
 model_text model = (model_table model).0
 
--- how many slots for wheels a model has
+-- the number of slots for wheels that a model has
 abbrev pub slots_of : Model → ℕ
 slots_of model = (model_table model).1
 
@@ -86,7 +86,8 @@ slots_of model = (model_table model).1
 abbrev pub reflectors_of : Model → List Reflector
 reflectors_of model = (model_table model).2
 
--- the wheels that may be in a slot of a model, none if it lacks this slot; slots are counted from 1, from the left
+-- the wheels that may be in a slot of a model; none if the model lacks the slot. Slots are counted from 1, from the
+-- left.
 abbrev pub wheels_for : Model → ℕ → List Wheel
 wheels_for EnigmaI slot = if nat_le 1 slot && nat_le slot 3 then I ∷ II ∷ III ∷ IV ∷ V ∷ [] else []
 wheels_for M3 slot = if nat_le 1 slot && nat_le slot 3 then I ∷ II ∷ III ∷ IV ∷ V ∷ VI ∷ VII ∷ VIII ∷ [] else []

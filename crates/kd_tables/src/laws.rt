@@ -24,7 +24,7 @@ pub fn tables_are_permutations()
     ensures none_fixed { ReflectorsMoveEachLetter }
 {}
 
-/// How a permutation that is a product, an inverse or a shift maps one letter.
+/// How products, inverses and shifts of permutations map one letter.
 pub fn permutations_by_letter()
     ensures product { ProductsByLetter }
     ensures inverse { InversesByLetter }
@@ -50,20 +50,20 @@ pub fn inverse_undoes()
     ensures shifts { InversesOfShifts }
 {}
 
-/// On a pin wheel, each letter leads to its place, and each place leads back to its letter.
+/// `place_on` gives the place of each letter on a pin wheel. At a place that it gives, the wheel has that letter.
 pub fn letters_and_places_undo()
     ensures places { LettersLeadToPlaces }
     ensures letters { PlacesLeadToLetters }
 {}
 
-/// Letters are ordered as in the alphabet, and readings by the smaller number, then by the larger number.
+/// Letters are ordered as in the alphabet. Readings are ordered by their smaller number, then by their larger number.
 pub fn letters_and_readings_have_their_order()
     ensures letters { (one other : ℕ) → ⟦<Letter as Ord>⟧.cmp one other ≡ nat_cmp one other }
     ensures readings { (one other : ℕ × ℕ) → ⟦<Reading as Ord>⟧.cmp one other
         ≡ ordering_then (nat_cmp one.0 other.0) (nat_cmp one.1 other.1) }
 {}
 
-/// Places are ordered from left to right, and standings by the left lug's place, then by the right lug's place.
+/// Places are ordered from left to right. Standings are ordered by the left lug's place, then by the right lug's place.
 #[tactic(auto, using(crate::proofs::Orders::place_order, crate::proofs::Orders::standing_order))]
 pub fn places_and_standings_have_their_order()
     ensures places { (one other : Place) → ⟦<Place as Ord>⟧.cmp one other

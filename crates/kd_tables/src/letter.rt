@@ -3,7 +3,7 @@ ghost use Rattle.std.specs.Prelude.{◌≡◌, ℕ, ◌+◌, ◌-◌, ◌%◌, �
 
 use std::marker::Model;
 
-/// For each letter's place in the alphabet, the place of the next letter; for Z, the place of A.
+/// Item `x` is the place of the letter after letter `x` in the alphabet, with A after Z.
 ///
 /// A rotor machine calls `next` at each key press, and a table is faster than a comparison.
 static NEXT: [u8; 26] = [

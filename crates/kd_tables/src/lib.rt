@@ -1,4 +1,4 @@
-//! Tables and ports: letters, wheels, reflectors, models, refusals, and the traits that read and write bytes.
+//! Tables and ports: letters, wheels, reflectors, models, refusals, and the traits for reading and writing bytes.
 #![tactic(auto)]
 
 pub mod laws;

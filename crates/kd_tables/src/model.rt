@@ -7,7 +7,7 @@ use super::variant_names::{name_of, named};
 use super::wheel::Wheel;
 use arrayvec::ArrayString;
 
-/// All wheels. The box of a rotor model has the first 5, 8 or 10 wheels of this list, in this order.
+/// All wheels. A rotor machine's box has the first 5, 8 or 10 of them, in this order.
 const WHEELS: [Wheel; 10] = [
     Wheel::I,
     Wheel::II,
@@ -65,7 +65,7 @@ impl Model {
         names!(named, text)
     }
 
-    /// The number of slots for wheels: none in a Converter M-209, whose wheels can't be taken out.
+    /// The number of slots for wheels; 0 for a Converter M-209, whose wheels can't be taken out.
     pub fn slots(self) -> u8
         ensures { result ≡ slots_of self }
     {
@@ -123,7 +123,7 @@ pub fn in_box(model: Model, wheel: Wheel) -> bool
 
 /// Whether `wheel` may be in slot `slot` of `model`. Slots are counted from 1, from left to right.
 ///
-/// On the M4, only Beta and Gamma may be in slot 1, and only the other wheels in slots 2 to 4.
+/// On the M4, slot 1 takes only Beta and Gamma, and slots 2 to 4 take only I to VIII.
 pub fn allowed(model: Model, slot: u8, wheel: Wheel) -> bool
     ensures { IsTrue result ↔ Contains (wheels_for model slot) wheel }
 {

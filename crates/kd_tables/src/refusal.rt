@@ -20,7 +20,7 @@ pub enum Refusal {
     Illegal,
     /// A slot is empty, or a cable has exactly one letter.
     NotReady,
-    /// Machine and day have different models, or a card has prices of bars for an Enigma, or of cables for a Converter.
+    /// Machine and day have different models. Or a card has prices of bars for an Enigma, or of cables for a Converter.
     OtherModel,
     /// A file, a source or a sink failed.
     Device,
@@ -38,13 +38,13 @@ pub enum Refusal {
     Trailing,
     /// A machine refuses a line of a list or a card; the refusal names the line and the reason.
     IllegalAt,
-    /// After a card's lines are carried out, the machine isn't set as the day says, or doesn't show the day's letters.
+    /// After a card's lines, the machine isn't set as the day says, or shows other letters than the day's.
     NotTheSheet,
-    /// The prices of a cable and a column, or of a bar and a row, add up to more than the cost of the two.
+    /// In a cell of the table of costs, the prices of row and column add up to more than the cost.
     PriceTooHigh,
     /// The sum of a card's prices isn't the number of the card's lines for cables or bars.
     SumDiffers,
-    /// A line of a card isn't needed: it doesn't lower the number of slots, rings and so on that differ from the day.
+    /// A line of a card isn't needed: it doesn't lower the number of differences from the day, such as slots or rings.
     ///
     /// Lines for cables and bars aren't refused for this reason.
     NeedlessLine,
@@ -60,7 +60,7 @@ pub enum Refusal {
     WheelTwice,
     /// A wheel is in a slot where the model doesn't allow it.
     WheelNotAllowed,
-    /// An item of `bars` in a file isn't a standing such as `1-0R`, or an item of `rows` isn't a reading such as `0-1`.
+    /// An item of `bars` isn't a standing such as `1-0R`, or an item of `rows` isn't a reading such as `0-1`.
     BadRow,
     /// A sheet has two entries for one day.
     DayTwice,
@@ -76,9 +76,9 @@ pub enum Refusal {
     PartKeys,
     /// A letter that a message gives for a pin wheel (an external letter) isn't on this wheel.
     KeyNotOnWheel,
-    /// A part's group is none of the day's groups. On the Converter: the part's key list isn't the day's key list.
+    /// A part's group is none of the day's groups. On the Converter: the part's two list letters aren't the day's.
     WrongGroup,
-    /// The letters enciphered for a part's internal key run out before each pin wheel has its letter.
+    /// The twelve letters enciphered for a part's internal key don't give each pin wheel a letter.
     IndicatorSpent,
     /// A part doesn't begin with a heading of the day's model.
     BadHeading,

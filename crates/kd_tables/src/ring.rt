@@ -55,7 +55,7 @@ impl<const N: usize> Ring<N> {
     }
 }
 
-/// The letters of pin wheel 1: all 26. The letters of all six wheels are from War Department TM 11-380.
+/// The letters of pin wheel 1: all 26. For all six wheels, the source is War Department TM 11-380.
 #[tactic(auto, unfolding(crate::specs::Rings::ring_of))]
 pub fn ring1() -> Ring<26>
     ensures { result ≡ ring_of 1 }

@@ -8,7 +8,7 @@ use super::reading::Reading;
 use arrayvec::ArrayString;
 use std::marker::Model;
 
-/// A standing of a Converter M-209's bar: the places of the bar's left lug and right lug, in this order.
+/// A standing of a bar on the Converter M-209: the places of the left lug and of the right lug.
 ///
 /// Standings are ordered by the left lug's place, then by the right lug's place.
 #[derive(Clone, Copy, PartialEq, Eq, PartialOrd, Ord)]
@@ -73,7 +73,7 @@ impl Standing {
         self.right
     }
 
-    /// The bar's reading: the numbers of the pin wheels at the bar's two lugs, 0 for a place without a wheel.
+    /// The bar's reading: the numbers of the pin wheels at its two lugs, 0 at a place without a wheel.
     pub fn reading(self) -> Reading
         ensures { result ≡ reading_of self }
     {

@@ -17,7 +17,7 @@ macro_rules! name_of {
     };
 }
 
-/// Finds the value with the name `$text` in a table of values and names; `None` if no value has this name.
+/// Finds the value with the name `$text` in a table of values and names; `None` if there is none.
 macro_rules! named {
     ($text:expr, { $($variant:path => $name:literal,)* }) => {
         match $text {

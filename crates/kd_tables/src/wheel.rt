@@ -101,8 +101,8 @@ pub fn unwiring(wheel: Wheel) -> [Letter; 26]
 
 /// Whether `wheel` is at a notch when it shows the letter `window`. The ring makes no difference.
 ///
-/// When a wheel at a notch steps, the wheel to its left steps too, unless that wheel is Beta or Gamma. Some wheels have
-/// two notches; Beta and Gamma have none.
+/// When a wheel at a notch steps, the wheel to its left also steps, but Beta and Gamma never do. Some wheels have two
+/// notches; Beta and Gamma have none.
 pub fn notched(wheel: Wheel, window: Letter) -> bool
     ensures { result ≡ is_notch wheel window }
 {

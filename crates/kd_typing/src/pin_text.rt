@@ -31,7 +31,6 @@ impl PinRows {
         draw_letters(sink, self.letters());
     }
 
-    /// Writes the lines of the six wheels.
     fn draw_wheels<W: Sink>(&self, sink: &mut W)
         ensures { Draws W.taken W.has_failed sink.old sink.new
             (lines_text (map pins_text (pin_table self.now).pins)) }

@@ -92,7 +92,6 @@ fn draw_data<W: Sink>(sink: &mut W, language: Language, model: Model, rows: &Mac
     draw_script_words(sink, language, model);
 }
 
-/// Writes the words that the script shows.
 fn draw_script_words<W: Sink>(sink: &mut W, language: Language, model: Model)
     ensures { Draws W.taken W.has_failed sink.old sink.new (script_words language model) }
 {

@@ -31,7 +31,6 @@ fn draw_wheels<W: Sink>(sink: &mut W, language: Language)
     draw_wheel(sink, language, 6, &ring6().letters());
 }
 
-/// Writes wheel `wheel`, with its letters.
 fn draw_wheel<W: Sink>(sink: &mut W, language: Language, wheel: u8, letters: &[Letter])
     ensures { Draws W.taken W.has_failed sink.old sink.new (wheel_text language wheel letters.now) }
 {

@@ -67,7 +67,6 @@ fn draw_pin_setting<W: Sink>(
     draw(sink, SETTING_END);
 }
 
-/// Writes the effective pins of the six wheels.
 fn draw_pins<W: Sink>(sink: &mut W, language: Language, machine: &Machine)
     ensures { Draws W.taken W.has_failed sink.old sink.new (pins_text language machine.now) }
 {

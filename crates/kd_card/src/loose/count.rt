@@ -10,9 +10,9 @@ use kd_pins::PinSet;
 use kd_state::{Entry, Machine, Parts, SheetDay, SheetWheel};
 use kd_tables::Wheel;
 
-/// Counts the loose things of `machine`: all things that aren't as `day` says, except cables and bars.
+/// Counts the loose things of `machine`: all that isn't as `day` says, except cables and bars.
 ///
-/// The count is 0 if the machine is a rotor machine and the day is for a Converter M-209, or vice versa.
+/// The count is 0 if only one of machine and day is of a Converter M-209.
 pub fn loose_count(machine: &Machine, day: &SheetDay) -> usize
     ensures value { result ≡ costs.loose_count machine.now day.now }
     ensures few { result ≤ 137 }

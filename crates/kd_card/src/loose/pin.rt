@@ -39,7 +39,7 @@ fn push_pins(settings: &mut Settings, present: &PinSet, wanted: &PinSet)
     push_wheel(settings, 6, ring6(), &present.w6, &wanted.w6);
 }
 
-/// Appends the setting PIN for each pin on wheel `wheel`, with the letters `ring`, that differs from the day's.
+/// Appends the setting PIN for each pin of wheel `wheel` that differs from the day's. `ring` has the wheel's letters.
 fn push_wheel<const N: usize>(
     settings: &mut Settings,
     wheel: u8,
@@ -75,7 +75,7 @@ fn push_pin_turns(settings: &mut Settings, number: u8, letters: &[Letter], windo
     }
 }
 
-/// Appends the setting PIN for each pin on one wheel that differs from the day's, in the order of the wheel's letters.
+/// Appends the setting PIN for each pin of one wheel that differs from the day's, in the wheel's order.
 fn push_wheel_pins(
     settings: &mut Settings,
     wheel: u8,

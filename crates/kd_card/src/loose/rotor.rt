@@ -12,8 +12,8 @@ use kd_tables::Wheel;
 
 /// Lists the settings that set the slots, reflector, rings and letters of a rotor machine as the day says.
 ///
-/// Only what differs from the day gets a setting. Slots come first, then the reflector, rings and letters. `parts` are
-/// the parts of `machine`.
+/// Only what differs from the day gets a setting. Slots come first, then the reflector, then rings, then letters.
+/// `parts` are the parts of `machine`.
 #[tactic(auto, using(crate::proofs::Leading::few_in_box))]
 pub fn rotor_settings(machine: &Machine, parts: &RotorParts, entry: &RotorEntry) -> Settings
     requires { machine.now ≡ Rotor parts.now }
@@ -52,7 +52,7 @@ fn push_seats(settings: &mut Settings, number: u8, slots: &[Option<Wheel>], whee
     }
 }
 
-/// Appends the setting RING for each wheel in `boxed` that the day uses, unless its ring is at the day's letter.
+/// Appends the setting RING for each wheel in `boxed` that the day uses with another ring.
 fn push_rings(settings: &mut Settings, machine: &Machine, boxed: &[Wheel], wheels: &[SheetWheel])
     requires room { array_vec_len settings.old + length boxed.now ≤ 192 }
     ensures items { settings.new.items ≡ settings.old.items
@@ -83,7 +83,7 @@ fn push_turns(settings: &mut Settings, machine: &Machine, number: u8, wheels: &[
     }
 }
 
-/// Appends the setting RING for `wheel` if the day uses the wheel and its ring isn't at the day's letter.
+/// Appends the setting RING for `wheel` if the day uses this wheel with another ring.
 fn push_ring(settings: &mut Settings, machine: &Machine, wheels: &[SheetWheel], wheel: Wheel)
     requires { array_vec_len settings.old + 1 ≤ 192 }
     ensures items { settings.new.items

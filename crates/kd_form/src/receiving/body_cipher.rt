@@ -96,7 +96,8 @@ fn decipher_pin_body(
 
 /// Deciphers `letters`, the body of the part with the heading `heading`.
 ///
-/// The body may be cut short if `letters` are still more than any heading allows: the fault is `CountWrong` either way.
+/// A body that is too long may be cut short, if `letters` are still more than any heading allows. The fault is
+/// `CountWrong` either way.
 pub(crate) fn decipher_body(
     day: &SheetDay,
     heading: &Heading,

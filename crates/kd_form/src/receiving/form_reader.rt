@@ -14,7 +14,7 @@ use crate::text_bytes::is_text_byte;
 use arrayvec::ArrayVec;
 use kd_state::SheetDay;
 
-/// How many bytes of a heading line are kept. A valid heading line, with its line end, has fewer.
+/// The number of bytes of a heading line that are kept. A valid heading line, with its line end, has fewer.
 const KEPT_LINE: usize = 64;
 
 /// A reader of a form, which holds only the current part.
@@ -27,7 +27,7 @@ pub(crate) struct FormReader {
     /// The number of parts of the whole form, as the headings say. `None` until the first part has been read.
     pub(crate) expected: Option<u8>,
     /// The kept bytes or letters of the current part. The variant says whether the next byte belongs to the heading
-    /// line or the body.
+    /// line or to the body.
     pub(crate) stage: FormStage,
 }
 

@@ -82,7 +82,7 @@ fn read_slots(slots: usize, word: &[u8]) -> Option<PerSlot<Letter>>
 
 /// Reads the words after the letter count in a heading: the indicator.
 ///
-/// On the Converter M-209, a heading ends with the letter count, and the result is `Some(None)`.
+/// On the Converter M-209, a valid heading ends with the letter count, and the result is `Some(None)`.
 fn read_indicator(day: &SheetDay, words: &[&[u8]]) -> Option<Option<Indicator>>
     ensures { MatchOption result
         ((found : _) → HasIndicator day.now found

@@ -26,7 +26,7 @@ pub(crate) struct PartWriter {
 }
 
 impl PartWriter {
-    /// Creates a collector without letters.
+    /// Creates a writer that has collected no letters.
     pub(crate) fn new() -> Self
         ensures { IsFreshWriter result }
     {
@@ -37,7 +37,7 @@ impl PartWriter {
         }
     }
 
-    /// Takes the next byte of the text, and hands the letter that it gives, if any, to `take_letter`.
+    /// Takes the next byte of the text. If the byte gives a letter, hands this letter to `take_letter`.
     pub(crate) fn take(&mut self, day: &SheetDay, keys: &[Keys], byte: u8, output: &mut Output)
         requires taken { (letters sent : List ℕ) × AreLettersTaken day.now keys.now self.old letters sent
             × (length letters < 2 ^ 63) }
@@ -53,7 +53,7 @@ impl PartWriter {
 
     /// Takes the next letter of the text. If the letters collected fill a part, first writes this part to `output`.
     ///
-    /// The last part, for which the last line of keys is used, is left to `end`. Once it is full, letters are only
+    /// The last part, made with the last line of keys, is left to `end`. Once this part is full, letters are only
     /// counted.
     fn take_letter(&mut self, day: &SheetDay, keys: &[Keys], letter: Letter, output: &mut Output)
         requires taken { (letters sent : List ℕ) × AreLettersTaken day.now keys.now self.old letters sent
@@ -74,7 +74,7 @@ impl PartWriter {
 
     /// Writes the last part to `output`, at the end of the text.
     ///
-    /// Refuses a text without letters, and a text that needs more or fewer parts than the order has lines of keys.
+    /// Refuses a text without letters. Refuses a text that needs more or fewer parts than the order has lines of keys.
     pub(crate) fn end(
         &mut self,
         day: &SheetDay,

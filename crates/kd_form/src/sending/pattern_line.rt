@@ -9,7 +9,7 @@ ghost use Rattle.kd_form.specs.Patterns.{AreLettersAppended};
 use arrayvec::ArrayVec;
 use kd_tables::Letter;
 
-/// How many `_` a pattern has at most: 13, in the pattern of a line of keys for four slots.
+/// The greatest number of `_` in a pattern: 13, in a line of keys for four slots.
 const MOST_BLANKS: usize = 13;
 
 /// Why bytes aren't a line that fits a pattern.

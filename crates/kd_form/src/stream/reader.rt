@@ -16,7 +16,8 @@ use kd_tables::Sink;
 /// The largest number of bytes that are read at once.
 pub(crate) const CHUNK: usize = 4096;
 
-/// A reader of one kind of message, which takes many bytes at once. It works with a day or a machine, its `Context`.
+/// A reader of one kind of message, which takes many bytes at once. The reader works with a day or a machine, its
+/// `Context`.
 pub(crate) trait ChunkReader<Context> {
     /// The kind of message.
     ghost message: { Context → Message };
@@ -41,7 +42,7 @@ pub(crate) trait ChunkReader<Context> {
         ensures failed { W.has_failed sink.new
             ≡ (W.has_failed sink.old || is_device_interruption result) };
 
-    /// Ends the message, and writes the rest of the output to `sink`, even if it returns a fault.
+    /// Ends the message, and writes the rest of the output to `sink`, even if the message has a fault.
     fn finish<W: Sink>(&mut self, context: &Context, sink: &mut W) -> Result<(), Interruption>
         requires { HasRoom (message context.now) (holds context.now self.old) 0 }
         ensures ended { IsFinishAnswer (message context.now) (holds context.now self.old)
@@ -53,7 +54,7 @@ pub(crate) trait ChunkReader<Context> {
 /// The output of a reader after one byte: usually nothing, and at most one part.
 pub(crate) type Output = ArrayVec<u8, LONGEST_PART>;
 
-/// A reader of one kind of message, which takes one byte at a time, and keeps one part at a time.
+/// A reader of one kind of message. It takes one byte at a time, and keeps one part at a time.
 pub(crate) trait MessageReader {
     /// The kind of message.
     ghost message: { Day → Message };
@@ -74,7 +75,7 @@ pub(crate) trait MessageReader {
         ensures { IsFeedAnswer (message day.now) (holds day.now self.old) (holds day.now self.new) byte
             output.new.items result };
 
-    /// Ends the message, and puts the rest of the output into `output`, even if it returns a fault.
+    /// Ends the message, and puts the rest of the output into `output`, even if the message has a fault.
     fn end(&mut self, day: &SheetDay, output: &mut Output) -> Result<(), FormFault>
         requires room { HasRoom (message day.now) (holds day.now self.old) 0 }
         requires empty { output.old.items ≡ [] }

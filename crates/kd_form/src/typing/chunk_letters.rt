@@ -87,7 +87,7 @@ fn set_length<T: Copy + Default>(items: &mut ArrayVec<T, CHUNK>, count: usize)
 
 /// Types the letters before the first byte that isn't allowed, and returns the index of this byte.
 ///
-/// If all bytes are allowed, returns the number of bytes. `lamps` gets the lamps that light up, as capital letters;
+/// If all bytes are allowed, returns the number of bytes. `lamps` gets the lamps that light up, as capital letters.
 /// `letters` is only a buffer.
 pub(super) fn type_chunk(
     engine: &mut Engine,

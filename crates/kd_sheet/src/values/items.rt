@@ -11,9 +11,9 @@ use toml::{Table, Value};
 
 /// A type whose values can be read from the items of an array.
 ///
-/// `Given` is the other input of an item's reader: for a wheel, the key and the model.
+/// `Given` is what a reader needs besides the items: for a wheel, the key and the model.
 pub trait FromItem<Given> {
-    /// The rule for reading an item: the value or fault for `Given`, the earlier items' values, and the item.
+    /// The rule for reading an item. It gives a value or a fault for `Given`, the earlier items' values, and the item.
     ghost parse: { Given → List Self → Data → Result Self SheetFault };
 
     /// Reads `item`. `earlier` has the values of the items before it.

@@ -16,7 +16,7 @@ use kd_pins::PinSet;
 use kd_tables::{Letter, Ring, place_on_wheel, ring1, ring2, ring3, ring4, ring5, ring6};
 use toml::{Table, Value};
 
-/// Whether each of `letters` is on its wheel: the first on wheel `wheel`, the second on the next wheel, and so on.
+/// Whether each of `letters` is on its wheel: the first on wheel `wheel`, the second on the next, and so on.
 #[tactic(auto, using(kd_state::proofs::Slots::on_wheels))]
 fn are_on_wheels(wheel: u8, letters: &[Letter]) -> bool
     requires { wheel + length letters.now < 256 }
@@ -85,7 +85,7 @@ pub fn pins_in(table: &Table) -> Result<PinSet, SheetFault>
     pins_of_items([one, two, three, four, five, six]).ok_or(SheetFault::BadValue(Key::Pins))
 }
 
-/// Reads the effective pins of the six wheels: each of `items` is a text of a wheel's pins, from wheel 1 to wheel 6.
+/// Reads the effective pins of the six wheels. Each of `items` is a text of one wheel's pins, wheel 1 first.
 fn pins_of_items(items: [&Value; 6]) -> Option<PinSet>
     ensures { ok_or result (faults.BadValue keys.Pins)
         ≡ pins_of_items (map (λ item. view item.now) items.entry) }

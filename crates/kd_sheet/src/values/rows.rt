@@ -1,5 +1,4 @@
-//! Reads the rows of a day, from the key `rows`: the readings (wheel numbers, 0 for no wheel) that the 27 bars must
-//! have.
+//! Reads the rows of a day, from the key `rows`: the readings that the 27 bars must have.
 ghost use Rattle.std.specs.Prelude.{◌≡◌, ◌+◌, ◌&&◌, nat_le, is_some, IfSome};
 ghost use Rattle.toml.specs.View.{view, table_view};
 ghost use Rattle.kd_sheet.specs.{Bars.{or_bad_row, reading_of_text, rows_in}, Document.{from_text}};
@@ -18,7 +17,7 @@ fn digit_value(byte: u8) -> Option<u8>
     byte.checked_sub(b'0').filter(|digit| *digit <= 6)
 }
 
-/// Reads a bar's reading: two different digits from 0 to 6, in either order, with `-` between; or `0-0`.
+/// Reads a bar's reading: two different digits from 0 to 6, in either order, or 0 twice, with `-` between them.
 #[tactic(auto, unfolding(crate::specs::Bars::reading_of_text))]
 pub fn reading_of_text(text: &[u8]) -> Option<Reading>
     ensures { result ≡ reading_of_text text.now }

@@ -1,4 +1,4 @@
-//! The cost tables: the cost of each cable with each of the day's columns, or of each bar with each of the day's rows.
+//! The cost tables: the costs of cables with a day's columns, and of bars with a day's rows.
 ghost use Rattle.std.specs.Prelude.{◌≡◌, ◌≤◌, None, length, map, slice_index_or};
 ghost use Rattle.kd_state.specs.Costs as costs;
 ghost use Rattle.kd_state.specs.Costs.{columns_of};
@@ -7,7 +7,7 @@ use crate::costs::{bar_cost, cable_cost};
 use crate::machine::cable::Cable;
 use kd_tables::{Letter, Reading, Standing};
 
-/// Column `place` of a day's cost table, counted from 0: one of the day's `pairs`, or `None` after the last pair.
+/// The column at `place`, counted from 0: one of the day's `pairs`, or `None` after the last pair.
 #[tactic(auto, using(std::proofs::lemmas::Option::gets, crate::proofs::CostTable::columns_are_the_pairs))]
 pub fn column_at(pairs: &[(Letter, Letter)], place: usize) -> Option<(Letter, Letter)>
     ensures { result ≡ slice_index_or (columns_of pairs.now) place None }

@@ -1,4 +1,4 @@
-//! Compares a machine with a day: is the machine set as the day says, and does it show the day's letters?
+//! Tests whether a machine is set as a day says, and whether it shows the day's letters.
 ghost use Rattle.std.specs.Prelude.{◌≡◌, ◌≤◌, ◌↔◌, IsTrue, IsPermutation, Some, length, slice_get};
 ghost use Rattle.std.specs.List.{AllByRecursion};
 ghost use Rattle.kd_state.specs.Entry.{rotor_values};

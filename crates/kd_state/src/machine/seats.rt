@@ -20,8 +20,7 @@ pub(crate) fn place_in_box(model: Model, wheel: Wheel) -> Option<usize>
     None
 }
 
-/// Whether `slots` has one item for each slot of the model, each wheel is allowed in its slot, and no wheel is in two
-/// slots.
+/// Whether `slots` has the model's number of slots, only wheels allowed in their slots, and no wheel twice.
 pub(crate) fn are_legal_seats(model: Model, slots: &PerSlot<Option<Wheel>>) -> bool
     ensures { IsTrue result ↔ AreLegalSeats model slots.now }
 {

@@ -44,7 +44,6 @@ fn names_none(columns: &Columns) -> bool {
     are_missing(&places_of(columns)) && are_missing(&columns.pins)
 }
 
-/// Whether all of these columns are missing.
 fn are_missing(columns: &[Option<usize>]) -> bool {
     for column in columns {
         if column.is_some() {

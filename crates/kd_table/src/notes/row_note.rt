@@ -43,7 +43,6 @@ fn words_of(head: &Head<'_>, row: &PlacedRow<'_>, cell: Cell) -> Words {
     cell_words(cell, model, text_of(options, columns, row.cells(), cell))
 }
 
-/// Appends the notes on a cell.
 fn push_cell(
     note: &mut Vec<u8>,
     head: &Head<'_>,
@@ -62,7 +61,6 @@ fn push_cell(
     push_due_words(note, place.as_slice(), words, is_due, "this can't be read")
 }
 
-/// Appends the notes on these cells.
 fn push_cells(
     note: &mut Vec<u8>,
     head: &Head<'_>,

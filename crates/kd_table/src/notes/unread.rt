@@ -13,7 +13,6 @@ use crate::row::places_of;
 use csv::ByteRecord;
 use std::alloc::Global;
 
-/// Whether `column` is the column at `place`.
 fn is_at(place: usize, column: Option<usize>) -> bool
     ensures { result ≡ is_at place column }
 {
@@ -23,7 +22,6 @@ fn is_at(place: usize, column: Option<usize>) -> bool
     }
 }
 
-/// Whether the column at `place` is one of `columns`.
 fn is_among(place: usize, columns: &[Option<usize>]) -> bool
     ensures { result ≡ list_any (is_at place) columns.now }
 {

@@ -12,9 +12,9 @@ pub trait Sink {
     /// Whether a `put` has failed so far.
     ghost has_failed: { Self → Bool };
 
-    /// Takes a prefix of `bytes`, at least one byte unless `bytes` is empty, and returns the prefix's length.
+    /// Takes a prefix of `bytes`, and returns the prefix's length.
     ///
-    /// A `put` that returns `Failed` takes no byte.
+    /// The length is 0 only if `bytes` is empty. A `put` that returns `Failed` takes no byte.
     fn put(&mut self, bytes: &[u8]) -> Result<usize, Failed>
         ensures bytes { Puts (taken self.old) (taken self.new) bytes.now result }
         ensures failed { has_failed self.new ≡ (has_failed self.old || is_err result) };
