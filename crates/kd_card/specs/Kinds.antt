@@ -21,7 +21,7 @@ letters_text (letter ∷ letters) = tables.letters_text (letter ∷ letters)
 abbrev pub kind_line : List ℕ → List ℕ → ℕ → ℤ → List (List ℕ)
 kind_line word key count price = word ∷ key ∷ decimal count ∷ signed_decimal price ∷ []
 
--- The two ends have letters in alphabetical order, or only the first end has a letter, or neither has.
+-- The letters of the two ends are in alphabetical order, or only the first end has a letter, or no end has a letter.
 abbrev pub AreEnds : Option ℕ → Option ℕ → Type 0
 AreEnds None None = Unit {0}
 AreEnds None (Some other) = ⊥
@@ -37,8 +37,8 @@ IsPairInOrder (Some pair) = (pair.0 < pair.1) × (pair.1 < 26)
 
 -- The form of kinds of one sort (of cables, columns, bars or rows) on a card. Each line begins with `word`. `kind`
 -- gives a kind's key (letters, a standing or a reading), its count and its price. `text` writes a key, such as `AB`.
--- `InForm` says which keys a card may have. Lines are sorted by the numbers that `order` gives for their keys. So empty
--- cables and empty columns come last.
+-- `InForm` says which keys a card may have. Lines are sorted by the numbers that `order` gives for the kinds' keys. So
+-- empty cables and empty columns come last.
 pub record KindFormat (K X : Type 0) : Type 1 where
   pub word : List ℕ
   pub kind : K → KindOf X
@@ -112,14 +112,14 @@ abbrev pub ComesAfter : {K X : Type 0} → KindFormat K X → Option K → K →
 ComesAfter format None next = Unit {0}
 ComesAfter format (Some last) next = KeyComesBefore format (format.kind last).key (format.kind next).key
 
--- The kind is valid: a card may have its key. Its count is from 1 to 255, its price from -9999 to 9999.
+-- The kind is valid: a card may have its key. Its count is from 1 to 255, and its price is from -9999 to 9999.
 pub record IsKind {K X : Type 0} (format : KindFormat K X) (kind : K) : Type 0 where
   pub form : format.InForm (format.kind kind).key
   pub some : 1 ≤ (format.kind kind).count
   pub most : (format.kind kind).count ≤ 255
   pub in_range : unsigned_abs (format.kind kind).price ≤ 9999
 
--- The kinds are valid and strictly ascending. If there is a kind `last`, they come after it.
+-- The kinds are valid and strictly ascending. If there is a kind `last`, all of them come after `last`.
 abbrev pub AreKinds : {K X : Type 0} → KindFormat K X → Option K → List K → Type 0
 AreKinds format last [] = Unit {0}
 AreKinds format last (kind ∷ kinds) =
@@ -160,7 +160,7 @@ kinds_text format kinds = flat_map (λ kind. line_of (kind_words format kind) ++
 
 -- ---- Reading the words of a kind's line, and listing prices. No public contract cites these definitions.
 
--- The kind is valid, and `words` are the words of its line.
+-- The kind is valid, and `words` are the words of the kind's line.
 pub record HasKindWords {K X : Type 0} (format : KindFormat K X) (words : List (List ℕ)) (kind : K) : Type 0 where
   pub good : IsKind format kind
   pub written : kind_words format kind ≡ words

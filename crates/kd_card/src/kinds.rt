@@ -102,11 +102,11 @@ pub trait Kind: Copy + Default {
             ((key : Self.Key) → ¬ (HasText format text.now key))
             (IsOnlyKey format text.now) };
 
-    /// Compares two keys. A card sorts the lines of kinds by this order of their keys.
+    /// Compares two keys. On a card, the lines of kinds are sorted by this order of the keys.
     fn compare(one: &Self::Key, other: &Self::Key) -> Ordering
         ensures { result ≡ key_cmp format one.now other.now };
 
-    /// Keys with the same place in this order are the same key.
+    /// If `order` gives the same numbers for two keys, the keys are equal.
     ghost told_apart: { (x y : Self.Key) → format.order x ≡ format.order y → x ≡ y };
 }
 

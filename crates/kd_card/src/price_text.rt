@@ -100,7 +100,7 @@ fn are_prices(text: &[u8]) -> bool
         .all(|word| price_of_text(word).is_some())
 }
 
-/// Parses each of `words` as a price. `None` if one of them isn't a price.
+/// Parses each of `words` as a price. `None` if one of the words isn't a price.
 fn prices_of_words<const N: usize>(words: &[&[u8]]) -> Option<ArrayVec<i16, N>>
     requires { length words.now ≤ N }
     ensures { let texts = map (λ word. word.now) words.now in

@@ -8,7 +8,8 @@ use Rattle.kd_step.specs.Stepper.{Stepping}
 use Rattle.kd_enigma.specs.CurrentPath.{SeatedWheel, around_wheels}
 use Rattle.kd_enigma.specs.Cipher.{RotorKey, IsPlugboard, path}
 
--- the items of the slow wheels: all but the last item, which is the right wheel's
+-- the list without its last item. A list with an item for each slot keeps the slow wheels' items: the right wheel's
+-- item is the last.
 abbrev pub slow_slots : {X : Type 0} → List X → List X
 slow_slots slots = take (length slots - 1) slots
 

@@ -7,7 +7,8 @@ use Rattle.kd_tables.specs.Permutation.{followed_by, shift}
 use Rattle.kd_tables.specs.Tables.{wiring_of}
 use Rattle.kd_tables.specs.declared.wheel.Wheel.{Wheel}
 
--- by how many places a wheel is turned from the position of its published wiring: window letter minus ring letter
+-- the number of places that a wheel is turned from the position of its published wiring: window letter minus ring
+-- letter
 abbrev pub offset : ℕ → ℕ → ℕ
 offset ring letter = (letter + (26 - ring)) % 26
 

@@ -46,7 +46,7 @@ wheel_showing wheel letter = wheel_at_place wheel (unwrap_or (place_on wheel.rin
 
 -- ---- What the code keeps. No public contract cites these definitions.
 
--- the place of the shown letter, if the acting pin is at place `acting`, `offset` places further
+-- the place of the shown letter if the acting pin is at place `acting`: `offset` places back, counted around the wheel
 abbrev pub shown_place_at_acting : ℕ → ℕ → ℕ → ℕ
 shown_place_at_acting size acting offset = place_past size acting (size - offset)
 

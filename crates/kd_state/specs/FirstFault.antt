@@ -1,4 +1,4 @@
--- How a definition tests step by step. Each step gives a value or a fault. The steps of a `do` run in order, and the
+-- Definitions that test step by step: each step gives a value or a fault. The steps of a `do` run in order, and the
 -- first fault is the result of the whole `do`.
 -- Code: `?` returns the first fault.
 use Rattle.std.specs.Prelude.{Bool, Result, Ok, Err, if◌then◌else◌}

@@ -41,8 +41,8 @@ impl SheetDay {
     /// Creates a day of a rotor machine, or `None` if no key sheet can have these values.
     ///
     /// `day` must be from 1 to 31, and the model must have `reflector`. `wheels` must have a wheel for each slot, from
-    /// the left. Each must be allowed in its slot, and none may be in two slots. There may be at most 13 pairs and at
-    /// most 4 groups. All letters in the pairs must be different.
+    /// the left. Each wheel must be allowed in its slot, and no wheel may be in two slots. There may be at most 13
+    /// pairs and at most 4 groups. All letters in the pairs must be different.
     pub fn rotor(
         day: u8,
         model: Model,

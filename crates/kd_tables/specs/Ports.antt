@@ -63,13 +63,13 @@ port bytes failed old new =
 abbrev pub KeepsFailureFlag : Port → Type 0
 KeepsFailureFlag p = p.has_failed ≡ p.had_failed
 
--- After the call, port `p` has failed. The call doesn't change whether port `other` has failed.
+-- After the call, the port `p` has failed. The call doesn't change whether the port `other` has failed.
 pub record FailsAlone (p other : Port) : Type 0 where
   pub failed : IsTrue p.has_failed
   pub well : KeepsFailureFlag other
 
--- The flag tells whether a call returned the error `Device`. If it is true, the source or the sink has failed, and the
--- call didn't make the other one fail. If it is false, the call made neither of them fail.
+-- The flag tells whether a call returned the error `Device`. If the flag is true, the source or the sink has failed,
+-- and the call didn't make the other port fail. If the flag is false, the call made neither port fail.
 abbrev pub FailureAgrees : Port → Port → Bool → Type 0
 FailureAgrees source sink false = KeepsFailureFlag source × KeepsFailureFlag sink
 FailureAgrees source sink true = FailsAlone source sink ⊎ FailsAlone sink source

@@ -84,7 +84,7 @@ pub enum Refusal {
     BadHeading,
     /// A part has more or fewer letters than its heading says.
     PartCountWrong,
-    /// A part's last ten letters aren't its first ten, or the first two letters differ from each other.
+    /// A part's last ten letters differ from its first ten, or the first two letters differ from each other.
     IndicatorsDiffer,
     /// A part is missing or out of order, or two headings give different numbers of parts.
     PartOrder,

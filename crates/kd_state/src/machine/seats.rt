@@ -81,7 +81,8 @@ fn is_alone(slots: &[Option<Wheel>], place: usize, seated: Option<Wheel>) -> boo
     true
 }
 
-/// The content of a slot with `seated` once `wheel` is taken out: nothing if `seated` is `wheel`, else `seated`.
+/// What a slot with the content `seated` holds after `wheel` is taken out: nothing if `seated` is `wheel`, else
+/// `seated`.
 pub(crate) fn seat_without(seated: Option<Wheel>, wheel: Wheel) -> Option<Wheel>
     ensures { result ≡ seat_without wheel seated }
 {

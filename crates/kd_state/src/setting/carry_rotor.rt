@@ -63,7 +63,7 @@ impl RotorParts {
 
     /// Puts `wheel` into slot `slot`.
     ///
-    /// The wheel leaves the slot that it was in, and the wheel that was in `slot` goes to the box.
+    /// `wheel` leaves its old slot, and the wheel that was in slot `slot` goes to the box.
     #[tactic(auto, using(crate::proofs::Wheels::lacks_wheel, std::proofs::lemmas::Bool::iff_false))]
     fn seat(&mut self, slot: u8, wheel: Wheel) -> Result<(), Why>
         requires { AreLegalRotorParts self.old }
