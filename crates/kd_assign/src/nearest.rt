@@ -86,9 +86,9 @@ impl<const N: usize> Nearest<N> {
         self.ceiling[column] - prices[column]
     }
 
-    /// The level of `row`, which holds `column`: the column's ceiling minus the cost where the two meet.
+    /// The level of `row`, which holds `column`: the column's ceiling minus the cost in their cell.
     ///
-    /// For any column, a row of the tree offers its level plus the cost where row and column meet.
+    /// For any column, a row of the tree offers the row's level plus the cost in their cell.
     pub fn level(&self, cost: &[[u8; N]; N], row: usize, column: usize) -> i16
         requires row { row < N }
         requires column { column < N }

@@ -59,7 +59,7 @@ pub record HasLastLineStart (line body first : List ℕ) : Type 0 where
   pub unbroken : IsWithout 10 tail
   pub kept : first ≡ take 6 tail
 
--- `part` is a heading line and `body`. The reader holds, in `b`, the heading and the first 525 letters of `body`.
+-- `part` is a heading line and then `body`. The reader holds, in `b`, the heading and the first 525 letters of `body`.
 pub record HoldsBody (s : Day) (b : PartBody) (part body : List ℕ) : Type 0 where
   pub line : List ℕ
   pub first : IsFirstPart 10 part line body
@@ -100,7 +100,7 @@ IsOpenHeading s part found =
     MatchOption found ((h : Heading) (body : List ℕ) → ¬ (HasHeading s part h body)) (λ h. HasHeading s part h [])
 
 -- The result of testing the heading `found`: the heading or a fault. The fault is `BadHeading` if there is no heading,
--- `PartOrder` if its numbers are wrong.
+-- and `PartOrder` if the heading's numbers are wrong.
 abbrev pub IsHeadingAnswer : ℕ → Option ℕ → Option Heading → AnswerRule FormFault Heading
 IsHeadingAnswer number expected found = do
   heading ← Finds (λ heading. found ≡ Some heading) (BadHeading number)
@@ -117,8 +117,8 @@ current_part_start r front = record { number = r.number; expected = r.expected; 
 abbrev pub IsAtPartStart : PartStart → PartsProperty
 IsAtPartStart q p parts = (p ≡ q) × (parts ≡ [])
 
--- The reader `r` has read `form`. It has output `text` (the texts of all parts but the last), and holds the last part.
--- Further bytes don't change the earlier parts.
+-- The reader `r` has read `form`. Its output is `text`, the texts of all parts but the last, and it holds the last
+-- part. Further bytes don't change the earlier parts.
 pub record HoldsForm (s : Day) (r : FormReader) (form text : List ℕ) : Type 0 where
   pub front : List ℕ
   pub last : List ℕ

@@ -1,4 +1,4 @@
--- The pattern of a line of keys, and the letters that fill it; days of rotor machines and of Converters.
+-- The pattern of a line of keys, the letters that fill the pattern, and which models days are for.
 use Rattle.std.specs.Prelude.{codes, ◌≡◌, ◌⊎◌, ℕ, List, [], ◌∷◌, ◌++◌, length, replicate}
 use Rattle.kd_state.specs.LineWords.{line_of}
 use Rattle.kd_state.specs.SheetDay.{Day, RotorDay, PinDay, Rotor, Pin}

@@ -1,4 +1,4 @@
--- Whether a machine is ready and on the day's key, and the fault that a call returns if it isn't.
+-- Whether a machine is ready and on the day's key, and the fault that a call returns otherwise.
 -- Test: tests/cases/desk-messages.toml
 use Rattle.std.specs.Prelude.{◌≡◌, ◌⊎◌, Result, Err, MatchResult}
 use Rattle.kd_state.specs.declared.machine.parts.Parts.{Parts}

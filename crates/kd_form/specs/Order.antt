@@ -38,8 +38,8 @@ pub record IsOrder (s : Day) (order : List ℕ) (keys : List Keys) (head text : 
   pub joined : order ≡ head ++ text
   pub is_head : IsOrderHead s keys head
 
--- `Incomplete`: with some more bytes, `bytes` satisfy `Is`. `Mismatch`: `bytes` don't satisfy `Is`, whatever bytes
--- follow.
+-- `Incomplete` means that `Is` holds for `bytes` followed by some more bytes. `Mismatch` means that `Is` doesn't hold,
+-- whatever bytes follow `bytes`.
 abbrev pub IsPatternFault : (List ℕ → Type 0) → List ℕ → PatternFault → Type 0
 IsPatternFault Is bytes Incomplete = (more : List ℕ) × (more ≢ []) × Is (bytes ++ more)
 IsPatternFault Is bytes Mismatch = (more : List ℕ) → ¬ (Is (bytes ++ more))

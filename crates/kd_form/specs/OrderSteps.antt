@@ -41,7 +41,7 @@ IsHeadStep s keys line order Bad = IsOrderHeadFault s order (length order)
 
 -- ---- The text behind the head. No public contract cites these definitions.
 
--- There are keys for at most 99 parts. All are for the day's model, and suit the day.
+-- There are keys for at most 99 parts. All keys are for the day's model, and suit the day.
 pub record AreSuitedKeys (s : Day) (keys : List Keys) : Type 0 where
   pub of_the_day : All (AreKeys s) keys
   pub suited : InTurn (IsKeysAnswer s) 1 keys (Ok tt)
@@ -82,7 +82,7 @@ HoldsOrderStage s stages.Head h w order sent = IsHeadBegun s h.keys.items h.line
     × IsFreshWriter w
 HoldsOrderStage s stages.Text h w order sent = HoldsOrderText s h.keys.items w order sent
 
--- The reader `r` has read `order`, and `sent` was output for it.
+-- The reader `r` has read the bytes `order`, and the bytes `sent` are its output for them.
 pub record HoldsOrder (s : Day) (r : OrderReader) (order sent : List ℕ) : Type 0 where
   pub counted : r.read ≡ length order
   pub stage : HoldsOrderStage s r.stage r.head r.writer order sent

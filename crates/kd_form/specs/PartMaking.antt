@@ -28,7 +28,7 @@ abbrev pub list_letters : Day → List ℕ
 list_letters (Rotor s) = []
 list_letters (Pin s) = s.list
 
--- how many letters of text a part can have
+-- the greatest number of letters of text that a part can have
 abbrev pub part_size : Day → ℕ
 part_size (Rotor s) = 245
 part_size (Pin s) = 500

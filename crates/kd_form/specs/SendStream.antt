@@ -19,7 +19,7 @@ pub record IsAllowedPrefix (text front : List ℕ) : Type 0 where
   pub ends : (byte : ℕ) (more : List ℕ) → rest ≡ byte ∷ more → IsFalse (is_text_byte byte)
 
 -- Once `letters` letters have been read, `written` of the `parts` parts can be written. A part has at most `size`
--- letters. It can be written once a letter of the next part has been read.
+-- letters. A part can be written once a letter of the next part has been read.
 pub record IsWritableCount (size parts letters written : ℕ) : Type 0 where
   pub writable : (written ≡ 0) ⊎ ((written < parts) × (size * written < letters))
   pub most : (other : ℕ) → other < parts → size * other < letters → other ≤ written
@@ -35,7 +35,8 @@ pub data IsSentBeforeEnd (s : Day) (order sent : List ℕ) : Type 0 where
       (pieces (part_size s) (take (part_size s * written) (text_letters s front))) sent
       → IsSentBeforeEnd s order sent
 
--- orders, as a kind of message
+-- the rules for orders, as a `Message`: when an order has a fault, which form it becomes, and which text is written
+-- while the order is read
 abbrev pub order_message : Day → Message
 order_message s = record {
   stands = IsOrderFaultForGood s;

@@ -10,8 +10,8 @@ use Rattle.kd_form.specs.declared.stream.interruption.Interruption.{Interruption
 use Rattle.kd_form.specs.declared.stream.interruption.Interruption.TheVariants.{Device, Refused}
 use Rattle.kd_form.specs.Streams.{Message, IsOpen, IsMessageAnswer, FallsShort}
 
--- The reader has read `bytes` and output `text`. So far the bytes have no fault, and the reader's state satisfies
--- `holds`.
+-- The reader has read `bytes`, and its output is `text`. So far the bytes have no fault, and the reader's state
+-- satisfies `holds`.
 pub record HasReadSoFar (m : Message) (holds : List ℕ → List ℕ → Type 0) (bytes text : List ℕ) : Type 0 where
   pub is : holds bytes text
   pub open_yet : IsOpen m bytes text
@@ -38,7 +38,7 @@ IsFeedAnswer m old new byte made answer =
     → MatchResult answer (λ _. HasReadSoFar m new (bytes ++ byte ∷ []) (text ++ made))
     (HasFaultForGood m (bytes ++ byte ∷ []) text)
 
--- At the end of the message, the reader outputs `made`. It is the rest of the result or, with a fault, the rest of the
+-- At the end of the message, the reader outputs `made`: the rest of the result or, if there is a fault, the rest of the
 -- text before the fault.
 abbrev pub IsEndAnswer : Message → (List ℕ → List ℕ → Type 0) → List ℕ → Result (Unit {0}) FormFault → Type 0
 IsEndAnswer m old made answer = (bytes text : List ℕ) → HasReadSoFar m old bytes text
@@ -64,7 +64,7 @@ pub record IsPrefixOfDue (m : Message) (bytes text : List ℕ) : Type 0 where
   pub open_yet : IsOpen m front due
   pub of_due : FallsShort due text
 
--- The reader has read `bytes`. Or the bytes have a fault, or the sink failed.
+-- Either the reader has read `bytes`, or the bytes have a fault, or the sink failed.
 abbrev pub HasBeenFed : Message → (List ℕ → List ℕ → Type 0) → List ℕ → List ℕ → Result (Unit {0}) Interruption → Type 0
 HasBeenFed m new bytes text (Ok _) = HasReadSoFar m new bytes text
 HasBeenFed m new bytes text (Err (Refused fault)) = HasFaultForGood m bytes text fault
@@ -85,7 +85,7 @@ IsFeedAllAnswer m old new more sink answer =
 
 -- ---- the end
 
--- At the end of the message, all text that was due was written. Or the sink failed, and only a proper prefix was
+-- Either all text that was due at the end of the message was written, or the sink failed and only a proper prefix was
 -- written.
 abbrev pub HasBeenEnded : Message → List ℕ → List ℕ → Result (Unit {0}) Interruption → Type 0
 HasBeenEnded m bytes text (Ok _) = IsMessageAnswer m bytes text (Ok tt)
@@ -140,7 +140,7 @@ HasBeenRead m new source sink bytes more text (Ok count) =
     × KeepsFailureFlag sink
 HasBeenRead m new source sink bytes more text (Err stop) = IsReadStopped m new source sink (bytes ++ more) text stop
 
--- At most `room` bytes were taken from the source and fed to the reader. Its output was written to the sink.
+-- At most `room` bytes were taken from the source and fed to the reader. The reader's output was written to the sink.
 pub record IsChunkRead (m : Message) (new : List ℕ → List ℕ → Type 0) (bytes text : List ℕ) (room : ℕ)
     (source sink : Port)
     (answer : Result ℕ Interruption) : Type 0 where
@@ -160,7 +160,7 @@ IsReadNextAnswer m old new room source sink answer =
 
 -- ---- a whole message
 
--- The result of the message was written. Or the message has a fault, or the sink failed.
+-- Either the result of the message was written, or the message has a fault, or the sink failed.
 abbrev pub IsWriteMessageAnswer : Message → List ℕ → Port → Result (Unit {0}) Interruption → Type 0
 IsWriteMessageAnswer m bytes sink (Ok _) = (text : List ℕ) × m.becomes bytes text × Appends sink.had sink.has text
 IsWriteMessageAnswer m bytes sink (Err (Refused fault)) = m.refused bytes fault

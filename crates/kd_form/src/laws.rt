@@ -19,7 +19,7 @@ pub fn orders_have_an_answer(day: &SheetDay, order: &[u8])
     let _answer = check_message::<OrderReader>(day, order);
 }
 
-/// A fault that shows before the end of an order remains the order's fault, whatever bytes follow.
+/// A fault that is found before the end of an order remains the order's fault, whatever bytes follow.
 pub fn orders_stay_refused()
     ensures { OrdersStayRefused }
 {}
@@ -29,7 +29,7 @@ pub fn forms_have_one_answer()
     ensures { FormsHaveOneAnswer }
 {}
 
-/// A fault that shows before the end of a form remains the form's fault, whatever bytes follow.
+/// A fault that is found before the end of a form remains the form's fault, whatever bytes follow.
 pub fn forms_stay_refused()
     ensures { FormsStayRefused }
 {}

@@ -15,7 +15,7 @@ pub trait Files<'n> {
 
     /// Maps a name to the bytes of the file with this name, if there is one.
     ///
-    /// `None` in place of the map: the files' bytes aren't known, as for the host's files.
+    /// There is no map, but `None`, if the files' bytes aren't known, as for the host's files.
     ghost known: { Self → Option (List ℕ → Option (List ℕ)) } = { λ _. None };
 
     /// The names asked for, in order. Beside each name: whether the file could be read or opened.

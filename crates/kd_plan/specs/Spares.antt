@@ -10,7 +10,7 @@ use Rattle.kd_state.specs.SameParts.{numbered_item}
 abbrev pub is_spare : Option ℕ × Option ℕ → Bool
 is_spare cable = is_none cable.0 && is_none cable.1
 
--- The cable with this number is spare. There may be no such cable.
+-- The cable with this number is spare, or there is no cable with this number.
 abbrev pub IsSpareCable : List (Option ℕ × Option ℕ) → ℕ → Type 0
 IsSpareCable cables number = IfSome (numbered_item cables number) (λ cable. IsTrue (is_spare cable))
 
@@ -30,12 +30,12 @@ SparesStayFree = by_model (λ settings. ⊥)
 abbrev pub is_spare_at : List (Option ℕ × Option ℕ) → ℕ → Bool
 is_spare_at cables place = is_spare (slice_index_or cables place (None, None))
 
--- whether the cable at `place` gets a pair before the spare cable at `spare`. It does if it is in use, or if `place` is
--- below `spare`.
+-- whether the cable at `place` gets a pair before the spare cable at `spare` does: it is in use, or `place` is below
+-- `spare`
 abbrev pub comes_before : List (Option ℕ × Option ℕ) → ℕ → ℕ → Bool
 comes_before cables place spare = nat_lt place spare || not (is_spare_at cables place)
 
--- If a spare cable is assigned a pair, so are all cables in use and all cables at lower places.
+-- If a spare cable is assigned a pair, each cable in use and each cable at a lower place is also assigned a pair.
 abbrev pub SparesComeLast : List (Option ℕ × Option ℕ) → ℕ → List ℕ → Type 0
 SparesComeLast cables pairs to =
     (spare place : ℕ) → spare < 13 → IsTrue (is_spare_at cables spare) → slice_index to spare < pairs

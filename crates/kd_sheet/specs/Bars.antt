@@ -21,7 +21,7 @@ unfoldable pub bars_in : Members → Result (List (Place × Place)) SheetFault
 bars_in table =
     value_at keys.Bars table >>= read_array keys.Bars (nat_eq 27) (or_bad_row (find_by_text standing_text standings))
 
--- the two digits of a row's text, the lower first: `3-0` gives 0 and 3. Each is from 0 to 6. They differ, or both are
+-- the two digits of a row's text, the smaller first: `3-0` gives 0 and 3. Each is from 0 to 6. They differ, or both are
 -- 0.
 unfoldable pub reading_of_text : List ℕ → Option (ℕ × ℕ)
 reading_of_text (one ∷ dash ∷ other ∷ []) =

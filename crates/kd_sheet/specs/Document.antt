@@ -30,7 +30,8 @@ document_of bytes = if is_utf8 bytes then ok_or (parse_document bytes) NotToml e
 abbrev pub value_at : Key → Members → Result Data SheetFault
 value_at key table = ok_or (get_member (key_name key) table) (Missing key)
 
--- the result of `parse` for the value at `key`. `Missing` if the key is absent, `BadValue` if `parse` gives `None`.
+-- the result of `parse` for the value at `key`. It is the fault `Missing` if the key is absent, and the fault
+-- `BadValue` if `parse` gives `None`.
 abbrev pub read_at : {A : Type 0} → Key → (Data → Option A) → Members → Result A SheetFault
 read_at key parse table = value_at key table >>= (λ value. ok_or (parse value) (BadValue key))
 

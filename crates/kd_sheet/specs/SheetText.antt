@@ -64,11 +64,12 @@ abbrev pub day_lines : Day → List (List ℕ)
 day_lines (Rotor s) = rotor_day_lines s
 day_lines (Pin s) = pin_day_lines s
 
--- the text of a key sheet for `days`, at least one day
+-- the text of a key sheet for the list `days`, which has at least one day
 unfoldable pub sheet_text : List Day → List ℕ
 sheet_text days = sections_text false (map day_lines days)
 
--- Each day in the second list is legal. Its number differs from the numbers of all days before it, in both lists.
+-- Each day in the second list is legal. Its number differs from the numbers of all days in the first list, and of all
+-- days before it in the second list.
 abbrev pub AreSheetDays : List Day → List Day → Type 0
 AreSheetDays earlier [] = ⊤
 AreSheetDays earlier (day ∷ days) =
