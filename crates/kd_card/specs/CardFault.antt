@@ -54,8 +54,8 @@ IsValueAnswer signed prefix due line bytes = do
   _ ← Demands (found.0 ≡ due) CountWrong
   Yields found.1
 
--- The result of reading a price line: a fault; or else the line's first word, its other words, and the bytes after the
--- line.
+-- The result of reading a price line: a fault, or three values. The values are the line's first word, its other words,
+-- and the bytes after the line.
 abbrev pub IsLineAnswer : ℕ → List ℕ → AnswerRule CardFault (List ℕ × List (List ℕ) × List ℕ)
 IsLineAnswer line bytes = do
   _ ← Demands (bytes ≢ []) PriceMissing
@@ -68,8 +68,8 @@ pub record BeginsWithHead (bytes : List ℕ) (version : Version) (day : ℕ) (re
   pub text : bytes ≡ line_then (head_words version day) rest
   pub of_month : IsDayNumber day
 
--- The result of reading a card's first line: the fault `BadHead`; or else the version, the day, and the bytes after the
--- line.
+-- The result of reading a card's first line. It is the fault `BadHead`, or the version, the day, and the bytes after
+-- the line.
 abbrev pub IsHeadAnswer : List ℕ → AnswerRule CardFault (Version × ℕ × List ℕ)
 IsHeadAnswer bytes = Finds (λ (head : Version × ℕ × List ℕ). BeginsWithHead bytes head.0 head.1 head.2) BadHead
 

@@ -21,7 +21,7 @@ letters_text (letter ∷ letters) = tables.letters_text (letter ∷ letters)
 abbrev pub kind_line : List ℕ → List ℕ → ℕ → ℤ → List (List ℕ)
 kind_line word key count price = word ∷ key ∷ decimal count ∷ signed_decimal price ∷ []
 
--- The letters of the two ends are in alphabetical order, or only the first end has a letter, or no end has a letter.
+-- Two letters are in alphabetical order, or only the first end has a letter, or no end has a letter.
 abbrev pub AreEnds : Option ℕ → Option ℕ → Type 0
 AreEnds None None = Unit {0}
 AreEnds None (Some other) = ⊥

@@ -55,7 +55,7 @@ ArePrices (BarKinds bars rows) = IsGroup bar_format 27 bars.items × IsGroup row
 abbrev pub cost_at : List (List ℕ) → ℕ → ℕ → ℕ
 cost_at costs i j = slice_index (slice_index_or costs i []) j
 
--- item `i` of a list of prices, counted from 0; in a list of prices by number, this is the price of row or column `i`
+-- item `i` of a list of prices, counted from 0. In a list of prices by number, it is the price of row or column `i`.
 abbrev pub price_at : List ℤ → ℕ → ℤ
 price_at prices i = slice_index_or prices i (pos 0)
 

@@ -28,7 +28,7 @@ is_priced_setting _ = false
 abbrev pub priced_count : List Setting → ℕ
 priced_count settings = count_by is_priced_setting settings
 
--- The setting is needed: it changes a cable or a bar, or the machine carries it out and then has one loose thing less.
+-- The setting is needed. It changes a cable or a bar, or the machine carries it out and then has one loose thing less.
 abbrev pub IsSettingNeeded : Parts → Day → Setting → Type 0
 IsSettingNeeded machine day setting = IsFalse (is_priced_setting setting)
     → (after : Parts) × Carries machine setting after × (loose_count machine day ≡ loose_count after day + 1)

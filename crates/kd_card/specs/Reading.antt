@@ -7,8 +7,8 @@ use Rattle.kd_state.specs.LineWords.{words_of}
 use Rattle.std.specs.Prelude.{codes, ◌≡◌, ◌<◌, ◌≤◌, ℕ, ℤ, unsigned_abs, List, [], Option, Some, None, Err}
 use Rattle.std.specs.Fmt.{signed_decimal}
 
--- the words of a line after its first word; the argument is the line's text after its first space, or `None` if the
--- line has no space
+-- the words of a line after its first word. The argument is the line's text after its first space, or `None` if the
+-- line has no space.
 abbrev pub words_after_first : Option (List ℕ) → List (List ℕ)
 words_after_first None = []
 words_after_first (Some text) = words_of text

@@ -75,8 +75,7 @@ pub record TypesOn (machine : List ℕ) (source sink : Port) (answer : Result (U
   pub refused : IfErr (machine_of machine) (λ fault. AnswersFault answer (File fault))
   pub typed : IfOk (machine_of machine) (λ m. TypesText m source sink answer ⊎ LacksMemory answer)
 
--- Either the bytes `list` were applied to the machine of a machine file, or the machine file was refused, or memory ran
--- out.
+-- Either the bytes `list` were applied to the machine of a machine file, or the file was refused, or memory ran out.
 pub record AppliesTo (machine list : List ℕ) (sink : Port) (answer : Result (Unit {0}) DeskFault) : Type 0 where
   pub refused : IfErr (machine_of machine) (λ fault. AnswersFault answer (File fault))
   pub applied : IfOk (machine_of machine) (λ m. Applies m list sink answer ⊎ LacksMemory answer)
@@ -101,8 +100,7 @@ DoesCommand command source sink answer = DoesAction command.machine command.acti
 
 -- ---- How a command is carried out, and what is left of the file that it opened.
 
--- the opened file as a port: `file` is what is known of the file before a call, and `left` is what is known after the
--- call
+-- the opened file as a port. `file` is what is known of the file before a call, and `left` is what is known after it.
 abbrev pub file_port : KnownFile → KnownFile → Port
 file_port left file = record { had = file.bytes; has = left.bytes; had_failed = file.failed; has_failed = left.failed }
 

@@ -81,8 +81,8 @@ HasIndicator (Pin s) None = Unit {0}
 HasIndicator (Rotor s) None = ⊥
 HasIndicator (Pin s) (Some i) = ⊥
 
--- The answer for the letters of a body: if the heading has an indicator, the answer of a rotor machine, otherwise the
--- answer of a Converter M-209.
+-- The answer for the letters of a body. If the heading has an indicator, it is the answer for a rotor machine,
+-- otherwise for a Converter M-209.
 abbrev pub IsLettersAnswer : Day → ℕ → Option Indicator → List ℕ → AnswerRule FormFault (List ℕ)
 IsLettersAnswer s part (Some i) letters = IsRotorAnswer s part i letters
 IsLettersAnswer s part None letters = IsPinAnswer s part letters

@@ -115,8 +115,7 @@ abbrev pub IsTextBefore : Day → Option FormFault → List ℕ → List ℕ →
 IsTextBefore s None form text = IsFormReadTo s IsLastPart form text
 IsTextBefore s (Some fault) form text = IsAnswerAfter s form text (Err fault)
 
--- the rules for forms, as a `Message`: when a form has a fault, which text it becomes, and which text is written while
--- the form is read
+-- the rules for forms, as a `Message`: their faults, their texts, and what is written while a form is read
 abbrev pub form_message : Day → Message
 form_message s = record {
   stands = λ form fault. (text : List ℕ) × IsRefusedForGood s form text fault;

@@ -35,8 +35,7 @@ pub data IsSentBeforeEnd (s : Day) (order sent : List ℕ) : Type 0 where
       (pieces (part_size s) (take (part_size s * written) (text_letters s front))) sent
       → IsSentBeforeEnd s order sent
 
--- the rules for orders, as a `Message`: when an order has a fault, which form it becomes, and which text is written
--- while the order is read
+-- the rules for orders, as a `Message`: their faults, their forms, and what is written while an order is read
 abbrev pub order_message : Day → Message
 order_message s = record {
   stands = IsOrderFaultForGood s;

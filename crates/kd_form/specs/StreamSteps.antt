@@ -38,8 +38,8 @@ IsFeedAnswer m old new byte made answer =
     → MatchResult answer (λ _. HasReadSoFar m new (bytes ++ byte ∷ []) (text ++ made))
     (HasFaultForGood m (bytes ++ byte ∷ []) text)
 
--- At the end of the message, the reader outputs `made`: the rest of the result or, if there is a fault, the rest of the
--- text before the fault.
+-- At the end of the message, the reader outputs `made`: the rest of the result, or the rest of the text before the
+-- fault.
 abbrev pub IsEndAnswer : Message → (List ℕ → List ℕ → Type 0) → List ℕ → Result (Unit {0}) FormFault → Type 0
 IsEndAnswer m old made answer = (bytes text : List ℕ) → HasReadSoFar m old bytes text
     → IsMessageAnswer m bytes (text ++ made) answer
@@ -85,8 +85,7 @@ IsFeedAllAnswer m old new more sink answer =
 
 -- ---- the end
 
--- Either all text that was due at the end of the message was written, or the sink failed and only a proper prefix was
--- written.
+-- Either all text due at the end of the message was written, or the sink failed and only a proper prefix was written.
 abbrev pub HasBeenEnded : Message → List ℕ → List ℕ → Result (Unit {0}) Interruption → Type 0
 HasBeenEnded m bytes text (Ok _) = IsMessageAnswer m bytes text (Ok tt)
 HasBeenEnded m bytes text (Err (Refused fault)) = IsMessageAnswer m bytes text (Err fault)

@@ -10,8 +10,8 @@ use Rattle.kd_card.specs.Proving.{AreSettingsNeeded, Expands, IsSettingNeeded, p
 use Rattle.kd_prices.specs.declared.doubt.Doubt.TheVariants.{NeedlessLine, NotTheSheet, PriceMissing, PriceTooHigh}
 use Rattle.kd_prices.specs.declared.doubt.Doubt.{Doubt, TheVariants.{IllegalAt, OtherModel, SumDiffers}}
 
--- The prices suit the machine: for a rotor machine, they are prices of cables and columns; for a Converter, prices of
--- bars and rows.
+-- The prices suit the machine: a rotor machine has prices of cables and columns, and a Converter has prices of bars and
+-- rows.
 abbrev pub PricesSuitMachine : Parts → PriceParts → Type 0
 PricesSuitMachine (Rotor machine) (Cables row col) = Unit {0}
 PricesSuitMachine (Rotor machine) (CableKinds row col) = Unit {0}
@@ -88,9 +88,9 @@ IsDoubt machine day settings prices doubt = IsCheckedAnswer machine day settings
 
 -- ---- The steps of finding the first doubt. No public contract cites these definitions.
 
--- The result of checking settings by two lists of `number` prices: `rows` for the rows of the table of costs, `columns`
--- for its columns. If the settings lead to the day and are proved shortest, the result is success. Otherwise it is the
--- first doubt.
+-- The result of checking settings by two lists of `number` prices, for the rows and for the columns of the table of
+-- costs. If the settings lead to the day and are proved shortest, the result is success. Otherwise it is the first
+-- doubt.
 abbrev pub IsByPricesAnswer : Parts → Day → List Setting → ℕ → List ℤ → List ℤ → AnswerRule Doubt (Unit {0})
 IsByPricesAnswer machine day settings number rows columns answer =
     (prices : PriceParts) → machine_prices prices ≡ rows → day_prices prices ≡ columns → table_size prices ≡ number

@@ -48,8 +48,8 @@ standings_as row =
 abbrev pub bar_cost : Place × Place → ℕ × ℕ → ℕ
 bar_cost standing row = fold min 2 (map (lugs_moved standing) (standings_as row))
 
--- the standing that reads as the row after the fewest moves of lugs; if two standings need equally many, the first in
--- `standings`
+-- the standing that reads as the row after the fewest moves of lugs. Of two equally near standings, it is the first in
+-- `standings`.
 abbrev pub nearest_standing : Place × Place → ℕ × ℕ → Option (Place × Place)
 nearest_standing bar row = find (λ other. nat_eq (lugs_moved bar other) (bar_cost bar row)) (standings_as row)
 

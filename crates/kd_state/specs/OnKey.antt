@@ -50,7 +50,7 @@ pub record ReadsAs (machine : Parts) (day : Day) : Type 0 where
 
 -- ---- The cables by columns. No public contract cites this definition.
 
--- the cable for a column: it has the letters of the column's pair in alphabetical order, or is empty if the column has
--- no pair
+-- the cable for a column, with the letters of the column's pair in alphabetical order; empty for a column without a
+-- pair
 abbrev pub cable_of_column : Option (ℕ × ℕ) → Option ℕ × Option ℕ
 cable_of_column column = option_map_or (λ pair. (Some pair.0, Some pair.1)) (pair_in_order column) (None, None)

@@ -8,8 +8,7 @@ use thiserror::Error;
 /// Why a machine refuses a setting.
 #[derive(Clone, Copy, Debug, PartialEq, Eq)]
 pub enum Why {
-    /// The setting is for an Enigma but the machine is a Converter, or the setting is for a Converter but the machine
-    /// is an Enigma.
+    /// The setting is for Enigmas but the machine is a Converter, or the other way round.
     OtherModel,
     /// There is no cable with this number.
     NoSuchCable,
