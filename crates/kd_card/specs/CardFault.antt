@@ -37,7 +37,8 @@ IsNumeral true text =
 
 -- ---- lines
 
--- The first line of `bytes` ends with LF. Split at each space, the line is `words`. The bytes after its LF are `rest`.
+-- The first line of `bytes` ends with LF. The list `words` has the parts of this line between its spaces. The bytes
+-- after the LF are `rest`.
 pub record HasLineWords (bytes : List ℕ) (words : List (List ℕ)) (rest : List ℕ) : Type 0 where
   pub line : List ℕ
   pub first : IsFirstPart 10 bytes line rest
@@ -148,7 +149,7 @@ pub record IsNextKind {K X : Type 0} (format : KindFormat K X) (last : Option K)
 abbrev pub HasNoNext : {K X : Type 0} → KindFormat K X → Option K → List ℕ → Type 0
 HasNoNext {K} format last bytes = (kind : K) (rest : List ℕ) → ¬ (IsNextKind format last bytes kind rest)
 
--- the last of `kinds`, or `last` if `kinds` is empty
+-- the last kind in the list `kinds`, or `last` if this list is empty
 abbrev pub last_of : {K : Type 0} → Option K → List K → Option K
 last_of last [] = last
 last_of last (kind ∷ kinds) = last_of (Some kind) kinds

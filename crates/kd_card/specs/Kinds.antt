@@ -46,7 +46,7 @@ pub record KindFormat (K X : Type 0) : Type 1 where
   pub InForm : X → Type 0
   pub order : X → List ℕ
 
--- how a card writes kinds of cables: by their letters
+-- the form of kinds of cables on a card; the key of a kind is its cables' letters
 abbrev pub cable_format : KindFormat CableKind (Option ℕ × Option ℕ)
 cable_format = record {
   word = codes "CABLE";
@@ -56,7 +56,7 @@ cable_format = record {
   order = λ ends. one_unless (is_some ends.0) ∷ cable_letters ends;
 }
 
--- how a card writes kinds of columns: by the letters of the pair
+-- the form of kinds of columns on a card; the key of a kind is its columns' pair, or `None`
 abbrev pub pair_format : KindFormat PairKind (Option (ℕ × ℕ))
 pair_format = record {
   word = codes "PAIR";
@@ -66,7 +66,7 @@ pair_format = record {
   order = λ pair. one_unless (is_some pair) ∷ column_letters pair;
 }
 
--- how a card writes kinds of bars: by the places of the two lugs
+-- the form of kinds of bars on a card; the key of a kind is the places of the two lugs
 abbrev pub bar_format : KindFormat BarKind (Place × Place)
 bar_format = record {
   word = codes "BAR";
@@ -76,7 +76,7 @@ bar_format = record {
   order = λ standing. place_rank standing.0 ∷ place_rank standing.1 ∷ [];
 }
 
--- how a card writes kinds of rows: by the two numbers of the reading
+-- the form of kinds of rows on a card; the key of a kind is the two numbers of the reading
 abbrev pub row_format : KindFormat RowKind (ℕ × ℕ)
 row_format = record {
   word = codes "ROW";
@@ -95,12 +95,12 @@ key_cmp format x y = slice_cmp nat_cmp (format.order x) (format.order y)
 abbrev pub KeyComesBefore : {K X : Type 0} → KindFormat K X → X → X → Type 0
 KeyComesBefore format x y = key_cmp format x y ≡ Less
 
--- `key` (letters, a standing or a reading) is valid on a card, and `text` is how a card writes it.
+-- `key` (letters, a standing or a reading) is valid on a card, and its text on a card is `text`.
 pub record HasText {K X : Type 0} (format : KindFormat K X) (text : List ℕ) (key : X) : Type 0 where
   pub form : format.InForm key
   pub written : format.text key ≡ text
 
--- A card writes `key` (letters, a standing or a reading), and no other key, as `text`.
+-- On a card, `text` is the text of `key` (letters, a standing or a reading), and of no other key.
 pub record IsOnlyKey {K X : Type 0} (format : KindFormat K X) (text : List ℕ) (key : X) : Type 0 where
   pub has : HasText format text key
   pub only : (other : X) → HasText format text other → other ≡ key

@@ -72,7 +72,7 @@ pub trait Kind: Copy + Default {
     /// The key of a kind: what its cables, columns, bars or rows have in common, such as their letters.
     type Key: Copy + Default;
 
-    /// How a card writes kinds of this type, and in which order.
+    /// The form of the kinds of this type on a card, and their order.
     ghost format: { KindFormat Self Self.Key };
 
     /// The first word of a kind's line on a card: `CABLE`, `PAIR`, `BAR` or `ROW`.

@@ -9,7 +9,7 @@ use Rattle.kd_command.specs.declared.command.Action.{Action}
 use Rattle.kd_command.specs.declared.command.Task.{Task}
 use Rattle.kd_command.specs.CommandLine.{NamedCommand, IsCommandOf, command_shape, with_action_files, with_task_files}
 
--- a grammar whose only command is `shape`, without subcommands
+-- a grammar that has only the command `shape`, and no subcommands
 abbrev pub app_without_subcommands : Shape → App
 app_without_subcommands shape = record { top = shape; subs = [] }
 

@@ -20,7 +20,7 @@ use Rattle.kd_form.specs.PartReading.{PartStart, ReadPart, IsContentAnswer, IsPa
 abbrev pub first_part_start : PartStart
 first_part_start = record { number = 1; expected = None; bytes_before = 0 }
 
--- the start of the part after `part`, which starts at `p` and says that there are `count` parts
+-- the start of the part after `part`; the part `part` starts at `p`, and says that there are `count` parts
 abbrev pub next_part_start : PartStart → ℕ → List ℕ → PartStart
 next_part_start p count part = record
     { number = p.number + 1; expected = Some count; bytes_before = p.bytes_before + length part }
@@ -132,7 +132,7 @@ abbrev pub sent_letters : Day → List ℕ → List ℕ
 sent_letters (Rotor s) letters = letters
 sent_letters (Pin s) letters = fill_last_group letters
 
--- `given` is the text that the receiver of the order's form must get.
+-- The text `given` is what the receiver of the order's form must get.
 pub record IsPlaintextOf (s : Day) (order given : List ℕ) : Type 0 where
   pub keys : List Keys
   pub head : List ℕ

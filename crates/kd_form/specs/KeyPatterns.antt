@@ -9,7 +9,7 @@ use Rattle.kd_form.specs.Order.{IsKeyLine}
 
 -- ---- What a line of keys is made of. No public contract cites these definitions.
 
--- `number` bytes `_`, each of which stands for a letter
+-- a list of `number` bytes, which are all `_`; each `_` stands for a letter
 abbrev pub blank_places : ℕ → List ℕ
 blank_places number = replicate number 95
 

@@ -47,8 +47,8 @@ pub record AreSuitedKeys (s : Day) (keys : List Keys) : Type 0 where
   pub suited : InTurn (IsKeysAnswer s) 1 keys (Ok tt)
   pub few : length keys ≤ 99
 
--- The keys suit the day. The writer `w` has taken `letters`, and has written all parts that can be written. It keeps
--- the letters after these parts, at most as many as a part can have.
+-- The keys suit the day. The writer `w` has taken `letters`, and has written all parts that can be written. The writer
+-- keeps the letters after these parts, at most as many as a part can have.
 pub record AreLettersTaken (s : Day) (keys : List Keys) (w : PartWriter) (letters sent : List ℕ) : Type 0 where
   pub suited : AreSuitedKeys s keys
   pub counted : w.count ≡ length letters

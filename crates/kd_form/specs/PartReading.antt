@@ -25,7 +25,7 @@ pub record HasHeading (s : Day) (part : List ℕ) (h : Heading) (body : List ℕ
   pub is_heading : IsHeading s h
   pub first : HasFirstLine part (line_of (heading_words h)) body
 
--- `part` is a part's first line, without its LF. `found` is the heading in it, or `None` if there is no heading.
+-- `part` is a part's first line, without its LF. `found` is the heading in this line, or `None` if there is no heading.
 abbrev pub IsEndedHeading : Day → List ℕ → Option Heading → Type 0
 IsEndedHeading s part found =
     MatchOption found

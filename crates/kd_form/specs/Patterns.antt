@@ -36,6 +36,7 @@ fits_mark mark byte = if mark == 95 then nat_le 65 byte && nat_le byte 90 else b
 abbrev pub letters_for_mark : ℕ → ℕ → List ℕ
 letters_for_mark mark byte = if mark == 95 then (byte - 65) ∷ [] else []
 
--- `bytes` are a line that fits the pattern. `new` is `old`, followed by the letters that the line has at each `_`.
+-- `bytes` are a line that fits the pattern. The list `new` is the list `old`, followed by the letters that the line has
+-- at each `_`.
 abbrev pub AreLettersAppended : List ℕ → List ℕ → List ℕ → List ℕ → Type 0
 AreLettersAppended pattern bytes old new = (more : List ℕ) × IsFilledLine pattern more bytes × (new ≡ old ++ more)

@@ -77,7 +77,8 @@ pub record IsFed (m : Message) (new : List ℕ → List ℕ → Type 0) (bytes t
   pub written : Appends sink.had sink.has made
   pub fed : HasBeenFed m new bytes (text ++ made) answer
 
--- The reader's state satisfies `old`. The reader reads the bytes `more`, and its output is written to the sink.
+-- The reader's state satisfies the condition `old`. The reader reads the bytes `more`, and its output is written to the
+-- sink.
 abbrev pub IsFeedAllAnswer : Message → (List ℕ → List ℕ → Type 0) → (List ℕ → List ℕ → Type 0) → List ℕ → Port
     → Result (Unit {0}) Interruption → Type 0
 IsFeedAllAnswer m old new more sink answer =
@@ -99,7 +100,7 @@ pub record IsClosed (m : Message) (bytes text : List ℕ) (sink : Port) (answer 
   pub written : Appends sink.had sink.has made
   pub ended : HasBeenEnded m bytes (text ++ made) answer
 
--- The reader's state satisfies `old`. The reader ends the message.
+-- The reader's state satisfies the condition `old`. The reader ends the message.
 abbrev pub IsFinishAnswer : Message → (List ℕ → List ℕ → Type 0) → Port → Result (Unit {0}) Interruption → Type 0
 IsFinishAnswer m old sink answer = (bytes text : List ℕ) → HasReadSoFar m old bytes text
     → IsClosed m bytes text sink answer
@@ -150,7 +151,7 @@ pub record IsChunkRead (m : Message) (new : List ℕ → List ℕ → Type 0) (b
   pub written : Appends sink.had sink.has made
   pub read : HasBeenRead m new source sink bytes more (text ++ made) answer
 
--- The reader's state satisfies `old`. The reader reads the next bytes of the source.
+-- The reader's state satisfies the condition `old`. The reader reads the next bytes of the source.
 abbrev pub IsReadNextAnswer : Message → (List ℕ → List ℕ → Type 0) → (List ℕ → List ℕ → Type 0) → ℕ → Port → Port
     → Result ℕ Interruption → Type 0
 IsReadNextAnswer m old new room source sink answer =

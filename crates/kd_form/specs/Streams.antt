@@ -46,7 +46,7 @@ pub data IsDue (m : Message) (source : Port) (read text : List ℕ) : Type 0 whe
 abbrev pub KeepFailureFlags : Port → Port → Type 0
 KeepFailureFlags source sink = KeepsFailureFlag source × KeepsFailureFlag sink
 
--- `text` is a proper prefix of `due`.
+-- `text` is a proper prefix of the text `due`.
 pub record FallsShort (due text : List ℕ) : Type 0 where
   pub missing : List ℕ
   pub some : missing ≢ []
@@ -77,7 +77,7 @@ pub data IsStreamAnswer (m : Message) (source sink : Port) (read text : List ℕ
       → FailsAlone sink source
       → answer ≡ Err Device → IsStreamAnswer m source sink read text answer
 
--- The call took `read` from the source and put `text` into the sink, as `IsStreamAnswer` says.
+-- The call took the bytes `read` from the source and put the bytes `text` into the sink, as `IsStreamAnswer` says.
 pub record IsStreamed (m : Message) (source sink : Port) (answer : Result (Unit {0}) FormFault) : Type 0 where
   pub read : List ℕ
   pub text : List ℕ
@@ -104,8 +104,8 @@ pub record IsUntouched (p : Port) : Type 0 where
   pub has : p.has ≡ p.had
   pub well : KeepsFailureFlag p
 
--- Either the answer is a fault that satisfies `is_fault`, and both ports are left as they were. Or `may` holds, and the
--- call reads and writes as `IsStreamed` says.
+-- Either the answer is a fault that satisfies `is_fault`, and both ports are left as they were. Or the statement `may`
+-- holds, and the call reads and writes as `IsStreamed` says.
 pub data StreamsUnlessFault (is_fault : FormFault → Type 0) (may : Type 0) (message : Message) (source sink : Port)
     (answer : Result (Unit {0}) FormFault) : Type 0 where
   FaultBefore : (fault : FormFault) → is_fault fault → answer ≡ Err fault → IsUntouched source → IsUntouched sink

@@ -45,8 +45,8 @@ TypesIfReady m source sink answer =
 
 -- ---- What the code holds. No public contract cites these definitions.
 
--- `lamps` is the ciphertext of the letters in `bytes`. `left` is the machine's key after it has enciphered these
--- letters.
+-- `lamps` is the ciphertext of the letters in `bytes`. The key `left` is the machine's key after these letters were
+-- enciphered.
 pub record IsTypedChunk (key left : EngineKey) (bytes lamps : List ℕ) : Type 0 where
   pub cipher : lamps ≡ cipher_text (cipher key) bytes
   pub after : left ≡ engine_key_after key (length (typed_letters bytes))

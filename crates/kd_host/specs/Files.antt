@@ -75,8 +75,8 @@ pub record MissesOne (names : List (List ℕ)) (old new : List AskedName) : Type
   pub names_are : names ≡ before ++ name ∷ after
   pub asked : new ≡ old ++ (map asked_and_had before ++ asked_and_missed name ∷ [])
 
--- `new` is `old` followed by the names asked for. With `true`, these are all of `names`. With `false`, they end with
--- the first file that couldn't be read or opened.
+-- The list `new` is the list `old`, followed by the names asked for. If the flag is `true`, these are all of `names`.
+-- If it is `false`, the last of them is the first name whose file couldn't be read or opened.
 abbrev pub AreAskedFor : List (List ℕ) → List AskedName → List AskedName → Bool → Type 0
 AreAskedFor names old new true = new ≡ old ++ map asked_and_had names
 AreAskedFor names old new false = MissesOne names old new

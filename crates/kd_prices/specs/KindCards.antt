@@ -13,8 +13,8 @@ pub record CanBeByKind (machine : Parts) (day : Day) (prices : PriceParts) : Typ
   pub kind : AreModelPrices machine prices
   pub equal : AreEqualWhereAlike machine day prices
 
--- `other` has the settings of `card`, and prices by kind. Each kind has the price that its cables, columns, bars or
--- rows have on `card`.
+-- The card `other` has the settings of `card`, and has prices by kind. Each kind has the price that its cables,
+-- columns, bars or rows have on `card`.
 pub record IsByKind (machine : Parts) (day : Day) (card other : Card) : Type 0 where
   pub settings : other.settings.items ≡ card.settings.items
   pub version : version_of other.prices ≡ ByKind

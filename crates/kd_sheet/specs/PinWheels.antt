@@ -30,7 +30,7 @@ pins_of_text ring text =
     if list_all (has_letter (letters_text ring)) text && are_new_and_distinct text []
     then Some (map (has_letter text) (letters_text ring)) else None
 
--- the pins that an item describes; `earlier` has the pins of the wheels before the item's wheel
+-- the pins that an item describes; the list `earlier` has the pins of the wheels before the item's wheel
 abbrev pub pins_for : List (List Bool) → Data → Result (List Bool) SheetFault
 pins_for earlier item = ok_or (from_text (pins_of_text (ring_of (length earlier + 1))) item) (BadValue keys.Pins)
 

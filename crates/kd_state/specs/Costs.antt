@@ -26,7 +26,7 @@ exactly_one a b = if a then not b else b
 abbrev pub one_unless : Bool → ℕ
 one_unless same = if same then 0 else 1
 
--- the letters of a column's pair; none without a pair
+-- the letters of a column's pair; no letters if the column has no pair
 abbrev pub column_letters : Option (ℕ × ℕ) → List ℕ
 column_letters column = option_map_or (λ pair. pair.0 ∷ pair.1 ∷ []) column []
 
@@ -71,8 +71,8 @@ cost_table = by_model [] (λ machine day. costs_by cable_cost machine.cables (co
 
 -- ---- Loose things: all things that differ from the day, except cables and bars.
 
--- the number of loose things: slots, reflector, rings and letters of the day's wheels. On a Converter: pins and shown
--- letters.
+-- the number of loose things, which aren't as the day says. On a rotor machine, these are slots, the reflector, and
+-- rings and letters of the day's wheels. On a Converter, these are pins and shown letters.
 abbrev pub loose_count : Parts → Day → ℕ
 loose_count = by_model 0
     (λ machine day.

@@ -3,7 +3,7 @@
 -- Code: `?` returns the first fault.
 use Rattle.std.specs.Prelude.{Bool, Result, Ok, Err, if◌then◌else◌}
 
--- Applies `next` to the left operand if this is a value; a fault stays as it is.
+-- Applies the function `next` to the left operand if this is a value; a fault stays as it is.
 infixl 10 ◌>>=◌
 abbrev pub ◌>>=◌ : {A B F : Type 0} → Result A F → (A → Result B F) → Result B F
 (Ok x) >>= next = next x

@@ -97,7 +97,7 @@ outcome (Pin machine) (LugTo bar lug place) = do
   Ok (Pin (record machine { bars = slice_set machine.bars (bar - 1) moved }))
 outcome _ _ = Err OtherModel
 
--- The machine carries the setting out, and then is `after`.
+-- The machine carries the setting out, and becomes the machine `after`.
 abbrev pub Carries : Parts → Setting → Parts → Type 0
 Carries machine setting after = outcome machine setting ≡ Ok after
 
@@ -128,8 +128,8 @@ pub record IsFirstIllegal (machine : Parts) (settings : List Setting) (line : �
 
 -- ---- What `carry` answers for machines of one sort. No public contract cites this definition.
 
--- The answer to a setting is right. With success, the machine has carried the setting out. With a reason, it is the
--- first reason to refuse, and the machine is unchanged.
+-- The answer to a setting is right. If the answer is success, the machine has carried the setting out. If the answer is
+-- a reason, it is the first reason to refuse, and the machine is unchanged.
 abbrev pub IsCarryAnswer : Parts → Setting → Parts → Result ⊤ Why → Type 0
 IsCarryAnswer machine setting after answer =
     MatchResult answer (λ _. Carries machine setting after) (λ why. Refuses machine setting why × (after ≡ machine))

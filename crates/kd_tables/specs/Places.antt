@@ -60,7 +60,8 @@ standing_text standing = place_text standing.0 ++ codes "-" ++ place_text standi
 abbrev pub smaller_first : ℕ → ℕ → ℕ × ℕ
 smaller_first a b = (min a b, max a b)
 
--- The two numbers are a reading. Both are from 0 to 6, and the smaller one comes first. They differ, or both are 0.
+-- The two numbers are a reading. Both are from 0 to 6, and the smaller one comes first. The numbers differ, or both are
+-- 0.
 pub record IsReading (numbers : ℕ × ℕ) : Type 0 where
   pub ordered : numbers.0 ≤ numbers.1
   pub within : numbers.1 ≤ 6

@@ -20,7 +20,8 @@ pub enum Refusal {
     Illegal,
     /// A slot is empty, or a cable has exactly one letter.
     NotReady,
-    /// Machine and day have different models. Or a card has prices of bars for an Enigma, or of cables for a Converter.
+    /// Machine and day have different models, or a card's prices are for the other sort of machine. Prices of cables
+    /// are for Enigmas, and prices of bars are for the Converter.
     OtherModel,
     /// A file, a source or a sink failed.
     Device,

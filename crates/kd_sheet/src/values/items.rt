@@ -16,7 +16,7 @@ pub trait FromItem<Given> {
     /// The rule for reading an item. It gives a value or a fault for `Given`, the earlier items' values, and the item.
     ghost parse: { Given → List Self → Data → Result Self SheetFault };
 
-    /// Reads `item`. `earlier` has the values of the items before it.
+    /// Reads `item`. The slice `earlier` has the values of the earlier items.
     fn read_item(given: &Given, earlier: &[Self], item: &Value) -> Result<Self, SheetFault>
         requires { length earlier.now < 27 }
         ensures { result ≡ parse given.now earlier.now (view item.now) };
