@@ -19,7 +19,7 @@ pub record AreWithinCeilings (n : ℕ) (prices ceilings : List ℤ) : Type 0 whe
   pub between : (j : ℕ) → j < n → price_at prices j ≤ℤ price_at ceilings j
   pub high : (j : ℕ) → j < n → price_at ceilings j ≤ℤ pos 4
 
--- Of all columns outside the tree, column `end` has the least room (its ceiling minus its price).
+-- Column `end` has the least room (its ceiling minus its price) of all columns outside the tree.
 pub record IsNearest (n : ℕ) (prices : List ℤ) (reached : List Bool) (ceilings : List ℤ) (end : ℕ) : Type 0 where
   pub within : end < n
   pub outside : has_column reached end ≡ false

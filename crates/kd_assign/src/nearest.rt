@@ -102,7 +102,7 @@ impl<const N: usize> Nearest<N> {
         self.ceiling[column] - i16::from(cost[row][column])
     }
 
-    /// The nearest column: of all columns outside the tree, the one with the least room (its ceiling minus its price).
+    /// The nearest column: the column outside the tree with the least room (its ceiling minus its price).
     pub fn column(
         &self,
         reached: &[bool; N],
@@ -120,10 +120,11 @@ impl<const N: usize> Nearest<N> {
         least.unwrap()
     }
 
-    /// Of two columns, the one with less room (ceiling minus price), or `first` if the tree has `second` already.
+    /// The column with less room (ceiling minus price), `first` or `second`. The result is `first` if the tree has
+    /// `second` already.
     ///
-    /// If both have equal room, `second` wins exactly if it is free, because a free column ends the tree's growth. The
-    /// contract leaves this choice open.
+    /// If both columns have equal room, `second` wins exactly if it is free, because a free column ends the tree's
+    /// growth. The contract leaves this choice open.
     fn nearer(
         &self,
         reached: &[bool; N],

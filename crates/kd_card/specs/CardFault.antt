@@ -115,8 +115,8 @@ IsPriceLineAnswer word number line bytes = do
   Yields (prices, found.2)
 
 -- The result of reading two price lines: both lists of prices and the following bytes, or a fault. Each line has a
--- first word and then `number` prices. The first line is for the rows of the table of costs, the second for its
--- columns.
+-- first word and then `number` prices. The first line is for the rows of the table of costs, and the second line is for
+-- its columns.
 abbrev pub IsListsAnswer : List ℕ → List ℕ → ℕ → ℕ → List ℕ → AnswerRule CardFault (List ℤ × List ℤ × List ℕ)
 IsListsAnswer row_word column_word number line bytes = do
   rows ← IsPriceLineAnswer row_word number line bytes

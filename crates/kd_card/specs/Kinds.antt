@@ -1,4 +1,5 @@
--- Kinds: a kind is one entry for equal cables, columns, bars or rows. It has their count, and the price of each.
+-- Kinds: a kind is one entry for equal cables, columns, bars or rows. A kind has the number of these cables, columns,
+-- bars or rows, and the price of each.
 use Rattle.kd_card.specs.{declared.kinds.CableKind.CableKind, declared.kinds.PairKind.PairKind}
 use Rattle.kd_card.specs.{declared.kinds.BarKind.BarKind, declared.kinds.RowKind.RowKind, declared.kinds.KindOf.KindOf}
 use Rattle.kd_state.specs.{Costs.{column_letters, one_unless}, LineWords.line_of, Machine.cable_letters}
@@ -12,7 +13,7 @@ use Rattle.std.specs.declared.cmp.Ordering.{Ordering, TheVariants.Less}
 
 -- ---- keys: a cable's letters, a column's pair, a bar's standing, a row's reading
 
--- the letters of a cable or a column in the line of its kind, or `-` if there are none
+-- the letters of a cable or a column in the line of its kind, or `-` if there are no letters
 abbrev pub letters_text : List ℕ → List ℕ
 letters_text [] = codes "-"
 letters_text (letter ∷ letters) = tables.letters_text (letter ∷ letters)
@@ -139,7 +140,8 @@ pub record IsGroup {K X : Type 0} (format : KindFormat K X) (number : ℕ) (kind
 abbrev pub expansion : {X : Type 0} → List (KindOf X) → List (X × ℤ)
 expansion kinds = flat_map (λ kind. replicate kind.count (kind.key, kind.price)) kinds
 
--- The kinds have `keys` with `prices`, in some order: each key as often as its kind's count says.
+-- In some order, the kinds have the keys `keys` with the prices `prices`. Each key comes as often as its kind's count
+-- says.
 -- Code: `kinds_of` sorts keys with their prices, and counts equal neighbours. For each key, `prices_of` takes its
 -- kind's price, and lowers the kind's count.
 pub record AreKindsOf {K X : Type 0} (format : KindFormat K X) (keys : List X) (prices : List ℤ) (kinds : List K)

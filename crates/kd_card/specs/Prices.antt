@@ -68,7 +68,7 @@ PricesFitAt costs prices i j =
 abbrev pub PricesFit : List (List ℕ) → PriceParts → Type 0
 PricesFit costs prices = (i j : ℕ) → i < table_size prices → j < table_size prices → PricesFitAt costs prices i j
 
--- the sum of all prices, the machine's and the day's
+-- the sum of all prices of the machine and of the day
 abbrev pub price_sum : PriceParts → ℤ
 price_sum prices = fold (λ sum price. sum +ℤ price) (pos 0) (machine_prices prices ++ day_prices prices)
 

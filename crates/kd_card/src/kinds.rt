@@ -1,4 +1,5 @@
-//! Kinds: a kind is one entry for equal cables, columns, bars or rows. It has their count, and the price of each.
+//! Kinds: a kind is one entry for equal cables, columns, bars or rows. A kind has the number of these cables, columns,
+//! bars or rows, and the price of each.
 ghost use Rattle.std.specs.Prelude.{◌≡◌, ◌≢◌, ◌↔◌, ℕ, ◌+◌, ◌<◌, ◌≤◌, [], ◌∷◌, ◌++◌, length, replicate, None};
 ghost use Rattle.std.specs.Prelude.{IsTrue, MatchOption};
 ghost use Rattle.arrayvec.specs.ArrayVec.{array_vec_len};

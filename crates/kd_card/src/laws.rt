@@ -57,7 +57,7 @@ pub fn proving_cards_are_shortest()
 
 /// If prices by kind show that a list of settings is shortest, no shorter list reaches the day.
 ///
-/// Prices show it if they fit, and if their sum plus the number of loose things is the number of settings.
+/// Prices show this if they fit, and if their sum plus the number of loose things is the number of settings.
 pub fn shown_lists_are_shortest()
     ensures { ShownListsAreShortest }
 {}

@@ -1,5 +1,6 @@
--- The cipher of the Converter M-209. It reverses each letter (A becomes Z), and moves it on by the number of bars that
--- the wheels meet. Wheels are numbered from 1 to 6. Letters of a text and places of a wheel are counted from 0.
+-- The cipher of the Converter M-209. The cipher reverses each letter (A becomes Z), and moves the result on by the
+-- number of bars that the wheels meet. Wheels are numbered from 1 to 6. Letters of a text and places of a wheel are
+-- counted from 0.
 -- Source: War Department TM 11-380.
 -- Code: `Converter` turns its wheels at each letter. A table says for each of the 64 sets of wheels how many bars they
 -- meet.

@@ -20,7 +20,7 @@ pub record IsWheel (size : ℕ) (wheel : TurnedWheel) : Type 0 where
   pub offset : wheel.offset < size
   pub place : wheel.place < size
 
--- the place that is `by` places past `place`, counted around the wheel
+-- `place`, moved on around the wheel; `by` is the number of places
 abbrev pub place_past : ℕ → ℕ → ℕ → ℕ
 place_past size place by = (place + by) % size
 

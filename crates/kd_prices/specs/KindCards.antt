@@ -1,4 +1,4 @@
--- When a card with prices by number becomes a card with prices by kind, and how. Prices are *by number* if each cable,
+-- When and how a card with prices by number becomes a card with prices by kind. Prices are *by number* if each cable,
 -- pair, bar or row has its own price.
 use Rattle.std.specs.Prelude.{◌≡◌}
 use Rattle.kd_state.specs.{Machine.model_of, SheetDay.{Day, day_model}, declared.machine.parts.Parts.Parts}

@@ -30,7 +30,7 @@ one_unless same = if same then 0 else 1
 abbrev pub column_letters : Option (ℕ × ℕ) → List ℕ
 column_letters column = option_map_or (λ pair. pair.0 ∷ pair.1 ∷ []) column []
 
--- the cost of a cable and a column: the number of letters that only one of them has
+-- the cost of a cable and a column: the number of letters that only the cable or only the column's pair has
 abbrev pub cable_cost : Option ℕ × Option ℕ → Option (ℕ × ℕ) → ℕ
 cable_cost cable column =
     count_by (λ l. exactly_one (has_letter (cable_letters cable) l) (has_letter (column_letters column) l)) alphabet

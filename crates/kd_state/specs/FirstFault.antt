@@ -9,7 +9,7 @@ abbrev pub ◌>>=◌ : {A B F : Type 0} → Result A F → (A → Result B F) �
 (Ok x) >>= next = next x
 (Err fault) >>= next = Err fault
 
--- `next` if `test` is `Ok`; otherwise the fault of `test`.
+-- The right operand if the left operand `test` is `Ok`, otherwise the fault of `test`.
 infixl 10 ◌>>◌
 abbrev pub ◌>>◌ : {B F : Type 0} → Result (Unit {0}) F → Result B F → Result B F
 test >> next = test >>= (λ _. next)

@@ -24,7 +24,8 @@ abbrev pub cables_of : List (ℕ × ℕ) → List (Option ℕ × Option ℕ)
 cables_of pairs =
     map (λ pair. cable_in_order (Some pair.0) (Some pair.1)) pairs ++ replicate (13 - length pairs) (None, None)
 
--- The machine has the day's model, its reflector, its wheels with their rings, and the day's cables in any order.
+-- The machine has the day's model, the day's reflector, the day's wheels with their rings, and the day's cables in any
+-- order.
 pub record IsRotorOnKey (machine : RotorParts) (day : RotorDay) : Type 0 where
   pub model : machine.model ≡ day.model
   pub slots : machine.slots ≡ seats_of_wheels day.wheels

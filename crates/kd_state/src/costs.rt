@@ -110,7 +110,7 @@ fn place_of_pin_wheel(number: u8) -> Place
     }
 }
 
-/// How many of the two lugs are at different places in `standing` and in `other`.
+/// The number of lugs, 0 to 2, whose places differ between the standings `standing` and `other`.
 fn lugs_moved(standing: Standing, other: Standing) -> u8
     ensures value { result ≡ costs.lugs_moved standing other }
     ensures bound { result ≤ 2 }

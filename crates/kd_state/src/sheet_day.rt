@@ -75,9 +75,9 @@ impl SheetDay {
 
     /// Creates a day of the Converter M-209.
     ///
-    /// `rows` are the readings that the bars must have, and `pins` the effective pins. `window` has the letter
-    /// that each wheel shows, and `list` the two letters that name the key list. `None` if `day` isn't from 1
-    /// to 31, or a letter of `window` isn't on its wheel.
+    /// `rows` are the readings that the bars must have, and `pins` are the effective pins. `window` has the letter that
+    /// each wheel shows, and `list` has the two letters that name the key list. `None` if `day` isn't from 1 to 31, or
+    /// a letter of `window` isn't on its wheel.
     pub fn pin(
         day: u8,
         rows: [Reading; 27],

@@ -49,13 +49,13 @@ LeadsInSteps wheels first zero last = last ≡ first
 LeadsInSteps wheels first (suc n) last =
     (between : List ℕ) × LeadsInSteps wheels first n between × IsStep wheels between last
 
--- the window to which one step leads
+-- the window after one step from this window
 abbrev pub next_window : List Wheel → List ℕ → List ℕ
 next_window wheels window =
     if stands_at_notch wheels window 1 then with_last_moved 3 window
     else (if stands_at_notch wheels window 0 then with_last_moved 2 window else with_last_moved 1 window)
 
--- the window to which `n` steps lead
+-- the window after `n` steps from this window
 abbrev pub window_after : List Wheel → List ℕ → ℕ → List ℕ
 window_after wheels window zero = window
 window_after wheels window (suc n) = next_window wheels (window_after wheels window n)

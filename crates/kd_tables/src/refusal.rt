@@ -77,7 +77,7 @@ pub enum Refusal {
     PartKeys,
     /// A letter that a message gives for a pin wheel (an external letter) isn't on this wheel.
     KeyNotOnWheel,
-    /// A part's group is none of the day's groups. On the Converter: the part's two list letters aren't the day's.
+    /// A part's group is none of the day's groups; or, on the Converter, a part's two list letters aren't the day's.
     WrongGroup,
     /// The twelve letters enciphered for a part's internal key don't give each pin wheel a letter.
     IndicatorSpent,
