@@ -15,7 +15,7 @@ use std::convert::AsStr;
 /// A command of the desk, with its files or their names.
 ///
 /// `F` stands for a file that is read whole, and `O` for an order or a form, which is streamed. In a parsed command,
-/// `F` and `O` are file names. When a command is carried out, `F` is the file's contents, and `O` the opened file.
+/// `F` and `O` are file names. When a command is carried out, `F` is the file's contents, and `O` is the opened file.
 #[derive(Drop)]
 pub struct Command<F, O> {
     /// The machine file.

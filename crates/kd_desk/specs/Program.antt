@@ -33,8 +33,8 @@ use Rattle.kd_desk.specs.RunCard.{IsChosenCard, Prints}
 use Rattle.kd_desk.specs.RunCheck.{Checks}
 use Rattle.kd_desk.specs.CallAnswers.{LacksMemory, AnswersFault, is_refused_before_message, is_device}
 
--- A task whose files have been read or opened. A file that is read whole is given by its bytes, an opened file by a
--- `KnownFile`.
+-- A task whose files have been read or opened. A file that is read whole is given by its bytes, and an opened file is
+-- given by a `KnownFile`.
 abbrev pub KnownTask : Type 0
 KnownTask = Task (List ℕ) KnownFile
 

@@ -59,7 +59,7 @@ text_of_body letters = slice_range letters 10 (length letters - 10)
 -- first that fails gives the fault:
 -- - `HasIndicatorsAround` holds for the indicators before and after the text.
 -- - Each external letter is on its wheel.
--- - The list letters are the day's.
+-- - The list letters are the day's list letters.
 -- - There is an internal key.
 abbrev pub IsPinAnswer : Day → ℕ → List ℕ → AnswerRule FormFault (List ℕ)
 IsPinAnswer s part letters = do

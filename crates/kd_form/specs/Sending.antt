@@ -16,7 +16,7 @@ use Rattle.kd_form.specs.Order.{IsOrder, IsOrderHeadFault}
 -- ---- The letters that an order's text gives, and how many parts they need.
 -- Test: tests/cases/desk-messages.toml
 
--- the letter that is sent for a space: Z on the Converter M-209, none on a rotor machine
+-- the letter that is sent for a space: Z on the Converter M-209, no letter on a rotor machine
 abbrev pub space_letter : Day → Option ℕ
 space_letter (Rotor s) = None
 space_letter (Pin s) = Some 25
@@ -90,7 +90,8 @@ IsHeadAnswer s order = do
   _ ← InTurn (IsKeysAnswer s) 1 parts.keys
   Yields parts
 
--- The result of reading the bytes of an order. Its head must be right, and each byte of its text must be allowed.
+-- The result of reading the bytes of an order. The order's head must be right, and each byte of the order's text must
+-- be allowed.
 abbrev pub IsReadAnswer : Day → List ℕ → AnswerRule FormFault OrderParts
 IsReadAnswer s order = do
   parts ← IsHeadAnswer s order

@@ -55,6 +55,6 @@ read_array key fits parse value = do
 
 -- ---- What inner functions answer. No public contract cites this definition.
 
--- `answer` with `view` applied to its value; a fault stays as it is
+-- the result `answer`, with the function `view` applied to its value; a fault stays as it is
 abbrev pub result_map : {A B : Type 0} → (A → B) → Result A SheetFault → Result B SheetFault
 result_map view answer = result_map_both view (λ fault. fault) answer

@@ -1,4 +1,4 @@
-//! Makes one part of a form from the part's keys and its piece of the text.
+//! Makes one part of a form from the part's keys and the part's piece of the text.
 ghost use Rattle.std.specs.Prelude.{◌≡◌, ◌≤◌, ℕ, List, length, Ok};
 ghost use Rattle.kd_state.specs.EngineKey.{IsWindow};
 ghost use Rattle.kd_state.specs.OwnKeys.{sheet_key};
