@@ -17,7 +17,8 @@ IsLineWithEnd line bytes = (bytes ≡ line ++ 10 ∷ []) ⊎ (bytes ≡ line ++ 
 abbrev pub IsKeyLine : Keys → List ℕ → Type 0
 IsKeyLine keys bytes = IsLineWithEnd (line_of (key_words keys)) bytes
 
--- `bytes` begin with a line for each of `keys`, all for the day's model. The bytes after these lines satisfy `Holds`.
+-- `bytes` begin with a line of keys for each of `keys`, and all keys are for the day's model. The bytes after these
+-- lines satisfy `Holds`.
 abbrev pub BeginsWithKeys : Day → List Keys → (List ℕ → Type 0) → List ℕ → Type 0
 BeginsWithKeys s [] Holds bytes = Holds bytes
 BeginsWithKeys s (keys ∷ more) Holds bytes =

@@ -10,8 +10,8 @@ use Rattle.kd_form.specs.declared.stream.interruption.Interruption.{Interruption
 use Rattle.kd_form.specs.declared.stream.interruption.Interruption.TheVariants.{Device, Refused}
 use Rattle.kd_form.specs.Streams.{Message, IsOpen, IsMessageAnswer, FallsShort}
 
--- The reader has read `bytes`, and its output is `text`. So far the bytes have no fault, and the reader's state
--- satisfies `holds`.
+-- The reader has read `bytes`, and the reader's output is `text`. So far the bytes have no fault, and the reader's
+-- state satisfies `holds`.
 pub record HasReadSoFar (m : Message) (holds : List ℕ → List ℕ → Type 0) (bytes text : List ℕ) : Type 0 where
   pub is : holds bytes text
   pub open_yet : IsOpen m bytes text

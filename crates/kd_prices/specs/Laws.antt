@@ -24,7 +24,7 @@ OneDoubt =
     → IsDoubt machine day settings prices doubt → IsDoubt machine day settings prices other
     → doubt ≡ other
 
--- There are `number` settings, they lead the machine to the day, and no shorter list does.
+-- The list `settings` has `number` settings, and leads the machine to the day. No shorter list leads to the day.
 pub record AreShortest (machine : Parts) (day : Day) (settings : List Setting) (number : ℕ) : Type 0 where
   pub leads : LeadsToTheDay machine day settings
   pub shortest : IsShortest machine day settings

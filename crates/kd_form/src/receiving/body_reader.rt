@@ -23,7 +23,7 @@ use kd_tables::Letter;
 /// of the next heading.
 const KEPT_LETTERS: usize = 525;
 
-/// The number of letters of the next heading line that are kept with a body's letters: those of `PART`.
+/// The number of letters of the next heading line that are kept with a body's letters: the four letters of `PART`.
 pub(crate) const HEADING_LETTERS: usize = 4;
 
 /// The number of bytes of a line that are kept: enough to see whether the line is a heading line.
