@@ -27,7 +27,7 @@ FittingPricesBoundLists =
     → (pos (loose_count machine day) +ℤ price_sum prices) ≤ℤ pos (length settings)
 
 -- A setting is unpriced if it changes no cable and no bar. Suppose that a list reaches the day, and has no more
--- unpriced settings than there are loose things. Then all its unpriced settings are needed.
+-- unpriced settings than there are loose things. Then all unpriced settings of the list are needed.
 abbrev pub AsFewAreNeeded : Type 0
 AsFewAreNeeded =
     (machine : Parts) (day : Day) (settings : List Setting) → IsLegalDay day → model_of machine ≡ day_model day

@@ -61,7 +61,7 @@ pub data Expands (machine : Parts) (day : Day) (prices numbered : PriceParts) : 
 -- ---- the card proves itself
 
 -- A card with prices by number proves itself. Its settings lead the machine to the day, and each of them is needed. Its
--- prices fit the table of costs. Their sum is the number of settings that change a cable or a bar.
+-- prices fit the table of costs. The sum of the prices is the number of settings that change a cable or a bar.
 pub record ProvesByNumber (machine : Parts) (day : Day) (settings : List Setting) (prices : PriceParts) : Type 0 where
   pub model : model_of machine ≡ day_model day
   pub kind : AreModelPrices machine prices

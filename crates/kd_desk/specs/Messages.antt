@@ -45,7 +45,7 @@ IsStreamedOn m s message source sink answer = IsAnswered (StreamsOnKey m s messa
 abbrev pub Sends : Parts → Day → Port → Port → Result (Unit {0}) DeskFault → Type 0
 Sends m s order sink answer = IsStreamedOn m s (order_message s) order sink answer
 
--- How the forms and the orders of day `s` agree. If a form is made from an order, its text is the text that the
+-- How the forms and the orders of day `s` agree. If a form is made from an order, the form's text is the text that the
 -- receiver must get. A form with a fault is made from no order. If no further bytes can change the fault, no order's
 -- form begins with the faulty form.
 pub record FormsAgreeWithOrders (s : Day) : Type 0 where

@@ -176,7 +176,7 @@ impl Converter {
     }
 }
 
-/// Reverses `letter` (A becomes Z, B becomes Y), and moves it on by `met` places, with A after Z.
+/// Reverses `letter` (A becomes Z, B becomes Y), and moves the reversed letter on by `met` places, with A after Z.
 fn reversed_letter(met: u8, letter: Letter) -> Letter
     requires { met ≤ 27 }
     ensures { result ≡ (25 + met - letter) % 26 }

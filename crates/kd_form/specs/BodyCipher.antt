@@ -72,8 +72,8 @@ IsPinAnswer s part letters = do
 -- ---- The letters of a body for either kind of machine.
 -- Test: tests/cases/desk-messages.toml
 
--- The indicator is valid for the day's model. On a rotor machine, its ground setting and its enciphered key have a
--- letter for each slot. On the Converter M-209, there is no indicator.
+-- The indicator is valid for the day's model. On a rotor machine, the indicator's ground setting and enciphered key
+-- have a letter for each slot. On the Converter M-209, there is no indicator.
 abbrev pub HasIndicator : Day → Option Indicator → Type 0
 HasIndicator (Rotor s) (Some i) = AreLetters (length s.wheels) i.ground_setting
     × AreLetters (length s.wheels) i.enciphered_key

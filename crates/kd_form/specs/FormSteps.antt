@@ -87,8 +87,8 @@ abbrev pub IsBodyPlaintext : Day → Heading → List ℕ → List ℕ → Type 
 IsBodyPlaintext s h letters made = (text : List ℕ) × IsBodyAnswer s h.part h letters (Ok text)
     × (made ≡ plaintext_bytes s text)
 
--- The body that `b` holds is deciphered to `output`, or refused. Its last letters are left out; `others` is their
--- number.
+-- The body that `b` holds is deciphered to `output`, or refused. The body's last letters are left out; `others` is
+-- their number.
 abbrev pub IsDecipherAnswer : Day → PartBody → ℕ → List ℕ → Result (Unit {0}) FormFault → Type 0
 IsDecipherAnswer s b others output answer =
     (letters more : List ℕ) → length more ≡ others → b.letters.items ≡ take 525 (letters ++ more)
@@ -120,8 +120,8 @@ current_part_start r front = record { number = r.number; expected = r.expected; 
 abbrev pub IsAtPartStart : PartStart → PartsProperty
 IsAtPartStart q p parts = (p ≡ q) × (parts ≡ [])
 
--- The reader `r` has read `form`. Its output is `text`, the texts of all parts but the last, and it holds the last
--- part. Further bytes don't change the earlier parts.
+-- The reader `r` has read `form`. The reader's output is `text`, the texts of all parts but the last, and the reader
+-- holds the last part. Further bytes don't change the earlier parts.
 pub record HoldsForm (s : Day) (r : FormReader) (form text : List ℕ) : Type 0 where
   pub front : List ℕ
   pub last : List ℕ

@@ -82,7 +82,7 @@ HoldsOrderStage s stages.Head h w order sent = IsHeadBegun s h.keys.items h.line
     × IsFreshWriter w
 HoldsOrderStage s stages.Text h w order sent = HoldsOrderText s h.keys.items w order sent
 
--- The reader `r` has read the bytes `order`, and the bytes `sent` are its output for them.
+-- The reader `r` has read the bytes `order`, and the bytes `sent` are the reader's output for these bytes.
 pub record HoldsOrder (s : Day) (r : OrderReader) (order sent : List ℕ) : Type 0 where
   pub counted : r.read ≡ length order
   pub stage : HoldsOrderStage s r.stage r.head r.writer order sent

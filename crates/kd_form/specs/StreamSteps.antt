@@ -29,8 +29,8 @@ pub record HasFaultForGood (m : Message) (bytes text : List ℕ) (fault : FormFa
   pub refused : (more : List ℕ) → m.refused (bytes ++ more) fault
   pub written : (more : List ℕ) → m.written_before (Some fault) (bytes ++ more) text
 
--- The reader reads `byte`. If `byte` causes no fault, the reader outputs `made`, and its state changes from `old` to
--- `new`. Otherwise the message is refused, whatever bytes follow.
+-- The reader reads `byte`. If `byte` causes no fault, the reader outputs `made`, and the reader's state changes from
+-- `old` to `new`. Otherwise the message is refused, whatever bytes follow.
 abbrev pub IsFeedAnswer : Message → (List ℕ → List ℕ → Type 0) → (List ℕ → List ℕ → Type 0) → ℕ → List ℕ
     → Result (Unit {0}) FormFault → Type 0
 IsFeedAnswer m old new byte made answer =
@@ -70,15 +70,15 @@ HasBeenFed m new bytes text (Ok _) = HasReadSoFar m new bytes text
 HasBeenFed m new bytes text (Err (Refused fault)) = HasFaultForGood m bytes text fault
 HasBeenFed m new bytes text (Err Device) = IsPrefixOfDue m bytes text
 
--- The reader has read more bytes, and its output for them was written.
+-- The reader has read more bytes, and the reader's output for these bytes was written.
 pub record IsFed (m : Message) (new : List ℕ → List ℕ → Type 0) (bytes text : List ℕ) (sink : Port)
     (answer : Result (Unit {0}) Interruption) : Type 0 where
   pub made : List ℕ
   pub written : Appends sink.had sink.has made
   pub fed : HasBeenFed m new bytes (text ++ made) answer
 
--- The reader's state satisfies the condition `old`. The reader reads the bytes `more`, and its output is written to the
--- sink.
+-- The reader's state satisfies the condition `old`. The reader reads the bytes `more`, and the reader's output is
+-- written to the sink.
 abbrev pub IsFeedAllAnswer : Message → (List ℕ → List ℕ → Type 0) → (List ℕ → List ℕ → Type 0) → List ℕ → Port
     → Result (Unit {0}) Interruption → Type 0
 IsFeedAllAnswer m old new more sink answer =

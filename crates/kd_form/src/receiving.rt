@@ -1,4 +1,4 @@
-//! Receives a form: `receive` returns its text, and `receive_stream` writes it to a sink.
+//! Receives a form: `receive` returns the form's text, and `receive_stream` writes this text to a sink.
 //!
 //! A form is an enciphered message. Each of its parts has a heading line, and a body of letters in groups of five.
 ghost use Rattle.std.specs.Prelude.{◌≡◌, ℕ, List, IsTrue};

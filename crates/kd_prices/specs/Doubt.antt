@@ -43,13 +43,13 @@ pub record IsFirstNeedless (machine : Parts) (day : Day) (settings : List Settin
   pub needed : AreSettingsNeeded machine day front
   pub needless : ¬ (IsSettingNeeded between day setting)
 
--- The result of carrying out the settings: the machine after them, or the first refused line and the reason.
+-- The result of carrying out the settings: the machine after the settings, or the first refused line and the reason.
 abbrev pub IsCarriedAnswer : Parts → List Setting → AnswerRule Doubt Parts
 IsCarriedAnswer machine settings (Ok after) = Leads machine settings after
 IsCarriedAnswer machine settings (Err (IllegalAt line why)) = IsFirstIllegal machine settings line why
 IsCarriedAnswer machine settings (Err doubt) = ⊥
 
--- The result of comparing the prices with the table of costs: success, or the first cell where they don't fit.
+-- The result of comparing the prices with the table of costs: success, or the first cell where the prices don't fit.
 abbrev pub IsFitsAnswer : List (List ℕ) → PriceParts → AnswerRule Doubt (Unit {0})
 IsFitsAnswer costs prices (Ok fits) = PricesFit costs prices
 IsFitsAnswer costs prices (Err (PriceTooHigh i j)) =

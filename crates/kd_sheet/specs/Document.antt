@@ -45,7 +45,7 @@ items_list (item first rest) = first ∷ items_list rest
 abbrev pub as_items : Data → Option (List Data)
 as_items value = option_map items_list (as_array value)
 
--- the values that `parse` gives for the items of the array `value`; their number must pass the test `fits`
+-- the values that `parse` gives for the items of the array `value`; the number of items must pass the test `fits`
 abbrev pub read_array : {A : Type 0} → Key → (ℕ → Bool) → (List A → Data → Result A SheetFault) → Data
     → Result (List A) SheetFault
 read_array key fits parse value = do

@@ -11,9 +11,9 @@ use std::marker::Model;
 pub struct Stepper<const S: usize> {
     wheels: [Wheel; S],
     window: [Letter; S],
-    /// Whether the middle wheel is at a notch, for each letter that it can show.
+    /// Whether the middle wheel is at a notch, for each letter that the wheel can show.
     middle: [bool; 26],
-    /// Whether the right wheel is at a notch, for each letter that it can show.
+    /// Whether the right wheel is at a notch, for each letter that the wheel can show.
     right: [bool; 26],
 }
 

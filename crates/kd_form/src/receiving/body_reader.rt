@@ -72,7 +72,7 @@ impl PartBody {
         keep_byte(&mut self.line, byte);
     }
 
-    /// Deciphers the body into `output`, but leaves out its last letters; `others` is their number.
+    /// Deciphers the body into `output`, but leaves out the body's last letters; `others` is their number.
     ///
     /// These last letters belong to the next heading. Not inlined: otherwise every byte read would pay for this
     /// function's stack frame.

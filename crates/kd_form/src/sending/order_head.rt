@@ -11,7 +11,7 @@ use crate::keys::Keys;
 use arrayvec::ArrayVec;
 use kd_state::SheetDay;
 
-/// The greatest number of bytes that a line of a head can have, its line end included.
+/// A number of bytes that is enough for any line of a head, its line end included.
 const LONGEST_LINE: usize = 25;
 
 /// A reader of an order's head: the lines of keys and the line TEXT.

@@ -21,7 +21,7 @@ pub(crate) enum PatternFault {
     Mismatch,
 }
 
-/// Reads `bytes` as a line that fits `pattern`, and its line end; returns the letter at each `_`.
+/// Reads `bytes` as a line that fits `pattern`, followed by a line end; returns the letter at each `_`.
 pub(crate) fn read_pattern(
     pattern: &[u8],
     bytes: &[u8],
@@ -36,7 +36,7 @@ pub(crate) fn read_pattern(
     Ok(letters)
 }
 
-/// Reads `bytes` as a line that fits `pattern`, and its line end; appends the letter at each `_`.
+/// Reads `bytes` as a line that fits `pattern`, followed by a line end; appends the letter at each `_`.
 #[tactic(auto, using(crate::proofs::Lines::pattern_marks))]
 fn read_pattern_letters(
     pattern: &[u8],

@@ -16,7 +16,8 @@ use kd_pins::PinSet;
 use kd_tables::{Letter, Ring, place_on_wheel, ring1, ring2, ring3, ring4, ring5, ring6};
 use toml::{Table, Value};
 
-/// Whether each of `letters` is on its wheel: the first on wheel `wheel`, the second on the next, and so on.
+/// Whether each of `letters` is on its wheel: the first letter on wheel `wheel`, the second letter on the next wheel,
+/// and so on.
 #[tactic(auto, using(kd_state::proofs::Slots::on_wheels))]
 fn are_on_wheels(wheel: u8, letters: &[Letter]) -> bool
     requires { wheel + length letters.now < 256 }

@@ -1,6 +1,6 @@
 //! Carries settings out on a rotor machine.
 //!
-//! A setting that is refused changes nothing. The error is the first reason to refuse it.
+//! A setting that is refused changes nothing. The error is the first reason to refuse the setting.
 ghost use Rattle.kd_state.specs.Machine.{AreLegalRotorParts};
 ghost use Rattle.kd_state.specs.Setting.{IsCarryAnswer};
 
