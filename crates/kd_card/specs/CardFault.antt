@@ -84,7 +84,7 @@ IsSettingsAnswer bytes (Err fault) =
 
 -- ---- prices by number: two lines
 
--- the first word of the first price line: `CABLES` or `BARS` in version 1, `CABLE` or `BAR` in version 2
+-- the first word of the first price line: `CABLES` or `BARS` in version 1, and `CABLE` or `BAR` in version 2
 abbrev pub first_text : Version → CostTable → List ℕ
 first_text ByNumber Cables = codes "CABLES"
 first_text ByNumber Bars = codes "BARS"

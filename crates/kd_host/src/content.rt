@@ -29,7 +29,7 @@ impl Model for Content {
 }
 
 impl Content {
-    /// Wraps `bytes`; returns `ReadTooLong` if they are more than `READ_LIMIT`.
+    /// Wraps `bytes`; returns `ReadTooLong` if there are more than `READ_LIMIT` bytes.
     pub fn new(bytes: Vec<u8>) -> Result<Self, FileFault>
         ensures { result ≡ content_of (Some bytes.items) }
     {

@@ -1,5 +1,5 @@
 -- How standings are read from a machine file, and readings from a key sheet. A bar's standing has the places of its two
--- lugs. A bar's reading has the numbers of the wheels at these places, 0 without a wheel.
+-- lugs. A bar's reading has the numbers of the wheels at these places; the number is 0 at a place without a wheel.
 -- Test: tests/cases/desk-files.toml
 use Rattle.std.specs.Prelude.{ℕ, nat_eq, ◌+◌, ◌-◌, ◌==◌, ◌&&◌, ◌||◌, nat_le, not, List, [], ◌∷◌, length, Option}
 use Rattle.std.specs.Prelude.{Some, None, Result, ok_or, if◌then◌else◌}

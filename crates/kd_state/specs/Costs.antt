@@ -44,7 +44,7 @@ unfoldable pub standings_as : ℕ × ℕ → List (Place × Place)
 standings_as row =
     filter (λ bar. let reading = reading_of bar in nat_eq reading.0 row.0 && nat_eq reading.1 row.1) standings
 
--- The cost of making a bar read as this row: the least number of lugs to move, at most 2.
+-- The cost of giving a bar the reading of this row: the least number of lugs to move, at most 2.
 abbrev pub bar_cost : Place × Place → ℕ × ℕ → ℕ
 bar_cost standing row = fold min 2 (map (lugs_moved standing) (standings_as row))
 

@@ -1,4 +1,4 @@
-//! Costs: the fewest settings that give a cable a day's pair, or make a bar read as a row.
+//! Costs: the fewest settings that give a cable a day's pair, or give a bar the reading of a row.
 
 pub(crate) mod tables;
 
@@ -39,7 +39,7 @@ pub fn lies_in_column(column: Option<(Letter, Letter)>, letter: Letter) -> bool
     }
 }
 
-/// The cost of making a bar at `standing` read as `row`: the least number of lugs to move.
+/// The cost of giving a bar at `standing` the reading `row`: the least number of lugs to move.
 pub fn bar_cost(standing: Standing, row: Reading) -> u8
     ensures cost { result ≡ costs.bar_cost standing row }
     ensures bound { result ≤ 2 }

@@ -239,7 +239,7 @@ impl SheetDay {
         }
     }
 
-    /// The day's values: a `RotorEntry` for a rotor machine, a `PinEntry` for a Converter M-209.
+    /// The day's values: a `RotorEntry` for a rotor machine, or a `PinEntry` for a Converter M-209.
     pub fn entry(&self) -> &Entry
         ensures value { values_of result.now ≡ self.now }
         ensures legal { IsLegalDay self.now }

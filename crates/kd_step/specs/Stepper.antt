@@ -24,7 +24,7 @@ stands_at_notch wheels window from_right =
     let index = length window - (from_right + 1) in
     option_map_or (λ wheel. is_notch wheel (slice_index window index)) (slice_get wheels index) false
 
--- `window`, with each of its last `count` letters moved on by one place in the alphabet
+-- `window`, with each of its last `count` letters moved on by one place in the alphabet, with A after Z
 abbrev pub with_last_moved : ℕ → List ℕ → List ℕ
 with_last_moved count window = take (length window - count) window
     ++ map next_letter (drop (length window - count) window)

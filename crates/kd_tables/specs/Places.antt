@@ -7,7 +7,7 @@ use Rattle.kd_tables.specs.declared.place.Place.TheVariants.{One, ZeroLeft, Two,
 use Rattle.kd_tables.specs.declared.lug.Lug.{Lug}
 use Rattle.kd_tables.specs.declared.lug.Lug.TheVariants as lugs
 
--- for each place: its name, the number of places to its left, and its pin wheel's number (0 without a wheel)
+-- for each place: its name, the number of places to its left, and its pin wheel's number (0 if no wheel acts there)
 abbrev pub place_table : Place → List ℕ × ℕ × ℕ
 place_table One = (codes "1", 0, 1)
 place_table ZeroLeft = (codes "0L", 1, 0)

@@ -73,7 +73,7 @@ impl Standing {
         self.right
     }
 
-    /// The bar's reading: the numbers of the pin wheels at its two lugs, 0 at a place without a wheel.
+    /// The bar's reading: the numbers of the pin wheels at its two lugs. The number is 0 at a place without a wheel.
     pub fn reading(self) -> Reading
         ensures { result ≡ reading_of self }
     {

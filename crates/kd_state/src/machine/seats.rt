@@ -81,8 +81,7 @@ fn is_alone(slots: &[Option<Wheel>], place: usize, seated: Option<Wheel>) -> boo
     true
 }
 
-/// What a slot with the content `seated` holds after `wheel` is taken out: nothing if `seated` is `wheel`, else
-/// `seated`.
+/// The content of a slot after `wheel` is taken out: nothing if the old content `seated` is `wheel`, else `seated`.
 pub(crate) fn seat_without(seated: Option<Wheel>, wheel: Wheel) -> Option<Wheel>
     ensures { result ≡ seat_without wheel seated }
 {
