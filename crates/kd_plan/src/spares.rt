@@ -1,4 +1,4 @@
-//! Assigns pairs to cables in use first. Only the remaining pairs go to spare cables, which have no letter.
+//! Assigns pairs first to cables in use. Only the remaining pairs go to spare cables, which have no letter.
 ghost use Rattle.std.specs.Prelude.{◌≡◌, ℕ, ◌<◌, ◌≤◌, length, slice_index, IsTrue, MatchOption};
 ghost use Rattle.kd_assign.specs.Assignment.{IsOneToOne, assignment_cost};
 ghost use Rattle.kd_plan.specs.Spares.{is_spare, comes_before, SparesComeLast};
