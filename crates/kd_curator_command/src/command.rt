@@ -39,40 +39,40 @@ const NO_LANGUAGE: &str = "--in takes de or en";
 /// The text of the error for an argument that names no days.
 const NO_DAYS: &str = "days are numbers from 1 to 31, each once, such as 2, 1-31 or 1,4,2";
 
-/// A command, with its files or their names, and with the texts of its options.
+/// A command, with the names of its files and the texts of its options.
 #[derive(Drop)]
-pub enum Command<F, T> {
+pub enum Command<T> {
     /// Writes how a machine is set to days of a key sheet.
     OnMachine {
         /// The machine file.
-        machine: F,
+        machine: T,
         /// The key sheet.
-        sheet: F,
+        sheet: T,
         /// What is written.
         task: Task,
     },
     /// Writes how a message is worked by hand.
     Message {
         /// The machine file.
-        machine: F,
+        machine: T,
         /// The key sheet.
-        sheet: F,
+        sheet: T,
         /// The order or the form.
-        message: F,
+        message: T,
         /// What is written.
         task: MessageTask,
     },
     /// Writes a page on which a machine is typed on.
     TypingPage {
         /// The machine file.
-        machine: F,
+        machine: T,
         /// The language of the page, if the words say it.
         language: Option<Language>,
     },
     /// Writes a key sheet as printed tables.
     Table {
         /// The key sheet.
-        sheet: F,
+        sheet: T,
         /// The form in which it is written.
         form: TableForm,
         /// The language of the tables, if the words say it.
@@ -81,16 +81,13 @@ pub enum Command<F, T> {
     /// Makes a key sheet of a spreadsheet's table.
     Sheet {
         /// The table.
-        table: F,
+        table: T,
         /// What is used where the table says nothing.
         options: TableOptions<T>,
     },
     /// Says in words what machine files and key sheets say, or what is wrong with them.
     Look {
-        /// The files' names.
-        names: UpToThree<T>,
-        /// The files.
-        files: UpToThree<F>,
+        files: UpToThree<T>,
     },
     /// Writes a key sheet to fill in.
     EmptySheet {
@@ -133,8 +130,8 @@ pub enum MessageKind {
     Form,
 }
 
-/// A command with the names of its files, before any file is read.
-pub type NamedCommand<'a> = Command<&'a str, &'a str>;
+/// A command with borrowed texts.
+pub type NamedCommand<'a> = Command<&'a str>;
 
 /// What a command line means.
 #[derive(Drop)]
@@ -397,11 +394,6 @@ fn look_of<'a>(words: &ArgMatches<'a>) -> Option<NamedCommand<'a>>
     let second = words.get_str("FILE2");
     let third = words.get_str("FILE3");
     Some(Command::Look {
-        names: UpToThree {
-            first,
-            second,
-            third,
-        },
         files: UpToThree {
             first,
             second,
