@@ -126,11 +126,21 @@ label{padding-top:.08em;padding-bottom:.08em}
 .drum code{font-size:.6em}
 .wheels svg{width:100mm}
 .beside figure{flex-basis:54%}
+[id^=day]>section:nth-of-type(1) ul,[id^=day]>section:nth-of-type(5) ul{columns:2;column-gap:.5em}
+[id^=day]>section:nth-of-type(5) li code{font-size:.6em;margin-left:.2em}
+article:has(.idle){font-size:10.5pt}
+article:has(.idle) h2:not(.idle){margin-top:.25em;padding-top:.15em}
+article:has(.idle) .wheels svg{width:78mm}
+article:has(.idle) .beside figure{flex-basis:41%}
+article:has(.idle) .plugs label{padding:0}
+article:has(>section:first-of-type>.idle)>.wheels{float:left;margin-right:4mm}
+.wheels~section:nth-of-type(-n+2){display:flow-root}
+.wheels~section:nth-of-type(3){clear:left}
 article+article{page-break-before:always;break-before:page}
 h2{page-break-after:avoid;break-after:avoid}
 [id^=day]>section:last-child,figure,tr,li,pre,.beside,.pins tbody,.drum{page-break-inside:avoid;break-inside:avoid}
 }
-@page{margin:10mm 12mm}
+@page{margin:9mm 12mm}
 ";
 
 /// What the style sheets of key tables and of messages have beyond that of a day's page.
