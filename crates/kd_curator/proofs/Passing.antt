@@ -73,11 +73,12 @@ module _ (one other : Port) (before : one.had ≡ other.had) (after : Keeps one.
   list_kept month m number answer (Settings plan n of is_list writes) =
       Settings plan n of is_list (text_kept _ _ answer writes)
 
-  pages_kept : (l : Language) (month : List (Option Day)) (m : Parts) (numbers : List ℕ) (answer : Result (Unit {0}) Refused)
-      → WritesPages l month m numbers one answer → WritesPages l month m numbers other answer
-  pages_kept l month m numbers answer (NoDays none told) = NoDays none told
-  pages_kept l month m numbers answer (NoPage refused is told) = NoPage refused is told
-  pages_kept l month m numbers answer (Pages first others planned text booklet writes) =
+  pages_kept : (l : Language) (name : List ℕ) (month : List (Option Day)) (m : Parts) (numbers : List ℕ)
+      (answer : Result (Unit {0}) Refused)
+      → WritesPages l name month m numbers one answer → WritesPages l name month m numbers other answer
+  pages_kept l name month m numbers answer (NoDays none told) = NoDays none told
+  pages_kept l name month m numbers answer (NoPage refused is told) = NoPage refused is told
+  pages_kept l name month m numbers answer (Pages first others planned text booklet writes) =
       Pages first others planned text booklet (text_kept _ _ answer writes)
 
   on_kept : {A : Type 0} (found : Result A Refused) (Holds Other : A → Type 0) (answer : Result (Unit {0}) Refused)
@@ -86,12 +87,12 @@ module _ (one other : Port) (before : one.had ≡ other.had) (after : Keeps one.
   on_kept (Err refused) Holds Other answer more (inl is) = inl is
   on_kept found Holds Other answer more (inr lacks) = inr lacks
 
-  task_kept : (l : Language) (task : Task) (machine sheet : List ℕ) (told : Result (Unit {0}) Refused)
-      → DoesTask l task machine sheet one told → DoesTask l task machine sheet other told
-  task_kept l (tasks.Page days chosen) machine sheet told does =
+  task_kept : (l : Language) (task : Task) (name machine sheet : List ℕ) (told : Result (Unit {0}) Refused)
+      → DoesTask l task name machine sheet one told → DoesTask l task name machine sheet other told
+  task_kept l (tasks.Page days chosen) name machine sheet told does =
       on_kept (machine_and_month machine sheet) _ _ told
-      (λ both. pages_kept (unwrap_or chosen l) both.1 both.0 _ told) does
-  task_kept l (tasks.List day) machine sheet told does =
+      (λ both. pages_kept (unwrap_or chosen l) name both.1 both.0 _ told) does
+  task_kept l (tasks.List day) name machine sheet told does =
       on_kept (machine_and_month machine sheet) _ _ told (λ both. list_kept both.1 both.0 day told) does
 
   sheet_kept : (options : OptionTexts) (table : List ℕ) (told : Result (Unit {0}) Refused)
@@ -158,7 +159,7 @@ module _ (one other : Port) (before : one.had ≡ other.had) (after : Keeps one.
   command_kept : (l : Language) (command : NamedCommand) (texts : List (List ℕ)) (told : Result (Unit {0}) Refused)
       → DoesCommand l command texts one told → DoesCommand l command texts other told
   command_kept l (commands.OnMachine machine sheet task) texts told does =
-      task_kept l task (text_at texts 0) (text_at texts 1) told does
+      task_kept l task sheet (text_at texts 0) (text_at texts 1) told does
   command_kept l (commands.Message machine sheet message task) texts told does =
       on_kept (machine_and_month (text_at texts 0) (text_at texts 1)) _ _ told
       (λ both. message_kept task.kind (unwrap_or task.language l) both.1 both.0 task.day (text_at texts 2) told) does

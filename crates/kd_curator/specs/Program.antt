@@ -46,12 +46,12 @@ use Rattle.kd_curator.specs.declared.fault.Refused.{Refused}
 use Rattle.kd_curator.specs.declared.stop.Stop.{Stop}
 use Rattle.kd_curator.specs.declared.stop.Stop.TheVariants as stops
 
--- What a task writes from the bytes of a machine file and of a key sheet. Its words are in language `l`, unless the task
--- has another.
-abbrev pub DoesTask : Language → Task → List ℕ → List ℕ → Port → Result (Unit {0}) Refused → Type 0
-DoesTask l (tasks.Page days chosen) machine sheet sink answer = IsAnswerOnSheet machine sheet
-    (λ m month. WritesPages (unwrap_or chosen l) month m (wanted_days days (model_of m) month) sink answer) answer
-DoesTask l (tasks.List day) machine sheet sink answer = IsAnswerOnSheet machine sheet
+-- What a task writes from the bytes of a machine file and of a key sheet, whose file has this name. Its words are in
+-- language `l`, unless the task has another.
+abbrev pub DoesTask : Language → Task → List ℕ → List ℕ → List ℕ → Port → Result (Unit {0}) Refused → Type 0
+DoesTask l (tasks.Page days chosen) name machine sheet sink answer = IsAnswerOnSheet machine sheet
+    (λ m month. WritesPages (unwrap_or chosen l) name month m (wanted_days days (model_of m) month) sink answer) answer
+DoesTask l (tasks.List day) name machine sheet sink answer = IsAnswerOnSheet machine sheet
     (λ m month. WritesList month m day sink answer) answer
 
 -- What is written for a message of this kind, and answered.
@@ -70,7 +70,7 @@ WorksMessage l task machine sheet message sink answer = IsAnswerOnSheet machine 
 -- has another.
 abbrev pub DoesCommand : Language → NamedCommand → List (List ℕ) → Port → Result (Unit {0}) Refused → Type 0
 DoesCommand l (commands.OnMachine machine sheet task) texts sink answer =
-    DoesTask l task (text_at texts 0) (text_at texts 1) sink answer
+    DoesTask l task sheet (text_at texts 0) (text_at texts 1) sink answer
 DoesCommand l (commands.Message machine sheet message task) texts sink answer =
     WorksMessage l task (text_at texts 0) (text_at texts 1) (text_at texts 2) sink answer
 DoesCommand l (commands.TypingPage machine chosen) texts sink answer =

@@ -262,10 +262,14 @@ fn carry_out<W: Sink, E: Sink>(
         (port E.taken E.has_failed errors.old errors.new) }
 {
     match command {
-        Command::OnMachine { task, .. } => {
+        Command::OnMachine {
+            task,
+            sheet: name,
+            ..
+        } => {
             let machine = text_at(contents, 0);
             let sheet = text_at(contents, 1);
-            do_task(alloc, language, task, machine, sheet, sink)
+            do_task(alloc, language, task, name, machine, sheet, sink)
         }
         Command::Message { task, .. } => {
             let machine = text_at(contents, 0);
@@ -304,16 +308,17 @@ fn carry_out<W: Sink, E: Sink>(
     }
 }
 
-/// Does `task` with the machine in the file `machine` and the key sheet `sheet`.
+/// Does `task` with the machine in the file `machine` and the key sheet `sheet`, whose file is called `name`.
 fn do_task<W: Sink>(
     alloc: Global,
     language: Language,
     task: Task,
+    name: &str,
     machine: &[u8],
     sheet: &[u8],
     sink: &mut W,
 ) -> Result<(), Refused>
-    ensures does { DoesTask language task machine.now sheet.now
+    ensures does { DoesTask language task name.now machine.now sheet.now
         (port W.taken W.has_failed sink.old sink.new) result }
     ensures untouched { IsErr result → is_device result ≡ false → sink.new ≡ sink.old }
     ensures failed { W.has_failed sink.new ≡ (W.has_failed sink.old || is_device result) }
@@ -324,7 +329,7 @@ fn do_task<W: Sink>(
             language: chosen,
         } => {
             let language = chosen.unwrap_or(language);
-            run_page(alloc, language, machine, sheet, days, sink)
+            run_page(alloc, language, name, machine, sheet, days, sink)
         }
         Task::List(day) => run_list(alloc, machine, sheet, day, sink),
     }
