@@ -129,23 +129,17 @@ pub fn model_named(cell: &[u8]) -> Option<Model>
     model_among(&MODELS, cell)
 }
 
-/// The first of `wheels` that `word` names.
-fn wheel_among(wheels: &[Wheel], word: &[u8]) -> Option<Wheel>
-    ensures { result ≡ find (λ wheel. is_named (wheel_text wheel) word.now) wheels.now }
+/// The wheel that `word` names.
+pub fn wheel_named(word: &[u8]) -> Option<Wheel>
+    ensures { result ≡ wheel_named word.now }
 {
+    let wheels = Model::M4.wheels();
     for wheel in wheels {
         if is_named(wheel.text().as_str(), word) {
             return Some(*wheel);
         }
     }
     None
-}
-
-/// The wheel that `word` names.
-pub fn wheel_named(word: &[u8]) -> Option<Wheel>
-    ensures { result ≡ wheel_named word.now }
-{
-    wheel_among(Model::M4.wheels(), word)
 }
 
 /// The name of a reflector behind `UKW`, for *Umkehrwalze*.
@@ -169,21 +163,15 @@ fn names_reflector(reflector: Reflector, cell: &[u8]) -> bool
     is_named(reflector.text().as_str(), cell) || is_named(long_name(reflector), cell)
 }
 
-/// The first of `reflectors` that `cell` names.
-fn reflector_among(reflectors: &[Reflector], cell: &[u8]) -> Option<Reflector>
-    ensures { result ≡ find (λ reflector. names_reflector reflector cell.now) reflectors.now }
+/// The reflector of `model` that `cell` names. On an M4 the letter B means the thin reflector b.
+pub fn reflector_named(model: Model, cell: &[u8]) -> Option<Reflector>
+    ensures { result ≡ reflector_named model cell.now }
 {
+    let reflectors = model.reflectors();
     for reflector in reflectors {
         if names_reflector(*reflector, cell) {
             return Some(*reflector);
         }
     }
     None
-}
-
-/// The reflector of `model` that `cell` names. On an M4 the letter B means the thin reflector b.
-pub fn reflector_named(model: Model, cell: &[u8]) -> Option<Reflector>
-    ensures { result ≡ reflector_named model cell.now }
-{
-    reflector_among(model.reflectors(), cell)
 }
