@@ -1,10 +1,12 @@
 -- The text that `look_at` writes, and its answer: the first fault of all files. The text has a report on each file.
 -- Test: tests/cases/curator-look.toml
-use Rattle.std.specs.Prelude.{◌≡◌, ◌⊎◌, ℕ, ◌++◌, List, [], ◌∷◌, Bool, false, true, Result, Err, OnErr, IfOk}
+use Rattle.std.specs.Prelude.{◌≡◌, ◌⊎◌, ℕ, ◌++◌, List, [], ◌∷◌, map, Bool, false, true, Result, Err, OnErr, IfOk}
+use Rattle.std.specs.Result.{result_ok}
 use Rattle.kd_tables.specs.Ports.{Port}
 use Rattle.kd_tables.specs.Writing.{Writes}
 use Rattle.kd_findings.specs.Texts.{BeginsWith}
 use Rattle.kd_look.specs.File.{file_of}
+use Rattle.kd_look.specs.MissingDays.{KnownFile, missing_words}
 use Rattle.kd_look.specs.Report.{IsReport, outcome_of}
 use Rattle.kd_look.specs.declared.looking.NamedFile.{NamedFile}
 use Rattle.kd_look.specs.declared.looking.LookFault.{LookFault}
@@ -36,12 +38,15 @@ abbrev pub AreReports : List NamedText → List ℕ → Type 0
 AreReports [] text = text ≡ []
 AreReports (file ∷ rest) text = BeginsWith (IsReport file.name file.bytes) (λ others. AreReports rest others) text
 
--- The text has a report on each file. Then warnings may follow, which concern several files.
+-- the file's name, and what the file says
+abbrev pub known_text : NamedText → KnownFile
+known_text file = record { name = file.name; file = result_ok (file_of file.bytes) }
+
+-- The text has a report on each of the files, and then the warnings on machines for which no sheet has a day.
 pub record IsWholeReport (files : List NamedText) (text : List ℕ) : Type 0 where
   pub reports : List ℕ
-  pub warnings : List ℕ
   pub made : AreReports files reports
-  pub whole : text ≡ reports ++ warnings
+  pub whole : text ≡ reports ++ missing_words (map known_text files)
 
 -- whether the answer is the fault that the sink failed
 abbrev pub is_device : Result Outcome LookFault → Bool
