@@ -1,5 +1,5 @@
 -- Notes that are written.
-use Rattle.std.proofs.Common.{◌≡◌, ◌||◌, ◌++◌, ℕ, Bool, List, [], take, Option, Result, Ok, Err, is_err, arith}
+use Rattle.std.proofs.Common.{◌≡◌, ◌||◌, ℕ, Bool, List, take, Option, Result, Ok, Err, is_err, arith}
 use Rattle.kd_tables.specs.Writing.{Writes}
 use Rattle.kd_table.specs.Notes.{Tells}
 
