@@ -1,9 +1,8 @@
 -- One more row of a table.
-use Rattle.std.proofs.Common.{◌≡◌, ◌∙◌, ℕ, Bool, true, false, List, [], ◌∷◌, ◌++◌, Some, None, refl, sym, ap, subst, append_assoc}
+use Rattle.std.proofs.Common.{◌≡◌, ◌∙◌, ℕ, Bool, true, false, List, [], ◌∷◌, ◌++◌, refl, ap, append_assoc}
 use Rattle.kd_state.specs.SheetDay.{Day, day_number}
-use Rattle.kd_table.specs.Columns.{columns_of}
 use Rattle.kd_table.specs.Row.{is_blank_row, IsDayOfRow}
-use Rattle.kd_table.specs.Table.{AreDaysOfRows, NoRows, BlankRow, DayRow, IsRefusedRow, HasRefusedRow, IsBodyRead, is_taken}
+use Rattle.kd_table.specs.Table.{BlankRow, DayRow, IsRefusedRow, HasRefusedRow, IsBodyRead, is_taken}
 use Rattle.kd_table.specs.declared.columns.Columns.{Columns}
 use Rattle.kd_table.specs.Options.{OptionTexts}
 

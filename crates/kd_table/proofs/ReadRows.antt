@@ -1,8 +1,7 @@
 -- The records of a table that were read so far.
-use Rattle.std.proofs.Common.{◌≡◌, ◌∙◌, ◌+◌, ◌<◌, ◌≤◌, ◌-◌, ap, ◌∷◌, ◌++◌, ℕ, List, [], Bor, Some, None, inl, true, false}
+use Rattle.std.proofs.Common.{◌≡◌, ◌∙◌, ◌+◌, ◌<◌, ◌≤◌, ◌-◌, ap, ◌∷◌, ◌++◌, ℕ, List, [], Bor, Some, inl, true, false}
 use Rattle.std.proofs.Common.{ap₂, arith, drop, get_or, length, map, refl, sym, take}
 use Rattle.std.proofs.lemmas.List.{map-append, take_all, take_more}
-use Rattle.std.specs.List.{slice_get}
 use Rattle.csv.specs.Reading.{ReadRecord, strip_bom}
 use Rattle.csv.specs.Records.{fields_of}
 use Rattle.csv.specs.declared.iter.ByteRecordsIntoIter.{ByteRecordsIntoIter}

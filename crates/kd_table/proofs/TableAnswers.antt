@@ -1,6 +1,5 @@
 -- What the rows of a table make of the table.
-use Rattle.std.proofs.Common.{◌≡◌, ◌∙◌, ◌<◌, ◌⊎◌, inl, inr, Err, Result, ℕ, true, false, List, [], ◌∷◌, ◌++◌, Ok, append_assoc, Option, length, sym, subst, arith}
-use Rattle.std.proofs.lemmas.Bool.{false≢true}
+use Rattle.std.proofs.Common.{◌≡◌, ◌∙◌, ◌⊎◌, inl, inr, Err, Result, ℕ, true, false, List, [], ◌∷◌, ◌++◌, Ok, append_assoc, sym, subst, arith}
 use Rattle.kd_state.specs.SheetDay.{Day, IsLegalDay, day_number}
 use Rattle.std.proofs.lemmas.List.{append-nil}
 use Rattle.kd_sheet.proofs.Days.{sheet_again}
