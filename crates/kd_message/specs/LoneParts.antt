@@ -23,7 +23,7 @@ lone_words l after =
 unfoldable pub listed_lone : Language → ℕ → List ℕ
 listed_lone l after = texts.LISTED_LONE.now ++ lone_words l after ++ text_in l texts.LISTED_LONE_END
 
--- the words for what to ask for: the heading; if no letter of the body came, the whole part
+-- the words for what to ask for: the heading or, if no letter of the body came (`came` is 0), the whole part
 abbrev pub lone_asked : Language → ℕ → List ℕ
 lone_asked l came = if came == 0 then text_in l texts.ALL_OF_IT else text_in l texts.ITS_HEADING
 

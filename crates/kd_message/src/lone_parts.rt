@@ -126,7 +126,7 @@ fn draw_lone_ask<W: Sink>(sink: &mut W, language: Language, part: &DamagedPart)
     }
 }
 
-/// Writes the checkbox to ask for the heading. If no letter of the body came (`came` is 0), it is for the whole part.
+/// Writes the checkbox to ask for the heading or, if no letter of the body came (`came` is 0), for the whole part.
 fn draw_lone_box<W: Sink>(sink: &mut W, language: Language, came: usize)
     ensures { Draws W.taken W.has_failed sink.old sink.new (lone_box language came) }
 {
@@ -135,7 +135,7 @@ fn draw_lone_box<W: Sink>(sink: &mut W, language: Language, came: usize)
     draw(sink, ASK_END);
 }
 
-/// The words for what to ask for: the heading. If no letter of the body came (`came` is 0), it is the whole part.
+/// The words for what to ask for: the heading or, if no letter of the body came (`came` is 0), the whole part.
 pub(crate) fn lone_asked(language: Language, came: usize) -> &'static str
     ensures { result.now ≡ lone_asked language came }
 {

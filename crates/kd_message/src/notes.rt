@@ -123,7 +123,8 @@ fn draw_lost_line<W: Sink>(
     draw(sink, NOTE_END);
 }
 
-/// Writes the notes on a part that is read by count: the count is wrong or damaged, and what else is wrong.
+/// Writes the notes on a part that is read by count: that the count is wrong or damaged, and then the notes on its
+/// text.
 fn draw_counted_note<W: Sink>(
     sink: &mut W,
     language: Language,

@@ -183,7 +183,8 @@ pub(crate) fn draw_counts<W: Sink>(sink: &mut W, language: Language, counted: us
     draw_in(sink, language, COUNT_END);
 }
 
-/// Writes the heading's count, the number of letters that came, and the line in which letters are missing.
+/// Writes the heading's count, the number of letters that came and, if there is one, the line in which letters are
+/// missing.
 fn draw_count_wrong<W: Sink>(sink: &mut W, language: Language, part: &DamagedPart)
     ensures { Draws W.taken W.has_failed sink.old sink.new (count_text language part.now) }
 {
@@ -200,8 +201,7 @@ fn draw_short<W: Sink>(sink: &mut W, language: Language, line: usize, short: Opt
     }
 }
 
-/// Writes how many letters the line `short` has, and that a full line has 50. The part begins on line `line` of the
-/// form.
+/// Writes how many letters a short line has, and that a full line has 50. The part begins on line `line` of the form.
 fn draw_short_words<W: Sink>(sink: &mut W, language: Language, line: usize, short: ShortLine)
     ensures { Draws W.taken W.has_failed sink.old sink.new (short_words language line short) }
 {
@@ -212,8 +212,8 @@ fn draw_short_words<W: Sink>(sink: &mut W, language: Language, line: usize, shor
     draw_in(sink, language, FULL_LINE);
 }
 
-/// Writes what to ask for if the count is wrong, and the part isn't read. If a short line explains the count, these are
-/// its ten groups.
+/// Writes what to ask for if the count is wrong, and the part isn't read. If a short line explains the wrong count,
+/// asks for the ten groups of this line.
 fn draw_short_groups<W: Sink>(
     sink: &mut W,
     language: Language,

@@ -1,4 +1,4 @@
-//! The four sheets of a part, and the version of a text for each.
+//! The four sheets for a part. Each text has a version for each sheet.
 ghost use Rattle.std.specs.Prelude.{◌≡◌};
 ghost use Rattle.kd_pictures.specs.Language.{in_language};
 ghost use Rattle.kd_part_sheet.specs.Sheet.{for_sheet};
