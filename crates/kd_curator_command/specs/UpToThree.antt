@@ -19,7 +19,7 @@ list_of_option (Some x) = x ∷ []
 abbrev pub list_of_three : {A : Type 0} → UpToThree A → List A
 list_of_three things = things.first ∷ (list_of_option things.second ++ list_of_option things.third)
 
--- There are equally many things in both.
+-- `these` and `those` have equally many things.
 pub record AreAsMany {A B : Type 0} (these : UpToThree A) (those : UpToThree B) : Type 0 where
   pub second : is_some those.second ≡ is_some these.second
   pub third : is_some those.third ≡ is_some these.third

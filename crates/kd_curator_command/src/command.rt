@@ -23,11 +23,11 @@ use kd_tables::Model;
 use std::alloc::{AllocError, Global};
 use std::convert::AsStr;
 
-/// The error for a wrong use of `sheet --empty`.
+/// The error for a wrong number of days, a wrong model or a needless option of `sheet --empty`.
 const NO_MONTH: &str =
     "--empty needs Enigma I, M3, M4 or M-209, then a number of days from 1 to 31, and no other option but -o";
 
-/// The hint for the name of a model that was typed without quotes.
+/// The hint that a model's name with a space has to be typed in quotes.
 const IN_QUOTES: &str = "Write \"Enigma I\" in quotes.\n";
 
 /// The error for an argument DAY that isn't the number of a day.
@@ -110,7 +110,7 @@ pub enum Task {
         /// The language of the pages; `None` if the words name none.
         language: Option<Language>,
     },
-    /// A list of the settings on this day's page, for `desk apply`.
+    /// A list of the settings on the page of the day with this number, for `desk apply`.
     List(u8),
 }
 
@@ -118,7 +118,7 @@ pub enum Task {
 #[derive(Clone, Copy)]
 pub struct MessageTask {
     pub kind: MessageKind,
-    /// The day of the key sheet, whose key is used.
+    /// The day of the key sheet whose key is used.
     pub day: u8,
     /// The language of the page; `None` if the words name none.
     pub language: Option<Language>,
@@ -204,7 +204,7 @@ fn output_said<'a>(matches: &ArgMatches<'a>) -> Option<&'a str>
     words.get_str("output")
 }
 
-/// Why words don't mean a command, though clap accepts them.
+/// Why words don't mean a command, though `clap` accepts them. The answer is the text of an error.
 fn why_not(matches: &ArgMatches<'_>) -> &'static str {
     match matches.subcommand() {
         Some(("sheet", _)) => NO_MONTH,
@@ -215,8 +215,7 @@ fn why_not(matches: &ArgMatches<'_>) -> &'static str {
     }
 }
 
-/// The error for words that clap accepts. One of the words doesn't name days, a model or a language. `why` is the text
-/// of the error.
+/// The error for words that `clap` accepts, but that don't mean a command. `why` is the text of the error.
 fn no_days(alloc: Global, grammar: &mut Grammar<'_>, why: &str) -> NoCommand
     ensures { IsToldAs ErrorKind.InvalidValue result }
 {
@@ -226,7 +225,7 @@ fn no_days(alloc: Global, grammar: &mut Grammar<'_>, why: &str) -> NoCommand
     }
 }
 
-/// The hint for the name of a model that was typed without quotes; empty if none was.
+/// The hint to type a model's name in quotes, if `Enigma` and `I` are two words; otherwise empty.
 fn quotes_hint<S: AsStr>(words: &[S]) -> &'static str {
     let mut is_begun = false;
     for word in words {
@@ -239,7 +238,7 @@ fn quotes_hint<S: AsStr>(words: &[S]) -> &'static str {
     ""
 }
 
-/// The reason why there is no command: clap's error, and `hint` after it.
+/// The reason why there is no command: the text of `clap`'s error, then `hint`.
 fn no_command(alloc: Global, error: &Error, hint: &str) -> NoCommand
     ensures { IsToldAs (kind_of error.now) result }
 {
@@ -366,7 +365,7 @@ fn table_of<'a>(words: &ArgMatches<'a>) -> Option<NamedCommand<'a>>
     })
 }
 
-/// The form of tables for which the option `--csv` in `words` asks.
+/// The form of tables: CSV if `words` have the option `--csv`, otherwise a page.
 fn form_of(words: &ArgMatches<'_>) -> TableForm
     ensures { HasForm (rows_of (found_of words.now)) result }
 {
@@ -376,7 +375,7 @@ fn form_of(words: &ArgMatches<'_>) -> TableForm
     }
 }
 
-/// The form of tables if the option `--csv` has the value `word`. The value is `true` if the option is used.
+/// The form of tables if the option `--csv` has the value `word`. When the option is used, its value is `true`.
 fn form_named(word: &str) -> TableForm
     ensures { IsFormNamed word.now result }
 {
@@ -411,7 +410,7 @@ fn look_of<'a>(words: &ArgMatches<'a>) -> Option<NamedCommand<'a>>
     })
 }
 
-/// The command `sheet` with the arguments in `words`. `None` if it has `--empty`, and other arguments don't fit.
+/// The command `sheet` with the arguments in `words`. `None` if `--empty` is used, and the other arguments don't fit.
 fn sheet_of<'a>(words: &ArgMatches<'a>) -> Option<NamedCommand<'a>>
     ensures said { IfSome result (λ command.
         IsCommandOf (codes "sheet", rows_of (found_of words.now)) (unborrowed_command command)) }
@@ -440,7 +439,7 @@ fn options_of<'a>(words: &ArgMatches<'a>) -> TableOptions<&'a str>
     }
 }
 
-/// The value of the option `name`; empty if it isn't used.
+/// The value of the option `name`; empty if the option isn't used.
 fn option_text<'a>(words: &ArgMatches<'a>, name: &str) -> &'a str
     ensures { result.now ≡ option_text name.now (rows_of (found_of words.now)) }
 {
@@ -454,7 +453,7 @@ fn are_blank(options: &TableOptions<&str>) -> bool
     options.model.is_empty() && options.reflector.is_empty() && options.window.is_empty()
 }
 
-/// The model and the number of days with these names. `None` if one of the two names is wrong.
+/// The model named `model`, and the number of days in `days`. `None` if one of the two words is wrong.
 fn month_named(model: &str, days: &str) -> Option<(Model, u8)>
     ensures said { IfSome result (λ month. IsMonthNamed model.now days.now month.0 month.1) }
     ensures none { result ≡ None → (month : Model × ℕ)
@@ -465,7 +464,8 @@ fn month_named(model: &str, days: &str) -> Option<(Model, u8)>
     Some((model, days))
 }
 
-/// The command named `name`, `page` or `list`, with the arguments in `words`. `None` if an argument has a wrong value.
+/// The command `name`, which is `page` or `list`, with the arguments in `words`. `None` if an argument has a wrong
+/// value.
 fn task_with_files<'a>(name: &str, words: &ArgMatches<'a>) -> Option<NamedCommand<'a>>
     requires table { name.now ≢ codes "table" }
     requires sheet { name.now ≢ codes "sheet" }
@@ -488,7 +488,7 @@ fn task_with_files<'a>(name: &str, words: &ArgMatches<'a>) -> Option<NamedComman
     })
 }
 
-/// The task of the command named `name`, `page` or `list`.
+/// The task of the command `name`, which is `page` or `list`. `None` if an argument has a wrong value.
 fn task_of(name: &str, words: &ArgMatches<'_>) -> Option<Task>
     ensures said { IfSome result (IsTaskOf (name.now, rows_of (found_of words.now))) }
     ensures none { result ≡ None → (task : Task)
@@ -526,7 +526,7 @@ fn list_of(words: &ArgMatches<'_>) -> Option<Task>
 #[derive(Clone, Copy)]
 struct WrongValue;
 
-/// The days in the argument DAYS. `None` if the argument isn't given.
+/// The days in the argument DAYS. `Ok(None)` if the argument isn't given.
 fn days_asked(words: &ArgMatches<'_>) -> Result<Option<Days>, WrongValue>
     ensures said { IfOk result (HasDays (rows_of (found_of words.now))) }
     ensures none { IsErr result → (days : Option (List ℕ))
@@ -551,7 +551,7 @@ fn day_asked(words: &ArgMatches<'_>) -> Option<u8>
     Some(day)
 }
 
-/// The language in the option `--in`. `None` if the option isn't used.
+/// The language in the option `--in`. `Ok(None)` if the option isn't used.
 fn language_asked(words: &ArgMatches<'_>) -> Result<Option<Language>, WrongValue>
     ensures said { IfOk result (HasLanguage (rows_of (found_of words.now))) }
     ensures none { IsErr result → (language : Option Language)

@@ -11,7 +11,7 @@ pub trait NewFiles {
     /// A file that is being written.
     type Written: Sink + Drop;
 
-    /// The files, by their names. `None` if they aren't known, as on the host.
+    /// The files, by their names. `None` if the files aren't known, as on the host.
     ///
     /// A file that is still being written counts as empty.
     ghost held: { Self → Option FilesByName } = { λ _. None };
@@ -26,8 +26,8 @@ pub trait NewFiles {
             (λ files. (result ≡ Err NewFileFault.Taken) ↔ IsSome (files name.now)) }
         ensures refused { OnErr result (held self.new ≡ held self.old) };
 
-    /// Stores all bytes that `file` has taken, and gives `file` a second name, `name`. It was made under the name
-    /// `other`.
+    /// Stores all bytes that `file` has taken. Gives `file`, which was made under the name `other`, the second name
+    /// `name`.
     ///
     /// Returns `Taken` if there already is a file called `name`.
     fn link(&mut self, file: Self::Written, other: &str, name: &str) -> Result<(), NewFileFault>
@@ -37,7 +37,7 @@ pub trait NewFiles {
             (λ files. (result ≡ Err NewFileFault.Taken) ↔ IsSome (files name.now)) }
         ensures refused { OnErr result (held self.new ≡ held self.old) };
 
-    /// Removes the name `name`, if the folder lets it.
+    /// Removes the name `name`, if the folder allows this.
     fn remove(&mut self, name: &str)
         ensures { held self.new ≡ option_map (λ files. with_content files name.now None) (held self.old) };
 }
