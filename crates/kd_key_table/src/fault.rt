@@ -5,7 +5,7 @@ use kd_tables::Device;
 /// Why a key sheet isn't written as tables.
 #[derive(Clone, Copy, Debug, PartialEq, Eq)]
 pub enum TableFault {
-    /// The key sheet has this fault, or memory ran out.
+    /// The key sheet has this fault; for `NoMemory`, memory ran out.
     Sheet(SheetFault),
     /// A write failed.
     Device,

@@ -13,9 +13,9 @@ use std::alloc::Global;
 
 /// Writes the tables of the key sheet `sheet` in `form`. A page is in `language`.
 ///
-/// A page has a table for each model of rotor machine, in which the last day comes first. It also has a key list for
-/// each day of a Converter. A CSV table has a row for each day, from the first day on, and is the same in all
-/// languages.
+/// A page has a table for each model of rotor machine that has days; the last day comes first. It also has a key list
+/// for each day of a Converter. A CSV table has a row for each day; the first day comes first. A CSV table is the same
+/// in all languages.
 ///
 /// For a fault of the sheet, nothing is written. For `Device`, only a prefix of the file is written.
 pub fn run_table<W: Sink>(

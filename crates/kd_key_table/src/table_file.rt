@@ -62,7 +62,7 @@ fn draw_page<W: Sink>(sink: &mut W, language: Language, sheet: &Sheet)
     draw(sink, FOOT);
 }
 
-/// Writes that the sheet has no days, if it has none.
+/// Writes that the sheet has no days. Writes nothing if it has some.
 fn draw_no_days<W: Sink>(sink: &mut W, language: Language, sheet: &Sheet)
     ensures { Draws W.taken W.has_failed sink.old sink.new (no_days language (has_days sheet.now)) }
 {

@@ -1,5 +1,6 @@
 -- The notes on standard error about a form: what is wrong with its parts, and what to ask for. The notes use the page's
--- words. Test: tests/cases/curator-messages.toml
+-- words.
+-- Test: tests/cases/curator-messages.toml
 use Rattle.std.specs.Prelude.{decimal, ℕ, false, if◌then◌else◌, List, [], ◌∷◌, ◌++◌}
 use Rattle.std.specs.Prelude.{Option, Some, None, Result, Ok, Err}
 use Rattle.kd_tables.specs.declared.model.Model.{Model}
