@@ -23,8 +23,8 @@ day_head page = filled (text_in page.language texts.DAY) (
     decimal page.day ∷ model_name (model_of page.after) ∷ decimal page.day
     ∷ count_text page.language (length page.settings) ∷ [])
 
--- What to compare on a rotor machine. Pictures show its wheels before and after the settings. If there are no settings,
--- there is one picture.
+-- The words that say what to compare on a rotor machine. Pictures show its wheels before and after the settings. If
+-- there are no settings, there is one picture.
 abbrev pub wheels_text : Page → List ℕ
 wheels_text page =
     if length page.settings == 0 then one_band page.language page.after
@@ -34,8 +34,8 @@ unfoldable pub rotor_text : Page → List ℕ
 rotor_text page =
     wheels_text page ++ rings_step page ++ seats_step page ++ out_step page ++ in_step page ++ windows_step page
 
--- What to compare on a Converter before the first step. It has two marks: for a lug that stays, and for a lug that
--- leaves.
+-- The words that say what to compare on a Converter before the first step. They have two marks: the mark of a lug that
+-- stays, and the mark of a lug that leaves.
 unfoldable pub compare_pins : Language → List ℕ
 compare_pins l = filled (text_in l texts.COMPARE_PIN) (mark_text LugStays ∷ mark_text LugLeaves ∷ [])
 

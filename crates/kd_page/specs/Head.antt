@@ -15,7 +15,7 @@ abbrev pub last_of : ListedDay → List ListedDay → ListedDay
 last_of day [] = day
 last_of day (next ∷ days) = last_of next days
 
--- The title: the model, and the day. If there are several days, it has the first day and the last.
+-- The title: the model and the day or, if there are several days, the model, the first day and the last day.
 abbrev pub title_text : Language → Model → ListedDay → List ListedDay → List ℕ
 title_text l model first [] = filled (text_in l TITLE_DAY) (model_name model ∷ decimal first.day ∷ [])
 title_text l model first (next ∷ days) =
@@ -28,7 +28,7 @@ unfoldable pub list_of_days : Language → ListedDay → List ListedDay → List
 list_of_days l first others =
     text_in l NAV ++ listed_text l first ++ flat_map (listed_text l) others ++ NAV_END.now
 
--- the list of the days, if there are several of them
+-- the list of the days; empty if there is only one day
 abbrev pub nav_text : Language → ListedDay → List ListedDay → List ℕ
 nav_text l first [] = []
 nav_text l first (next ∷ days) = list_of_days l first (next ∷ days)

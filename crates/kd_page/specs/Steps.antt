@@ -11,18 +11,20 @@ use Rattle.kd_page.specs.Spots.{step_spot}
 use Rattle.kd_pictures.specs.Template.{count_text, filled}
 use Rattle.kd_pictures.specs.Words.{model_name, word_text}
 
--- The head of a step with this number of settings. Then `idle_text`: a step without settings, which has only a head.
+-- the head of a step with `count` settings
 abbrev pub step_text : Page → Word → ℕ → List ℕ
 step_text page title count = filled (text_in page.language STEP) (
     word_text page.language title ∷ count_text page.language count ∷ model_name (model_of page.after)
     ∷ decimal page.day ∷ [])
 
+-- a step without settings, which has only a head
 abbrev pub idle_text : Page → Word → List ℕ
 idle_text page title = filled (text_in page.language IDLE_STEP) (
     word_text page.language title ∷ count_text page.language 0 ∷ model_name (model_of page.after)
     ∷ decimal page.day ∷ [])
 
--- The head of a step with more checkboxes than settings. It says the number of settings only if there are some.
+-- The head of a step that may have more checkboxes than settings. It gives the number of settings, `count`, only if
+-- this isn't 0.
 abbrev pub full_step_text : Page → Word → ℕ → List ℕ
 full_step_text page title count =
     if count == 0 then filled (text_in page.language PLAIN_STEP) (

@@ -29,7 +29,7 @@ rings_step page =
     let count = count_at (step_spot Rings) page.settings in
     if count == 0 then idle_text page words.Rings else some_rings_text page count
 
--- the wheel that a slot has before the settings, unless a slot has it after them
+-- `wheel`, unless a slot has it after the settings
 abbrev pub unless_held : Wheel → Option ℕ → Option Wheel
 unless_held wheel None = Some wheel
 unless_held wheel (Some slot) = None
@@ -40,7 +40,7 @@ boxed_wheel page slot =
     option_and_then (λ wheel. unless_held wheel (slot_holding page.after wheel SLOTS)) seated)
     (machine_slot page.before slot)
 
--- the reflector before the settings, unless it is the same after them
+-- `reflector`, unless it is the reflector after the settings, too
 abbrev pub unless_same : Reflector → Option Reflector → Option Reflector
 unless_same reflector other =
     if option_map_or (same_reflector reflector) other false then None else Some reflector

@@ -74,7 +74,7 @@ fn last_of(day: ListedDay, others: &[ListedDay]) -> ListedDay
     }
 }
 
-/// Writes the list of the days, if there are several of them.
+/// Writes the list of the days. Writes nothing if there is only one day.
 fn draw_nav<W: Sink>(sink: &mut W, language: Language, first: ListedDay, others: &[ListedDay])
     ensures { Draws W.taken W.has_failed sink.old sink.new (nav_text language first others.now) }
 {

@@ -4,7 +4,7 @@ use kd_pictures::Language;
 use kd_state::{Machine, Setting};
 use kd_tables::Model;
 
-/// A day's page. It has a day, two machines, and the settings that turn the first machine into the second.
+/// A day's page. It has a day, two machines, and the settings that turn the first machine into the second machine.
 #[derive(Drop)]
 pub struct Page<'a> {
     language: Language,
@@ -37,7 +37,7 @@ impl<'a> Page<'a> {
     ghost use Rattle.kd_page.specs.Page.{page_of};
     ghost use Rattle.kd_page.specs.Spots.{count_at};
 
-    /// The page of day `day`. `settings` turn the machine `before` into `after`.
+    /// The page of day `day`. `settings` turn the machine `before` into the machine `after`.
     pub fn new(
         language: Language,
         day: u8,

@@ -12,7 +12,8 @@ use kd_pictures::texts::{IDLE_STEP, LIST, LIST_END, PLAIN_STEP, STEP};
 use kd_pictures::words::Word;
 use kd_tables::Sink;
 
-/// Writes the head of a step with `count` settings. It has the model and the day, as sheets of paper come apart.
+/// Writes the head of a step with `count` settings. The head repeats the model and the day, as sheets of paper come
+/// apart.
 pub(crate) fn draw_step<W: Sink>(sink: &mut W, page: &Page<'_>, title: Word, count: u8)
     ensures { Draws W.taken W.has_failed sink.old sink.new (step_text page.now title count) }
 {
@@ -46,7 +47,8 @@ pub(crate) fn draw_idle<W: Sink>(sink: &mut W, page: &Page<'_>, title: Word)
     );
 }
 
-/// Writes the head of a step with more checkboxes than its `count` settings.
+/// Writes the head of a step that may have more checkboxes than settings. It gives the number of settings, `count`,
+/// only if this isn't 0.
 pub(crate) fn draw_full_step<W: Sink>(sink: &mut W, page: &Page<'_>, title: Word, count: u8)
     ensures { Draws W.taken W.has_failed sink.old sink.new (full_step_text page.now title count) }
 {

@@ -1,4 +1,4 @@
-//! The letters to set last, in the windows or on the pin wheels. Each of these has a checkbox.
+//! The letters to set last, in the windows or on the pin wheels. Each letter has a checkbox.
 ghost use Rattle.std.specs.Prelude.{◌≡◌, ◌++◌, flat_map};
 ghost use Rattle.kd_state.specs.Machine.{machine_pin_letter};
 ghost use Rattle.kd_pictures.specs.Drawing.{Draws};
