@@ -6,21 +6,21 @@ ghost use Rattle.kd_pictures.specs.Sockets.{LinesAreApart};
 ghost use Rattle.kd_pictures.specs.Checked.{TemplatesTakeTheirValues, WordsTellWhatToDo};
 ghost use Rattle.kd_pictures.specs.Plain.{ValuesArePlain};
 
-/// The values that a page takes from files have no markup. They are letters, numbers, and names of models, wheels and
+/// The values that a page takes from files have no markup: letters, numbers, and the names of models, wheels and
 /// reflectors.
 #[tactic(auto, using(crate::proofs::PlainValues::values_are_plain))]
 pub fn values_are_plain()
     ensures { ValuesArePlain }
 {}
 
-/// In both languages, each template takes the values that pages fill into it. The words that say what to do have the
-/// right meanings.
+/// In both languages, each template takes the values that pages fill into it, and the words for what an operator does
+/// have the right meanings.
 pub fn languages_say_the_same()
     ensures templates { TemplatesTakeTheirValues }
     ensures words { WordsTellWhatToDo }
 {}
 
-/// The lines from the sockets of two letters never lie on each other. They are at least 10 apart.
+/// The lines of cables at the sockets of two letters never lie on each other: they are at least 10 apart.
 #[tactic(auto, using(crate::proofs::LinesApart::lines_are_apart))]
 pub fn lines_are_apart()
     ensures { LinesAreApart }
