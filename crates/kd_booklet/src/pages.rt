@@ -87,7 +87,7 @@ fn list_days(listed: &mut ArrayVec<ListedDay, 31>, plans: &[DayPlan])
     }
 }
 
-/// A planned day as an item of the list of days, with its number of settings.
+/// A planned day in the list of days, with the number of settings on this day.
 fn listed_day(plan: &DayPlan) -> ListedDay
     ensures { result ≡ listed_day plan.now }
 {
