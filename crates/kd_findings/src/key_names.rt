@@ -1,10 +1,10 @@
-//! Names of unread keys, and the keys that may have been meant.
+//! The names of unread keys, and the known keys that may have been meant by them.
 ghost use Rattle.std.specs.Prelude.{◌≡◌};
 ghost use Rattle.kd_findings.specs.Unread.{is_name_of};
 
 use kd_sheet::Key;
 
-/// Other names of keys: from other files, or in common use.
+/// Other names for keys, each with the key. They are used in other files, or are in common use.
 const OTHER_NAMES: [(&str, Key); 12] = [
     ("plugs", Key::Cables),
     ("plugboard", Key::Cables),
@@ -51,14 +51,14 @@ fn common_end(one: &[u8], other: &[u8]) -> usize {
     count
 }
 
-/// Whether `one` and `other` differ in at most one byte: changed, added or missing. Capital and small letters count as
-/// equal.
+/// Whether `one` and `other` differ in at most one byte, which is changed, added or missing. Capital and small letters
+/// count as equal.
 pub fn is_near(one: &[u8], other: &[u8]) -> bool {
     let common = common_start(one, other).saturating_add(common_end(one, other));
     one.len().max(other.len()) <= common.saturating_add(1)
 }
 
-/// The key in `keys` for which `name` is another name.
+/// The key in `keys` that has `name` as another name.
 fn named_elsewhere(keys: &[Key], name: &str) -> Option<Key> {
     for (other, key) in &OTHER_NAMES {
         if *other == name && keys.contains(key) {
@@ -68,7 +68,7 @@ fn named_elsewhere(keys: &[Key], name: &str) -> Option<Key> {
     None
 }
 
-/// The key in `keys` whose name is nearly `name`. If there is none, the key for which `name` is another name.
+/// The key in `keys` whose name is nearly `name` or, if there is none, the key that has `name` as another name.
 pub fn meant_key(keys: &[Key], name: &str) -> Option<Key> {
     match keys
         .iter()
