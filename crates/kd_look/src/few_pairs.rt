@@ -27,7 +27,7 @@ fn pairs_of(sheet: &Sheet, model: Model, number: u8) -> Option<Pairs> {
     })
 }
 
-/// The day of `model` with the most pairs. If several have the most, it is the first of them.
+/// The day of `model` with the most pairs. If several days have the most pairs, it is the first of these days.
 fn most_pairs(sheet: &Sheet, model: Model) -> Option<Pairs> {
     let mut most: Option<Pairs> = None;
     for number in 1..32 {

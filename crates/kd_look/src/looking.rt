@@ -14,10 +14,10 @@ use crate::report::{Report, make_report};
 use kd_tables::{Device, Sink, put_all};
 use std::alloc::{AllocError, Global};
 
-/// A file to look at.
+/// A file that `look_at` describes.
 #[derive(Clone, Copy)]
 pub struct NamedFile<'f> {
-    /// The name of the file, with which each line about the file begins.
+    /// The name of the file. Each line about the file begins with this name.
     pub name: &'f str,
     /// The file's content.
     pub bytes: &'f [u8],
@@ -106,7 +106,7 @@ struct WholeReport {
     outcome: Outcome,
 }
 
-/// Makes the report on `files`. It has a report on each file, then the warnings about missing days.
+/// Makes the report on `files`: a report on each file, then the warnings about missing days.
 fn report_all(alloc: Global, files: &[NamedFile<'_>]) -> Result<WholeReport, AllocError>
     ensures report { IfOk result (λ made.
         IsWholeReport (map named_text files.now) (string_bytes made.text)) }

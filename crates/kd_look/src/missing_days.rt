@@ -34,7 +34,7 @@ fn has_day(summaries: &[FileSummary<'_>], model: Model) -> bool {
     false
 }
 
-/// A warning for each sheet. It says that the sheet has no day for the machine `name`, which is of this model.
+/// A warning for each sheet: the sheet has no day for the machine in the file `name`, which is of this model.
 fn sheet_lines(
     alloc: Global,
     name: &str,
@@ -55,7 +55,7 @@ fn sheet_lines(
     Ok(lines)
 }
 
-/// The warnings about machines for which no sheet has a day. None if there is no sheet.
+/// The warnings about machines for which no sheet has a day. There are no warnings if there is no sheet.
 pub fn missing_day_warnings(
     alloc: Global,
     summaries: &[FileSummary<'_>],

@@ -1,10 +1,10 @@
--- How a text from a file is shown in a line. It is shown in backticks. If it is long, or has control characters, only
--- its length in bytes is shown.
+-- How a text from a file is shown in a line: in backticks. If the text is long, or has control characters, only its
+-- length in bytes is shown.
 -- Test: tests/cases/curator-look.toml
 use Rattle.std.specs.Prelude.{codes, ℕ, ◌++◌, ◌==◌, ◌&&◌, nat_le, not, Bool, List, length, decimal, if◌then◌else◌}
 use Rattle.std.specs.List.{list_all}
 
--- whether the byte can be printed: it is no control character
+-- whether the byte isn't a control character
 abbrev pub is_printed : ℕ → Bool
 is_printed byte = nat_le 32 byte && not (byte == 127)
 

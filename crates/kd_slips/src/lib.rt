@@ -1,6 +1,6 @@
 //! Says in words why a value in a machine file or a key sheet is refused.
 //!
-//! Each sort of value has a module with checks, which `kd_findings` calls. A check returns a `Slip` if it refuses the
+//! For each sort of value, a module has checks, which `kd_findings` calls. A check returns a `Slip` if it refuses the
 //! value.
 #![tactic(auto)]
 

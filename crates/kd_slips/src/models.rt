@@ -1,4 +1,4 @@
-//! Refuses models, reflectors and wheels. Either the desk doesn't know them, or they don't fit together.
+//! Refuses models, reflectors and wheels that the desk doesn't know, or that don't fit together.
 ghost use Rattle.std.specs.Prelude.{IfErr, IsErr, None};
 ghost use Rattle.kd_sheet.specs.declared.fault.SheetFault.TheVariants.{BadValue, UnknownModel, WheelNotAllowed};
 ghost use Rattle.kd_sheet.specs.declared.fault.SheetFault.TheVariants.{WheelTwice};
@@ -51,7 +51,7 @@ fn reflector_words(model: Model) -> &'static str {
     }
 }
 
-/// Refuses `name`, which is `right`, but with other capital and small letters.
+/// Refuses `name`, which differs from the name `right` only in capital and small letters.
 fn refuse_case<T>(alloc: Global, fault: SheetFault, name: &str, right: &str) -> Result<T, Slip>
     ensures refused { IsErr result }
     ensures slip { IfErr result (HasFault fault None) }
@@ -200,7 +200,7 @@ fn check_allowed(alloc: Global, model: Model, slot: u8, wheel: Wheel) -> Result<
     )
 }
 
-/// Refuses the wheel `name` in slot `slot`, if an earlier slot has it, too.
+/// Refuses the wheel `name` in slot `slot`, if an earlier slot has this wheel, too.
 fn check_first(alloc: Global, items: &[Value], slot: u8, name: &str) -> Result<(), Slip>
     ensures { IfErr result (HasFault WheelTwice None) }
 {
