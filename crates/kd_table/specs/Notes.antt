@@ -1,7 +1,7 @@
--- The notes on a table, on standard error. The notes on unread columns are defined to the byte. The notes on a refused
--- table have a line for each cell that can't be read. They also have one for each row that isn't a day, unless the
--- table lacks a column that the row needs. The line begins with the place of the cell or the row. No definition gives
--- the words after the place.
+-- The notes on a table, on standard error. The notes on unread columns are defined to the byte.
+-- The notes on a refused table have a line for each cell that can't be read. They also have a line for each row that
+-- isn't a day, unless the table lacks a column that the row needs. Such a line begins with the place of the cell or the
+-- row. No definition gives the words after the place.
 -- Test: tests/cases/curator-sheet.toml
 use Rattle.std.specs.Prelude.{◌≡◌, ◌<◌, ◌+◌, ◌==◌, ◌&&◌, ◌||◌, codes, decimal, nat_lt, ℕ, Bool, true, false, List, [], ◌∷◌, ◌++◌, drop, flat_map, length, map, slice_get, take, Option, Some, None, IfSome, IsTrue, if◌then◌else◌}
 use Rattle.std.specs.Io.KnownBytes.{Appends}
@@ -22,13 +22,13 @@ use Rattle.kd_table.specs.declared.columns.Columns.{Columns}
 
 -- ---- The port of the notes.
 
--- Some text was written to the port of the notes. If the port had failed before, it still has failed.
+-- Some text was written to the port of the notes. If the port had failed before, it has still failed.
 pub record Tells (notes : Port) : Type 0 where
   pub text : List ℕ
   pub written : Appends notes.had notes.has text
   pub failed : IsTrue notes.had_failed → IsTrue notes.has_failed
 
--- `text` was written to the port of the notes. If the port has failed, a prefix of `text` was written.
+-- `text` was written to the port of the notes or, if the port has failed, a prefix of `text`.
 pub record TellsText (notes : Port) (text : List ℕ) : Type 0 where
   pub whole : notes.has_failed ≡ false → Appends notes.had notes.has text
   pub part : (count : ℕ) × Appends notes.had notes.has (take count text)
@@ -45,7 +45,7 @@ shown cell =
     if nat_lt 60 (length cell) then map (shown_byte true) (take 60 cell) ++ codes "..."
     else map (shown_byte false) cell
 
--- a line of notes: a place, then the words about it
+-- a line of notes: a place, then words about this place
 abbrev pub line_at : List ℕ → List ℕ → List ℕ
 line_at place words = place ++ words ++ 10 ∷ []
 
@@ -81,12 +81,12 @@ TellsUnread table notes = (head : List (List ℕ)) × HasHead table head × Tell
 
 -- ---- Faults.
 
--- the words for a row's number, and for its day if that is known
+-- the words for a row's number and, if it is known, for the row's day
 abbrev pub row_number : ℕ → Option ℕ → List ℕ
 row_number number None = decimal number ++ codes ", "
 row_number number (Some day) = (decimal number ++ codes " (day ") ++ (decimal day ++ codes "), ")
 
--- the words for a row's place
+-- the words for a row's place: its number and, if it is known, its day
 abbrev pub row_place : ℕ → Option ℕ → List ℕ
 row_place number day = codes "row " ++ row_number number day
 
@@ -102,12 +102,12 @@ abbrev pub cell_name : Columns → List (List ℕ) → Cell → List ℕ
 cell_name columns head cell =
     option_map_or (λ place. shown (cell_at (Some place) head)) (column_of columns cell) (option_name cell)
 
--- the words for a cell's place: its row, and its column's name
+-- the words for a cell's place: the words `row` for the row's place, and the name of the cell's column
 abbrev pub cell_place : Columns → List (List ℕ) → List ℕ → Cell → List ℕ
 cell_place columns head row cell = row ++ cell_name columns head cell ++ codes ": "
 
--- The notes on these cells of a row. A line begins with the place of the cell that it is about. There is at least one
--- line for each cell that can't be read.
+-- The notes on these cells of a row. Each line begins with the place of the cell that the line is about. There is at
+-- least one line for each cell that can't be read.
 pub data TellsCells (options : OptionTexts) (columns : Columns) (head : List (List ℕ)) (place : List ℕ)
     (row : List (List ℕ)) : List Cell → List ℕ → Type 0 where
   NoCells : TellsCells options columns head place row [] []
@@ -117,9 +117,9 @@ pub data TellsCells (options : OptionTexts) (columns : Columns) (head : List (Li
       → TellsCells options columns head place row (cell ∷ rest)
       (flat_map (line_at (cell_place columns head place cell)) words ++ note)
 
--- The notes on a row. They are about columns that the table lacks, then about the row's cells, then about the row as a
--- whole. If the row isn't a day, it has a note, or one of its cells has. If a column that the row needs is missing,
--- there may be none.
+-- The notes on a row: on columns that the table lacks, then on the row's cells, then on the row as a whole. If the row
+-- isn't a day, there is at least one note on the row or on a cell of it. There may be none if the table lacks a column
+-- that the row needs.
 pub record TellsRow (options : OptionTexts) (columns : Columns) (head : List (List ℕ)) (number : ℕ)
     (row : List (List ℕ)) (note : List ℕ) : Type 0 where
   pub missing : List (List ℕ)
@@ -133,8 +133,8 @@ pub record TellsRow (options : OptionTexts) (columns : Columns) (head : List (Li
   pub some : IsNoDay (row_values options columns row) → has_columns options columns row ≡ true
       → 0 < length of_cells + length words
 
--- The notes on the rows under the first row `head`, in order. `numbers` are the rows' numbers. Blank rows have no
--- notes.
+-- The notes on the rows under the first row `head`, in the order of the rows. `numbers` are the rows' numbers. Blank
+-- rows have no notes.
 pub data TellsRows (options : OptionTexts) (columns : Columns) (head : List (List ℕ)) (numbers : List ℕ)
     : List (List (List ℕ)) → List ℕ → Type 0 where
   NoneTold : TellsRows options columns head numbers [] []
@@ -153,8 +153,11 @@ quotes_note = codes "a quote isn't closed, or something follows the closing quot
 abbrev pub nothing_note : List ℕ
 nothing_note = codes "the table has no row with a day\n"
 
--- The notes on a refused table. If its quotes are wrong, or it has no rows, they are a single line. Otherwise they are
--- the notes on unread columns, on missing columns, and on each row. If all rows are blank, a line says so.
+-- The notes on a refused table:
+-- - If the table's quotes are wrong, a single line.
+-- - If the table has no rows, a single line.
+-- - Otherwise, the notes on unread columns, on missing columns, and on each row. If all rows under the first row are
+--   blank, at least one line about the whole table.
 pub data TellsTable (options : OptionTexts) (table : List ℕ) : List ℕ → Type 0 where
   OfQuotes : is_well_quoted table ≡ false → TellsTable options table quotes_note
   OfNothing : AreRows table [] → TellsTable options table nothing_note
@@ -171,8 +174,8 @@ TellsRefused options table notes = (text : List ℕ) × TellsTable options table
 
 -- ---- Reading row by row. No public contract cites these definitions.
 
--- The notes on a row's cells, and on the row as a whole, were appended. There is at least one if the row isn't a day,
--- and the table has each column that the row needs.
+-- The notes on a row's cells, and on the row as a whole, were appended. If the row isn't a day, and the table has each
+-- column that the row needs, there is at least one note.
 pub record TellsPlacedRow (options : OptionTexts) (columns : Columns) (head : List (List ℕ)) (place : List ℕ)
     (row : List (List ℕ)) (old new : List ℕ) : Type 0 where
   pub of_cells : List ℕ
@@ -182,8 +185,8 @@ pub record TellsPlacedRow (options : OptionTexts) (columns : Columns) (head : Li
   pub some : IsNoDay (row_values options columns row) → has_columns options columns row ≡ true
       → 0 < length of_cells + length words
 
--- The notes on the rows under the first row `head` were appended. If all these rows are blank, a line was appended,
--- too.
+-- The notes on the rows under the first row `head` were appended. If all these rows are blank, a line about the whole
+-- table was appended, too.
 pub record HasRowsNote (options : OptionTexts) (columns : Columns) (head : List (List ℕ)) (table old new : List ℕ)
     : Type 0 where
   pub rows : List (List (List ℕ))

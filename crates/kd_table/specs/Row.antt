@@ -15,7 +15,7 @@ use Rattle.kd_table.specs.Steps.{◌>>=◌}
 use Rattle.kd_table.specs.declared.columns.Columns.{Columns}
 use Rattle.kd_table.specs.Options.{OptionTexts}
 
--- the columns that are read, except those of pins
+-- the columns that are read, except those of pins, which `columns.pins` has
 abbrev pub places_of : Columns → List (Option ℕ)
 places_of c =
     c.day ∷ c.model ∷ c.reflector ∷ c.wheels ∷ c.rings ∷ c.plugs ∷ c.window ∷ c.groups ∷ c.list ∷ c.bars ∷ []
@@ -43,7 +43,7 @@ cell_values options columns row = do
   model ← model_named (cell_or options.model columns.model row)
   values_of_model options columns row model
 
--- The values of the day in a row. `None` if the row ends before the last column, or has texts beyond it.
+-- The values of the day in a row. `None` if the row ends before the last column, or has texts beyond the last column.
 abbrev pub row_values : OptionTexts → Columns → List (List ℕ) → Option Day
 row_values options columns row = if fits_columns columns row then cell_values options columns row else None
 

@@ -1,4 +1,4 @@
--- Which days a table means, and when it is refused.
+-- The days that a table means, and the tables that are refused.
 -- Test: tests/cases/curator-sheet.toml
 use Rattle.std.specs.Prelude.{◌≡◌, ◌⊎◌, ◌<◌, ◌==◌, ℕ, Bool, true, false, List, [], ◌∷◌, ◌++◌, length, Option, Some, None, Result, Ok, Err}
 use Rattle.std.specs.List.{list_any}
@@ -27,13 +27,13 @@ pub data AreDaysOfRows (options : OptionTexts) (columns : Columns) : List (List 
       → AreDaysOfRows options columns rows days → is_blank_row columns row ≡ false → IsDayOfRow options columns row day
       → is_taken days (day_number day) ≡ false → AreDaysOfRows options columns (rows ++ row ∷ []) (days ++ day ∷ [])
 
--- The row isn't blank. It has no day, or a day whose number a day in `days` has, too.
+-- The row isn't blank. It has no day, or its day has the same number as a day in `days`.
 pub record IsRefusedRow (options : OptionTexts) (columns : Columns) (days : List Day) (row : List (List ℕ)) : Type 0 where
   pub filled : is_blank_row columns row ≡ false
   pub why : IsNoDay (row_values options columns row)
       ⊎ ((day : Day) × IsDayOfRow options columns row day × (is_taken days (day_number day) ≡ true))
 
--- A row is refused. The rows before it are blank, or have days.
+-- One of the rows is refused. Each row before it is blank, or has a day.
 pub record HasRefusedRow (options : OptionTexts) (columns : Columns) (rows : List (List (List ℕ))) : Type 0 where
   pub before : List (List (List ℕ))
   pub row : List (List ℕ)
@@ -43,11 +43,11 @@ pub record HasRefusedRow (options : OptionTexts) (columns : Columns) (rows : Lis
   pub described : AreDaysOfRows options columns before days
   pub refused : IsRefusedRow options columns days row
 
--- The table has the rows `rows`, its first row included.
+-- The table has the rows `rows`, which include the table's first row.
 abbrev pub AreRows : List ℕ → List (List (List ℕ)) → Type 0
 AreRows table rows = AreRecords (separated (separator_of table)) st.StartRecord (strip_bom table) rows
 
--- The table means these days. Its rows have these days, and there is at least one day.
+-- The table means these days: its rows have these days, and there is at least one day.
 pub record TableMeans (options : OptionTexts) (table : List ℕ) (days : List Day) : Type 0 where
   pub quoted : is_well_quoted table ≡ true
   pub head : List (List ℕ)
@@ -56,7 +56,7 @@ pub record TableMeans (options : OptionTexts) (table : List ℕ) (days : List Da
   pub described : AreDaysOfRows options (columns_of head) rows days
   pub some : 0 < length days
 
--- The table is refused. Its quotes are wrong, a row is refused, or no row has a day.
+-- The table is refused: its quotes are wrong, or a row is refused, or no row has a day.
 pub data IsRefusedTable (options : OptionTexts) (table : List ℕ) : Type 0 where
   WrongQuotes : is_well_quoted table ≡ false → IsRefusedTable options table
   RefusedRow : (head : List (List ℕ)) (rows : List (List (List ℕ))) → AreRows table (head ∷ rows)
@@ -65,7 +65,7 @@ pub data IsRefusedTable (options : OptionTexts) (table : List ℕ) : Type 0 wher
       → AreDaysOfRows options (columns_of head) rows [] → IsRefusedTable options table
   NoFirstRow : AreRows table [] → IsRefusedTable options table
 
--- whether the answer is the fault that the sink failed
+-- whether the answer is `Device`, the fault of a sink that failed
 abbrev pub is_device : {T : Type 0} → Result T SpreadsheetFault → Bool
 is_device (Ok done) = false
 is_device (Err Refused) = false
@@ -74,14 +74,14 @@ is_device (Err NoMemory) = false
 
 -- ---- Reading row by row. No public contract cites these definitions.
 
--- The state after the rows under the first row. If the Bool is false, these rows have these days. If it is true, one of
--- these rows is refused.
+-- The state after reading the rows under the first row. The last argument says whether one of these rows is refused. If
+-- none is refused, the rows have these days.
 abbrev pub IsBodyRead : OptionTexts → Columns → List (List (List ℕ)) → List Day → Bool → Type 0
 IsBodyRead options columns rows days false = AreDaysOfRows options columns rows days
 IsBodyRead options columns rows days true = HasRefusedRow options columns rows
 
--- The state after these rows. If there are no rows, nothing is known. Otherwise the columns of the first row are known,
--- and the state after the other rows.
+-- The state after reading these rows. If there are no rows, there are no columns and no days. Otherwise the columns are
+-- those that the first row names, and the other rows have the days, or one of them is refused.
 abbrev pub IsRead : OptionTexts → List (List (List ℕ)) → Option Columns → List Day → Bool → Type 0
 IsRead options [] columns days refused = (columns ≡ None) × (days ≡ []) × (refused ≡ false)
 IsRead options (head ∷ rows) columns days refused =

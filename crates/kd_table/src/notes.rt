@@ -1,4 +1,4 @@
-//! Writes notes on what is wrong with a table.
+//! Writes notes on the faults of a table.
 //!
 //! It is proved which rows and cells have notes. The words of the notes are only tested.
 ghost use Rattle.std.specs.Prelude.{◌≡◌, ◌&&◌, ◌++◌, ◌∷◌, [], codes, flat_map, length, map, slice_get, ℕ, List, IfOk, IfSome};
@@ -50,10 +50,10 @@ pub fn put_note<N: Sink>(notes: &mut N, note: &[u8])
     let _ = put_all(notes, note);
 }
 
-/// The note on a table in which no row under the first row has anything.
+/// The note on a table in which all rows under the first row are blank.
 const NO_DAY: &str = "the table has no row with a day";
 
-/// Appends the notes on unread columns, and on missing columns that each table needs.
+/// Appends the notes on unread columns, and on missing columns that every table needs.
 fn push_head(note: &mut Vec<u8>, head: &Head<'_>) -> Result<(), SpreadsheetFault>
     ensures { IfOk result (λ _. (missing : List (List ℕ)) × (note.new.items ≡ note.old.items
         ++ (unread_note head.now.names ++ flat_map (line_at (codes "row 1: ")) missing))) }
@@ -63,7 +63,7 @@ fn push_head(note: &mut Vec<u8>, head: &Head<'_>) -> Result<(), SpreadsheetFault
     push_words(note, b"row 1: ", &missing_columns(head))
 }
 
-/// Appends the notes on a row under the first row. A blank row has none.
+/// Appends the notes on a row under the first row. A blank row has no notes.
 fn push_body_row(
     note: &mut Vec<u8>,
     found: &mut Found,
@@ -84,7 +84,7 @@ fn push_body_row(
     push_row(note, found, head, number, row)
 }
 
-/// Whether `row` is blank, too. `blank` says whether all rows before it are.
+/// Whether `row` and all rows before it are blank. `blank` says whether all rows before it are.
 fn is_still_blank(blank: bool, head: &Head<'_>, row: &ByteRecord) -> bool
     ensures { result ≡ (blank && is_blank_row head.now.columns (fields_of row.now)) }
 {
@@ -133,7 +133,7 @@ fn push_table(
     push_rows(note, table, &head, rows)
 }
 
-/// The notes on a refused table. They are about its quotes, unread columns, missing columns, and its rows.
+/// The notes on a refused table: on its quotes, its unread columns, its missing columns, and its rows.
 pub fn refused_note(
     alloc: Global,
     table: &[u8],

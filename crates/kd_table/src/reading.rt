@@ -13,12 +13,12 @@ use csv::ByteRecord;
 use kd_state::SheetDay;
 use std::alloc::Global;
 
-/// What the rows of a table so far have.
+/// What was read in the rows of a table so far.
 #[derive(Drop)]
 pub struct Reading {
-    /// The columns, after the first row.
+    /// The columns; `None` before the first row is read.
     pub columns: Option<Columns>,
-    /// The days of the rows so far. No two of them have the same number.
+    /// The days of the rows so far. No two days have the same number.
     pub days: Vec<SheetDay>,
     /// Whether a row was refused.
     pub refused: bool,
@@ -34,7 +34,7 @@ fn is_taken(days: &[SheetDay], number: u8) -> bool
     }
 }
 
-/// Reads a row under the first row, and appends its day. Returns whether a row is refused: this one, or an earlier one.
+/// Reads a row under the first row, and appends its day. Returns whether this row or an earlier row is refused.
 fn read_body_row(
     days: &mut Vec<SheetDay>,
     refused: bool,
@@ -84,7 +84,7 @@ fn read_row(
     Ok(())
 }
 
-/// Reads these rows. The first names the columns.
+/// Reads these rows. The first row names the columns.
 fn read_all(
     alloc: Global,
     rows: &[ByteRecord],

@@ -47,7 +47,7 @@ fn read_days(
     Ok(days)
 }
 
-/// If `fault` is `Refused`, writes the notes on the table. Returns `fault`, or `NoMemory` if memory runs out for the
+/// Writes the notes on the table, if `fault` is `Refused`. Returns `fault`, or `NoMemory` if memory runs out for the
 /// notes.
 fn tell_refused<N: Sink>(
     fault: SpreadsheetFault,
@@ -83,11 +83,11 @@ fn note_of_columns(alloc: Global, table: &[u8]) -> Result<Vec<u8>, SpreadsheetFa
     }
 }
 
-/// Writes the key sheet with the days of `table`.
+/// Writes the key sheet with the days of `table`. If the table isn't refused, `notes` gets a line for each unread column.
 ///
-/// `Refused` means that the table is refused: nothing is written, and `notes` gets lines about its faults. On `Device`,
-/// the sink has taken a prefix of the sheet. If the table isn't refused, `notes` gets a line for each unread column. On
-/// `NoMemory`, nothing is written, and lines may be missing in `notes`.
+/// On `Refused`, the table is refused: nothing is written, and `notes` gets lines about the table's faults. On
+/// `Device`, the sink has taken a prefix of the sheet. On `NoMemory`, nothing is written, and lines may be missing in
+/// `notes`.
 pub fn run_sheet<W: Sink, N: Sink>(
     alloc: Global,
     table: &[u8],

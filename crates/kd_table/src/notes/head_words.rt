@@ -9,7 +9,7 @@ use crate::names::is_named;
 use crate::row::places_of;
 use kd_tables::Model;
 
-/// The columns that each table needs, unless an option replaces them.
+/// The columns that every table needs, unless an option replaces them.
 static NEEDED: [Cell; 2] = [Cell::Day, Cell::Model];
 
 /// Columns that most tables have. Their names show the language of the table.
@@ -21,7 +21,7 @@ static OFTEN_NAMED: [Cell; 5] = [
     Cell::Bars,
 ];
 
-/// Says which columns are missing that each table needs. If the first row has no column names, says why.
+/// Says which of the columns are missing that every table needs. If the first row has no column names, says why.
 pub fn missing_columns(head: &Head<'_>) -> Words {
     if names_none(head.columns()) {
         let mut lines = Words::new();
@@ -31,7 +31,8 @@ pub fn missing_columns(head: &Head<'_>) -> Words {
     missing_among(head, &NEEDED)
 }
 
-/// Says which columns are missing that a day of `model` needs. If the first row has no column names, says nothing.
+/// Says which of the columns are missing that a day of `model` needs. If the first row has no column names, says
+/// nothing.
 pub fn missing_of_model(head: &Head<'_>, model: Model) -> Words {
     if names_none(head.columns()) {
         return Words::new();
@@ -39,7 +40,7 @@ pub fn missing_of_model(head: &Head<'_>, model: Model) -> Words {
     missing_among(head, cells_of(model))
 }
 
-/// Whether the first row has no name of a column that is read.
+/// Whether no column that is read has a name in the first row.
 fn names_none(columns: &Columns) -> bool {
     are_missing(&places_of(columns)) && are_missing(&columns.pins)
 }
@@ -69,7 +70,7 @@ fn is_utf16(cell: &[u8]) -> bool {
     matches!(cell, [0xFF, 0xFE, ..] | [0xFE, 0xFF, ..])
 }
 
-/// Whether `cell` begins with `sep=`, by which some programs know the separator of cells.
+/// Whether `cell` begins with `sep=`, which tells some programs the separator of cells.
 fn says_separator(cell: &[u8]) -> bool {
     if cell.len() < 4 {
         return false;
@@ -78,7 +79,7 @@ fn says_separator(cell: &[u8]) -> bool {
     is_named("sep=", start)
 }
 
-/// Says for which of `cells` the table lacks the column.
+/// Says for each of `cells` whose column the table lacks that the column is missing.
 fn missing_among(head: &Head<'_>, cells: &[Cell]) -> Words {
     let mut lines = Words::new();
     for cell in cells {
@@ -106,7 +107,7 @@ fn missing_column(lines: &mut Words, head: &Head<'_>, cell: Cell) {
     lines.end();
 }
 
-/// If a column has nearly a name of the column of `cell`, asks whether that was meant.
+/// If the name of a column is nearly a name of the column of `cell`, asks whether this column was meant.
 fn ask_for_name(lines: &mut Words, head: &Head<'_>, cell: Cell) {
     if let Some(column) = near_column(head, cell) {
         lines.add(": did you mean ");
@@ -126,7 +127,7 @@ fn name_of(head: &Head<'_>, cell: Cell) -> &'static str {
     }
 }
 
-/// Whether one of the columns that most tables have has a German name.
+/// Whether a column that most tables have has a German name in this table.
 fn is_german(head: &Head<'_>) -> bool {
     for cell in &OFTEN_NAMED {
         let name = cell_at(head.names(), column_of(head.columns(), *cell));

@@ -23,8 +23,8 @@ fn is_near_column(cell: Cell, name: &[u8]) -> bool {
         || is_near(name, short_name(cell).as_bytes())
 }
 
-/// Whether `name` differs from `known` in at most two successive letters. If `known` has fewer than five letters,
-/// `name` may differ in only one.
+/// Whether `name` and `known` differ in at most two successive letters. If `known` has fewer than five letters, they
+/// may differ in only one letter.
 fn is_near(name: &[u8], known: &[u8]) -> bool {
     let slips = if known.len() < 5 { 1 } else { 2 };
     let explained = alike_at_start(name, known)
@@ -33,7 +33,7 @@ fn is_near(name: &[u8], known: &[u8]) -> bool {
     name.len() <= explained && known.len() <= explained && name.len().abs_diff(known.len()) <= slips
 }
 
-/// How many letters two names share at their starts.
+/// How many letters two names have in common at their starts.
 fn alike_at_start(name: &[u8], known: &[u8]) -> usize {
     match (name, known) {
         ([letter, name @ ..], [other, known @ ..]) if capital(*letter) == capital(*other) => {
@@ -43,7 +43,7 @@ fn alike_at_start(name: &[u8], known: &[u8]) -> usize {
     }
 }
 
-/// How many letters two names share at their ends.
+/// How many letters two names have in common at their ends.
 fn alike_at_end(name: &[u8], known: &[u8]) -> usize {
     match (name, known) {
         ([name @ .., letter], [known @ .., other]) if capital(*letter) == capital(*other) => {

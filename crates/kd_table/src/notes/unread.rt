@@ -38,7 +38,7 @@ pub fn is_column_read(columns: &Columns, place: usize) -> bool
     is_among(place, &places_of(columns)) || is_among(place, &columns.pins)
 }
 
-/// Appends the note on the column at `place`, if it has a name, and isn't read.
+/// Appends the note on the column at `place`, if the column has a name, but isn't read.
 fn push_unread_line(
     note: &mut Vec<u8>,
     columns: &Columns,
