@@ -35,12 +35,12 @@ status_of (Ok done) = 0
 status_of (Err (stops.Usage text)) = 2
 status_of (Err _) = 1
 
--- The program ends with the text and the exit status for `answer`. If standard error failed, it took a prefix of the
--- text.
+-- The program ends with the text and the exit status for `answer`. The text is on standard error or, if standard error
+-- failed, only a prefix of the text is.
 abbrev pub EndsAs : Result (Unit {0}) Stop → Port → ℕ → Type 0
 EndsAs answer errors status = EndsWithLine (error_text answer) (status_of answer) errors status
 
--- the program's answer, if a command gave this answer
+-- the program's answer after a command that gave this answer
 abbrev pub stop_after : Result (Unit {0}) Refused → Result (Unit {0}) Stop
 stop_after (Ok done) = Ok done
 stop_after (Err refused) = Err (stops.Refused refused)
@@ -54,7 +54,7 @@ IsWordsText (stops.Usage text) =
 IsWordsText _ = ⊥
 
 -- Why the program stops if the words can't be read. The kind of the error says whether memory ran out, or a word isn't
--- UTF-8. Memory may also run out for the text.
+-- UTF-8. If a word isn't UTF-8, memory may also run out for the text that says so.
 abbrev pub IsWordsStop : ErrorKind → Stop → Type 0
 IsWordsStop OutOfMemory stop = stop ≡ stops.Unread NoMemory
 IsWordsStop _ stop = (stop ≡ stops.Unread NoMemory) ⊎ IsWordsText stop

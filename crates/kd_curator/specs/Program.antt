@@ -1,5 +1,5 @@
 -- The program: which command the words mean, which files are read, and what is written.
--- Code: `run_curator` parses the words; `run_command` reads the files, and carries the command out.
+-- Code: `run_curator` parses the words; `run_command` reads the files, and carries out the command.
 -- Test: tests/cases/curator-pages.toml
 use Rattle.std.specs.Prelude.{◌≡◌, ◌⊎◌, ◌≤◌, ◌||◌, not, ℕ, Bool, true, false, List, [], ◌∷◌, length, Option, Some, None, IfSome}
 use Rattle.std.specs.Prelude.{Result, Ok, Err, IsTrue, unwrap_or}
@@ -52,7 +52,7 @@ abbrev pub with_file : {A X : Type 0} → Result A FileFault → (A → Result X
 with_file (Ok bytes) made = made bytes
 with_file (Err fault) made = Err fault
 
--- the bytes of the file with this name, or the file's fault; `None` if there is no name
+-- the bytes of the file with this name, or the reason why this file can't be read; `None` if there is no name
 abbrev pub known_other : (List ℕ → Option (List ℕ)) → Option (List ℕ) → Result (Option (List ℕ)) FileFault
 known_other held None = Ok None
 known_other held (Some name) = with_file (content_of (held name)) (λ bytes. Ok (Some bytes))
@@ -82,7 +82,8 @@ known_command held (commands.Look names files) =
     with_file (known_three held files) (λ contents. Ok (commands.Look names contents))
 known_command held (commands.EmptySheet model days) = Ok (commands.EmptySheet model days)
 
--- The two commands are the same, but for their files. The first has the names of the files, the second their bytes.
+-- The two commands differ only in their files: the first command has the names of the files, the second command has
+-- their bytes.
 abbrev pub AreAlike : NamedCommand → ReadCommand → Type 0
 AreAlike (commands.OnMachine machine sheet task) (commands.OnMachine bytes more same) = task ≡ same
 AreAlike (commands.Message machine sheet message task) (commands.Message bytes more text same) = task ≡ same
@@ -103,28 +104,28 @@ names_of (commands.Sheet table options) = table ∷ []
 names_of (commands.Look names files) = list_of_three files
 names_of (commands.EmptySheet model days) = []
 
--- The task, which has the bytes of a machine file and of a key sheet, writes its output, and gives this answer. Words
--- are in language `l`, unless the task asks for another language.
+-- The task writes its output and gives this answer, if the machine file and the key sheet have these bytes. Words are
+-- in language `l`, unless the task asks for another language.
 abbrev pub DoesTask : Language → Task → List ℕ → List ℕ → Port → Result (Unit {0}) Refused → Type 0
 DoesTask l (tasks.Page days chosen) machine sheet sink answer = IsAnswerOnSheet machine sheet
     (λ m month. WritesPages (unwrap_or chosen l) month m (wanted_days days (model_of m) month) sink answer) answer
 DoesTask l (tasks.List day) machine sheet sink answer = IsAnswerOnSheet machine sheet
     (λ m month. WritesList month m day sink answer) answer
 
--- The output for a message of this kind is written, and `answer` is the answer.
+-- The output for a message of this kind is written, and `answer` is the command's answer.
 abbrev pub WritesMessage : MessageKind → Language → List (Option Day) → Parts → ℕ → List ℕ → Port
     → Result (Unit {0}) Refused → Type 0
 WritesMessage kinds.Order l month m number order sink answer = WritesSendPage l month m number order sink answer
 WritesMessage kinds.Form l month m number form sink answer = WritesReceivePage l month m number form sink answer
 
--- The task has the bytes of a machine file, a key sheet and a message. It writes its output, and gives this answer.
--- Words are in language `l`, unless the task asks for another language.
+-- The task writes its output and gives this answer, if the machine file, the key sheet and the message have these
+-- bytes. Words are in language `l`, unless the task asks for another language.
 abbrev pub WorksMessage : Language → MessageTask → List ℕ → List ℕ → List ℕ → Port → Result (Unit {0}) Refused → Type 0
 WorksMessage l task machine sheet message sink answer = IsAnswerOnSheet machine sheet
     (λ m month. WritesMessage task.kind (unwrap_or task.language l) month m task.day message sink answer) answer
 
--- The command, which has the bytes of its files, writes its output, and gives this answer. Words are in language `l`,
--- unless the command asks for another language.
+-- The command writes its output and gives this answer. It already has the bytes of its files. Words are in language
+-- `l`, unless the command asks for another language.
 abbrev pub DoesCommand : Language → ReadCommand → Port → Result (Unit {0}) Refused → Type 0
 DoesCommand l (commands.OnMachine machine sheet task) sink answer = DoesTask l task machine sheet sink answer
 DoesCommand l (commands.Message machine sheet message task) sink answer =
@@ -137,38 +138,38 @@ DoesCommand l (commands.Look names files) sink answer = Looks (named_texts names
 DoesCommand l (commands.EmptySheet model days) sink answer =
     WritesText refused_device (empty_month_text model days) sink answer
 
--- Nothing was written to the port, and it didn't fail in the meantime.
+-- Nothing was written to the port, and the port didn't fail in the meantime.
 pub record IsLeftAlone (p : Port) : Type 0 where
   pub same : p.has ≡ p.had
   pub failed : p.has_failed ≡ p.had_failed
 
 -- ---- The program's answer.
 
--- Whether the whole output was written. This is so after success. It is also so if files that were looked at have
--- faults, or if a form isn't read completely.
+-- Whether the whole output was written. This is so in three cases: there is no refusal, or files that were looked at
+-- have faults, or a form isn't one whole message.
 abbrev pub is_whole : Result (Unit {0}) Stop → Bool
 is_whole (Ok done) = true
 is_whole (Err (stops.Refused refused)) = is_after_all refused.fault
 is_whole (Err _) = false
 
--- The answer after a flush. It is `first` if no bytes are left. It is `Device` if the sink didn't take the bytes
--- `left`.
+-- The answer after a flush. If no bytes are left, it is `first`. If the sink didn't take the bytes `left`, it is
+-- `Device`.
 abbrev pub IsFlushed : List ℕ → Result (Unit {0}) Stop → Result (Unit {0}) Stop → Type 0
 IsFlushed left first answer =
     ((answer ≡ first) × (left ≡ [])) ⊎ ((answer ≡ Err (stops.Refused refused_device)) × (1 ≤ length left))
 
--- The answer after a command. If there was a flush, as the Bool says, it is the answer after the flush. Otherwise it is
--- `first`.
+-- The answer after a command. The first argument says whether there was a flush. If there was, the answer is the answer
+-- after the flush; otherwise it is `first`.
 abbrev pub AnswersAfter : Bool → List ℕ → Result (Unit {0}) Stop → Result (Unit {0}) Stop → Type 0
 AnswersAfter true left first answer = IsFlushed left first answer
 AnswersAfter false left first answer = answer ≡ first
 
 -- The program's answer after a command with the answer `first`. If the whole output was written, the gathered bytes are
--- passed on. `left` are the bytes that the sink didn't take. If there are any, the answer is `Device`.
+-- passed on to the sink. `left` are the bytes that the sink didn't take; if there are any, the answer is `Device`.
 abbrev pub IsAnswerAfterFlush : List ℕ → Result (Unit {0}) Stop → Result (Unit {0}) Stop → Type 0
 IsAnswerAfterFlush left first answer = AnswersAfter (is_whole first) left first answer
 
--- A command gave the answer `told`, for which `Does` holds. After it, the program's answer is `answer`.
+-- A command gave the answer `told`, for which `Does` holds. Then the program's answer is `answer`.
 pub record IsTold (Does : Result (Unit {0}) Refused → Type 0) (left : List ℕ) (answer : Result (Unit {0}) Stop)
     : Type 0 where
   pub told : Result (Unit {0}) Refused
@@ -180,9 +181,12 @@ abbrev pub is_usage : Result (Unit {0}) Stop → Bool
 is_usage (Err (stops.Usage text)) = true
 is_usage _ = false
 
--- How a command line is carried out. `Carried`: its command was carried out, with the bytes of its files. `FileUnread`:
--- a file of the command couldn't be read. `Shown`: the words ask for help or for the version. `OtherWords`: the words
--- don't mean a command. `NoMemory`: memory ran out before a file was asked for.
+-- How a command line is carried out.
+-- - `Carried`: the line's command was carried out, with the bytes of its files.
+-- - `FileUnread`: a file of the command couldn't be read.
+-- - `Shown`: the words ask for help or for the version.
+-- - `OtherWords`: the words don't mean a command.
+-- - `NoMemory`: memory ran out before a file was asked for.
 pub data CarriesOut (l : Language) (words : List (List ℕ)) (known : Option (List ℕ → Option (List ℕ))) (asked : List AskedName)
     (sink : Port) (left : List ℕ) (answer : Result (Unit {0}) Stop) : Type 0 where
   Carried : (command : NamedCommand) → IsCommandLineOf words command → (read : ReadCommand)
@@ -212,9 +216,10 @@ is_stopped_before_writing (Ok done) = false
 is_stopped_before_writing (Err (stops.Refused refused)) = not (comes_after_writing refused.fault)
 is_stopped_before_writing (Err stop) = true
 
--- The notes that were on standard error before the program's answer was known. There may be notes on a table, if the
--- words mean the command `sheet`, and the table was read. There may be notes on a form, if the words mean `receive`,
--- and the files were read. Otherwise there are none.
+-- The notes that were on standard error before the program's answer was known.
+-- - If the words mean the command `sheet`, and the table was read, there may be notes on the table.
+-- - If the words mean the command `receive`, and the files were read, there may be notes on the form.
+-- - Otherwise there are no notes.
 pub data HasNotes (words : List (List ℕ)) (asked : List AskedName) (errors : Port) : Type 0 where
   NoNotes : IsLeftAlone errors → HasNotes words asked errors
   TableNotes : (table : List ℕ) (options : OptionTexts) → IsCommandLineOf words (commands.Sheet table options)
@@ -223,9 +228,11 @@ pub data HasNotes (words : List (List ℕ)) (asked : List AskedName) (errors : P
       → IsCommandLineOf words (commands.Message machine sheet message task) → task.kind ≡ kinds.Form
       → AreAskedFor (machine ∷ sheet ∷ message ∷ []) [] asked true → Tells errors → HasNotes words asked errors
 
--- The program's answer to a command line. `carried`: how the command line is carried out. `untouched`: if the program
--- stops before it writes, the sink is untouched. `failed`: the sink has failed if the answer says so, or if it had
--- failed before, and only then. `noted`: the notes on standard error, before the text for the answer.
+-- The program's answer to a command line.
+-- - `carried`: how the command line is carried out.
+-- - `untouched`: if the program stops before it writes, the sink is untouched.
+-- - `failed`: the sink has failed exactly if it had failed before, or the answer says that a write failed.
+-- - `noted`: the notes on standard error, which stand before the text for the answer.
 pub record IsRun (l : Language) (words : List (List ℕ)) (known : Option (List ℕ → Option (List ℕ))) (asked : List AskedName)
     (sink : Port) (Untouched : Type 0) (errors : Port) (left : List ℕ) (answer : Result (Unit {0}) Stop)
     : Type 0 where
@@ -234,7 +241,7 @@ pub record IsRun (l : Language) (words : List (List ℕ)) (known : Option (List 
   pub failed : sink.has_failed ≡ (sink.had_failed || is_stopped_by_device answer)
   pub noted : HasNotes words asked errors
 
--- A sink before and after a call. The gathered bytes `left`, which the sink hasn't taken, count as taken.
+-- A sink before and after a call. The bytes `left` were gathered, but not taken by the sink; here, they count as taken.
 abbrev pub port_with_untaken : {P : Type 0} → (P → Option (List ℕ)) → (P → Bool) → P → P → List ℕ → Port
 port_with_untaken bytes failed old new left = record {
   had = bytes old;
@@ -243,7 +250,7 @@ port_with_untaken bytes failed old new left = record {
   has_failed = failed new;
 }
 
--- Standard error from the start of the call until the answer was known. By then, standard error had taken `told`.
+-- Standard error from the start of the call until the answer was known. Until then, standard error had taken `told`.
 abbrev pub at_first : Port → Option (List ℕ) → Bool → Port
 at_first errors told failed = record errors { has = told; has_failed = failed }
 
@@ -251,9 +258,9 @@ at_first errors told failed = record errors { has = told; has_failed = failed }
 abbrev pub at_last : Port → Option (List ℕ) → Bool → Port
 at_last errors told failed = record errors { had = told; had_failed = failed }
 
--- `IsSo` holds of the program's answer. The program ends with the text and the exit status for this answer. The sink
--- didn't take the gathered bytes `left`. When the answer was known, standard error had taken the bytes `told`. `failed`
--- says whether standard error had failed by then.
+-- `IsSo` holds of the program's answer, and the program ends with the text and the exit status for this answer. The
+-- sink didn't take the gathered bytes `left`. When the answer was known, standard error had taken the bytes `told`, and
+-- `failed` says whether it had failed.
 pub record HasEnded (IsSo : Port → List ℕ → Result (Unit {0}) Stop → Type 0) (errors : Port) (status : ℕ)
     : Type 0 where
   pub left : List ℕ
@@ -265,8 +272,8 @@ pub record HasEnded (IsSo : Port → List ℕ → Result (Unit {0}) Stop → Typ
 
 -- ---- What inner functions read and require. No public contract cites these definitions.
 
--- A command with the bytes of its files, in which plain texts stand in place of borrowed texts. Or the reason why a
--- file can't be read.
+-- A command with the bytes of its files, or the reason why a file can't be read. In the command, plain texts stand in
+-- place of borrowed texts.
 abbrev pub read_with_texts : Result (Command (List ℕ) (Bor (List ℕ))) FileFault → Result ReadCommand FileFault
 read_with_texts read = result_map_both with_texts (λ fault. fault) read
 
@@ -280,13 +287,13 @@ HasMonth (commands.Table sheet form language) = Unit {0}
 HasMonth (commands.Sheet table options) = Unit {0}
 HasMonth (commands.Look names files) = Unit {0}
 
--- Any notes on a form may have been written to standard error. For an order, none were.
+-- For a form, any notes may have been written to standard error. For an order, nothing was written to it.
 abbrev pub TellsOfMessage : MessageKind → Port → Type 0
 TellsOfMessage kinds.Order errors = IsLeftAlone errors
 TellsOfMessage kinds.Form errors = Tells errors
 
--- What was written to standard error before a refusal's text. The command `sheet` may have written notes on unread
--- columns and faults of the table. The command `receive` may have written notes on a form. Other commands have written
+-- What was written to standard error before a refusal's text. The command `sheet` may have written notes on a table's
+-- unread columns and faults. The command `receive` may have written notes on a form. Any other command has written
 -- nothing.
 abbrev pub HasTold : ReadCommand → Port → Type 0
 HasTold (commands.Sheet table options) errors = Tells errors

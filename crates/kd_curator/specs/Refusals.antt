@@ -43,7 +43,7 @@ abbrev pub fault_of_plan : NoPlan → PageFault
 fault_of_plan plans.NoSuchDay = faults.NoSuchDay
 fault_of_plan plans.OtherModel = faults.OtherModel
 
--- The refusal of a day that can't be planned. If several days were asked for, it names the day.
+-- The refusal of a day that can't be planned. If several days were asked for, the refusal names the day.
 abbrev pub day_refusal : Bool → DayFault → Refused
 day_refusal several fault = record {
   day = if several then Some fault.day else None;
@@ -54,16 +54,14 @@ abbrev pub is_device_fault : PageFault → Bool
 is_device_fault faults.Device = true
 is_device_fault _ = false
 
--- Whether a refusal for this fault comes after output was written. Either a write failed, or the whole output was
--- written.
+-- Whether a refusal for this fault comes after output was written: a write failed, or the whole output was written.
 abbrev pub comes_after_writing : PageFault → Bool
 comes_after_writing faults.Device = true
 comes_after_writing faults.FaultyFile = true
 comes_after_writing faults.NotWhole = true
 comes_after_writing _ = false
 
--- Whether a refusal for this fault comes after the whole output was written. The output is a report on files, or the
--- page of a form.
+-- Whether a refusal for this fault comes after the whole output was written: a report on files, or the page of a form.
 abbrev pub is_after_all : PageFault → Bool
 is_after_all faults.FaultyFile = true
 is_after_all faults.NotWhole = true
@@ -72,7 +70,7 @@ is_after_all _ = false
 abbrev pub refused_device : Refused
 refused_device = refused_whole faults.Device
 
--- whether the answer is a refusal because a write failed
+-- whether the answer is a refusal because of a failed write
 abbrev pub is_device : Result (Unit {0}) Refused → Bool
 is_device (Ok done) = false
 is_device (Err refused) = is_device_fault refused.fault

@@ -1,4 +1,4 @@
--- What the command `table` writes, and when it refuses.
+-- What the command `table` writes, and when the command refuses.
 use Rattle.std.specs.Prelude.{◌≡◌, ◌⊎◌, ℕ, List, Result, Err, MatchResult}
 use Rattle.kd_tables.specs.Ports.{Port}
 use Rattle.kd_host.specs.Writing.{WritesText}
@@ -11,8 +11,11 @@ use Rattle.kd_curator.specs.Refusals.{refused_device, refused_whole}
 use Rattle.kd_curator.specs.declared.fault.PageFault.TheVariants.{File}
 use Rattle.kd_curator.specs.declared.fault.Refused.{Refused}
 
--- Either the tables of the sheet's month were written, in this form and in language `l`. If the device failed, only a
--- prefix of them was written. Or the answer is the sheet's first fault. Or the answer is that memory ran out.
+-- One of these is so:
+-- - The tables of the sheet's month were written, in this form and in language `l`. If the sink failed, only a prefix
+--   was written.
+-- - The answer is the sheet's first fault.
+-- - The answer is that memory ran out.
 abbrev pub WritesTables : Language → TableForm → List ℕ → Port → Result (Unit {0}) Refused → Type 0
 WritesTables l form sheet sink answer =
     MatchResult (sheet_of sheet) (λ month. WritesText refused_device (file_text l form month) sink answer)

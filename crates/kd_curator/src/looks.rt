@@ -69,7 +69,7 @@ fn look_at_all<W: Sink>(
     }
 }
 
-/// The answer of the command `look`, which follows from the outcome for all files.
+/// The answer of the command `look`, if `look_at` returned `told`.
 fn answer_of(told: Result<Outcome, LookFault>) -> Result<(), Refused>
     ensures { result ≡ look_answer told }
 {

@@ -1,4 +1,4 @@
-//! Reads a machine from a machine file. Also reads a key sheet with it.
+//! Reads a machine from a machine file, alone or with a key sheet.
 ghost use Rattle.std.specs.Prelude.{◌≡◌, ◌⊎◌, false, IfErr};
 ghost use Rattle.kd_sheet.specs.MachineFile.{machine_of};
 ghost use Rattle.kd_curator.specs.MachineAndSheet.{LacksMemory, machine_and_month, or_refused};

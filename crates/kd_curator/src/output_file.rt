@@ -1,4 +1,4 @@
-//! The output file that the option `-o` names. If it isn't written, the program says why.
+//! The output file that the option `-o` names. If the file isn't written, the program says why.
 ghost use Rattle.std.specs.Prelude.{◌≡◌, ◌||◌, is_err};
 ghost use Rattle.kd_tables.specs.Ports.{port};
 ghost use Rattle.kd_tables.specs.Writing.{Writes};
@@ -29,7 +29,7 @@ fn put_unwritten<E: Sink>(name: &str, fault: NewFileFault, errors: &mut E) -> Re
     put_all(errors, b"\n")
 }
 
-/// The words that say why there is no new file. The name of the file follows them.
+/// The words that say why there is no new file. The file's name stands after them.
 fn unwritten_words(fault: NewFileFault) -> &'static str
     ensures { result.now ≡ unwritten_words fault }
 {

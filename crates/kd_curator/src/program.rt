@@ -1,4 +1,4 @@
-//! The program: reads the command line and the files, and carries the command out.
+//! The program: reads the command line and the files, and carries out the command.
 ghost use Rattle.std.specs.Prelude.{◌≡◌, ◌||◌, ◌+◌, ◌<◌, ◌≤◌, [], ℕ, List, false, true, length, map, IfOk, IfSome, IsErr, IsTrue, is_ok};
 ghost use Rattle.std.specs.Prelude.{Option, Some, is_some, option_map};
 ghost use Rattle.std.specs.Io.KnownBytes.{Keeps, append_known};
@@ -50,13 +50,13 @@ use std::convert::AsStr;
 /// unless the words ask for another language.
 ///
 /// Returns the exit status and the sink. The status is 0 for success, 2 if the words don't mean a command, and 1 for a
-/// refusal. With status 1 or 2, a text that says why is written to `errors`. Before it, the command `sheet` writes
-/// notes there on a table's faults and unread columns. The command `receive` writes notes there on what is wrong with a
-/// form. Each file is read once, in the order of the command line. If a file can't be read, no later file is asked for,
-/// and nothing is written to `sink`.
+/// refusal. With status 1 or 2, a text that says why is written to `errors`. Notes may stand before this text: the
+/// command `sheet` writes notes on a table's faults and unread columns, and the command `receive` on what is wrong with
+/// a form. Each file is read once, in the order of the command line. If a file can't be read, no later file is asked
+/// for, and nothing is written to `sink`.
 ///
 /// If the words name an output file, nothing is written to `sink`. The output goes to a new file in `new_files`. The
-/// file has this name exactly if the whole output was written.
+/// new file gets the output file's name exactly if the whole output was written.
 pub fn run_curator<'n, S: AsStr, F: Files<'n>, N: NewFiles, W: Sink + Drop, E: Sink>(
     alloc: Global,
     language: Language,
@@ -91,7 +91,7 @@ pub fn run_curator<'n, S: AsStr, F: Files<'n>, N: NewFiles, W: Sink + Drop, E: S
     }
 }
 
-/// Carries `command` out, with its output in the new file `name`.
+/// Carries out `command`, with its output in the new file `name`.
 fn run_to_file<'n, F: Files<'n>, N: NewFiles, E: Sink>(
     alloc: Global,
     language: Language,
@@ -119,10 +119,11 @@ fn run_to_file<'n, F: Files<'n>, N: NewFiles, E: Sink>(
     }
 }
 
-/// Publishes the new file `file` as `name`, if `answer` says that the whole output was written. Otherwise removes it.
+/// Publishes the new file `file` as `name`, if `answer` says that the whole output was written. Otherwise removes the
+/// file.
 ///
-/// The file was begun under the name `other`. If there is no fault, it is published exactly if the whole output was
-/// written. If it is removed without a fault, no write to it failed.
+/// The file was begun under the name `other`. If the file is removed, the fault `Device` says that a write to it
+/// failed.
 fn end_file<N: NewFiles>(
     answer: &Result<(), Stop>,
     new_files: &mut N,
@@ -146,7 +147,7 @@ fn end_file<N: NewFiles>(
     }
 }
 
-/// Carries `command` out. Its output is gathered before it is passed on to `sink`.
+/// Carries out `command`. The command's output is gathered before it is passed on to `sink`.
 fn run_gathering<'n, F: Files<'n>, W: Sink + Drop, E: Sink>(
     alloc: Global,
     language: Language,
@@ -168,7 +169,7 @@ fn run_gathering<'n, F: Files<'n>, W: Sink + Drop, E: Sink>(
     (answer, gathering.into_sink())
 }
 
-/// Reads the files of `command`, and carries it out.
+/// Reads the files of `command`, and carries out the command.
 fn run_command<'n, F: Files<'n>, W: Sink, E: Sink>(
     alloc: Global,
     language: Language,
@@ -191,7 +192,8 @@ fn run_command<'n, F: Files<'n>, W: Sink, E: Sink>(
     Stop::of_answer(carry_out(alloc, language, command, sink, errors))
 }
 
-/// Answers words that don't mean a command. If they ask for help, shows it. Otherwise stops for the reason `none`.
+/// Answers words that don't mean a command. If the words ask for help or for the version, shows the text. Otherwise
+/// stops for the reason `none`.
 fn answer_other_words<W: Sink>(none: NoCommand, sink: &mut W) -> Result<(), Stop>
     ensures carried { (l : Language) (words : List (List ℕ)) (known : Option (List ℕ → Option (List ℕ)))
         → HasNoCommand words none
@@ -413,7 +415,7 @@ fn read_other<'n, F: Files<'n>>(
     }
 }
 
-/// Carries out `command`. Its files have been read.
+/// Carries out `command`, whose files have been read.
 fn carry_out<W: Sink, E: Sink>(
     alloc: Global,
     language: Language,
@@ -532,7 +534,7 @@ fn work_message<W: Sink, E: Sink>(
     }
 }
 
-/// Writes `text`, for which the words ask.
+/// Writes `text`, the help or the version that the words ask for.
 fn show<W: Sink>(text: &str, sink: &mut W) -> Result<(), Refused>
     ensures written { WritesText refused_device text.now
         (port W.taken W.has_failed sink.old sink.new) result }
@@ -542,8 +544,8 @@ fn show<W: Sink>(text: &str, sink: &mut W) -> Result<(), Refused>
     Ok(())
 }
 
-/// Passes the gathered bytes on, if the whole output was written. If the sink doesn't take all of them, the answer is
-/// `Device`.
+/// Passes the gathered bytes on to the sink, if the whole output was written. If the sink doesn't take all bytes, the
+/// answer is `Device`.
 fn pass_rest_on<W: Sink + Drop>(
     done: Result<(), Stop>,
     sink: &mut BufferedSink<W>,

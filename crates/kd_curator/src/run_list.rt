@@ -17,9 +17,9 @@ use std::alloc::Global;
 
 /// Writes a shortest list from the machine in the file `machine` to the day `number` of the sheet `sheet`.
 ///
-/// The settings are in the order of the day's page. Faults are tested in this order: the machine file's, the sheet's,
-/// `NoSuchDay` and `OtherModel`. For all of these faults, nothing is written. For `Device`, only a prefix of the list
-/// is written.
+/// The settings are in the order of the day's page. Faults are tested in this order: faults of the machine file, faults
+/// of the sheet, `NoSuchDay`, `OtherModel`. For all of these faults, nothing is written. For `Device`, only a prefix of
+/// the list is written.
 pub fn run_list<W: Sink>(
     alloc: Global,
     machine: &[u8],

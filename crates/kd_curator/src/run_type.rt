@@ -17,8 +17,8 @@ use std::alloc::Global;
 /// Writes the page with which to type on the machine in the file `machine`, in `language`. Typing on the page's table
 /// gives the machine's ciphertext.
 ///
-/// Faults are tested in this order: faults of the machine file, and `NotReady`. For these faults, nothing is written.
-/// For `Device`, only a prefix of the page is written.
+/// Faults are tested in this order: faults of the machine file, `NotReady`. For these faults, nothing is written. For
+/// `Device`, only a prefix of the page is written.
 pub fn run_type<W: Sink>(
     alloc: Global,
     language: Language,

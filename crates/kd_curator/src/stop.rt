@@ -1,4 +1,4 @@
-//! `Stop`: why the program stops without success. The exit status and the text on standard error follow from it.
+//! `Stop`: why the program stops without success. It gives the exit status, and the text on standard error.
 ghost use Rattle.std.specs.Prelude.{◌≡◌, ◌≤◌, ◌+◌, ◌++◌};
 ghost use Rattle.arrayvec.specs.ArrayString.{array_string_len};
 ghost use Rattle.kd_tables.specs.Ports.{port};
@@ -27,7 +27,7 @@ pub enum Stop {
     Refused(Refused),
 }
 
-/// If `answer` has a `Stop`, writes the text for it to `errors`. Returns the exit status.
+/// Writes the text for `answer` to `errors`, if `answer` has a `Stop`. Returns the exit status.
 ///
 /// The exit status is the same even if the text can't be written.
 pub fn end_program<E: Sink>(answer: &Result<(), Stop>, errors: &mut E) -> u8
@@ -75,7 +75,7 @@ impl From<FileFault> for Stop {
 }
 
 impl Stop {
-    /// Turns the result of a command into the program's result. A refusal becomes a `Stop`.
+    /// Turns the result of a command into the program's result. A refusal is turned into a `Stop`.
     pub(crate) fn of_answer(done: Result<(), Refused>) -> Result<(), Stop>
         ensures { result ≡ stop_after done }
     {
@@ -85,7 +85,7 @@ impl Stop {
         }
     }
 
-    /// Why the program stops if the words can't be read. Either memory ran out, or a word isn't UTF-8.
+    /// Why the program stops if the words can't be read: memory ran out, or a word isn't UTF-8.
     pub fn of_words(alloc: Global, error: &io::Error) -> Stop
         ensures { IsWordsStop (error_kind error.now) result }
     {
