@@ -35,8 +35,8 @@ status_of (Ok done) = 0
 status_of (Err (stops.Usage text)) = 2
 status_of (Err _) = 1
 
--- The program ends with the text and the exit status for `answer`. The text is on standard error or, if standard error
--- failed, only a prefix of the text is.
+-- The program ends with the text and the exit status for `answer`. Standard error took the text or, if standard error
+-- failed, a prefix of the text.
 abbrev pub EndsAs : Result (Unit {0}) Stop → Port → ℕ → Type 0
 EndsAs answer errors status = EndsWithLine (error_text answer) (status_of answer) errors status
 
@@ -47,7 +47,7 @@ stop_after (Err refused) = Err (stops.Refused refused)
 
 -- ---- Why the words of the command line can't be read.
 
--- The program stops with the text that says that a word isn't UTF-8.
+-- The program stops with the message that a word isn't UTF-8.
 abbrev pub IsWordsText : Stop → Type 0
 IsWordsText (stops.Usage text) =
     string_bytes text ≡ codes "error: a word of the command line isn't UTF-8" ++ 10 ∷ []

@@ -38,7 +38,7 @@ page_fault_text faults.Device = refusal_name refusals.Device
 abbrev pub refused_whole : PageFault → Refused
 refused_whole fault = record { day = None; fault = fault }
 
--- the fault of a refusal, if a day can't be planned for this reason
+-- the fault that a refusal names if a day can't be planned, for the reason why it can't
 abbrev pub fault_of_plan : NoPlan → PageFault
 fault_of_plan plans.NoSuchDay = faults.NoSuchDay
 fault_of_plan plans.OtherModel = faults.OtherModel

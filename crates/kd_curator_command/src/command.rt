@@ -39,7 +39,7 @@ const NO_LANGUAGE: &str = "--in takes de or en";
 /// The error for an argument DAYS that doesn't name days.
 const NO_DAYS: &str = "days are numbers from 1 to 31, each once, such as 2, 1-31 or 1,4,2";
 
-/// A command. It has its files, or their names, as `F`, and the texts of its options as `T`.
+/// A command. `F` is the type of its files, or of their names. `T` is the type of the texts of its options.
 #[derive(Drop)]
 pub enum Command<F, T> {
     /// Writes how to set a machine to days of a key sheet.

@@ -17,8 +17,8 @@ use Rattle.kd_findings.specs.Kind.{entries_of, is_machine_file}
 use Rattle.kd_findings.specs.SheetFaults.{number_in}
 use Rattle.kd_findings.specs.declared.unread.Unread.{Unread}
 
--- An unread key: its name, and the entry of the key sheet in which it stands, counted from 1. `entry` is `None` for a
--- key at the top of the file. `day` is the entry's day, if it is known.
+-- An unread key. `name` is the key's name. `entry` is the number of the key sheet's entry in which the key stands,
+-- counted from 1; it is `None` for a key at the top of the file. `day` is the entry's day, if it is known.
 pub record UnreadKey : Type 0 where
   pub entry : Option ℕ
   pub day : Option ℕ

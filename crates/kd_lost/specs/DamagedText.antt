@@ -37,7 +37,7 @@ pub data IsGroupTest (s : Day) (received : List (Option ℕ)) (test : GroupTest)
       → IsGroupTest s received test
   GroupLost : Any (λ got. got ≡ None) received → test ≡ tests.NotTested → IsGroupTest s received test
 
--- Some letter is lost in both copies.
+-- At some place, the letter is lost in both copies.
 abbrev pub IsLostInBoth : List (Option ℕ) → List (Option ℕ) → Type 0
 IsLostInBoth (one ∷ start) (other ∷ end) = ((one ≡ None) × (other ≡ None)) ⊎ IsLostInBoth start end
 IsLostInBoth [] end = ⊥

@@ -176,7 +176,8 @@ fn is_headed(day: &SheetDay, part: &[u8]) -> bool
     read_damaged_part(day, part).numbers.is_some()
 }
 
-/// Reads `part` as it stands. If its count is wrong or damaged, also reads it with the number of letters that came.
+/// Reads `part` as it stands. If the count in its heading may be wrong, also reads `part` by count, with the number of
+/// letters that came.
 fn read_with_count(
     alloc: Global,
     day: &SheetDay,

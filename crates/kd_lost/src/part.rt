@@ -47,7 +47,7 @@ pub struct DamagedPart {
     pub text: Result<DamagedText, PartDamage>,
     /// The first wrong sign of the body, if it has one.
     pub wrong_sign: Option<WrongSign>,
-    /// The text by count, if the heading's count is wrong or damaged. To read it, the number of letters that came is
+    /// The text by count, if the heading's count may be wrong. To read this text, the number of letters that came is
     /// used as the count.
     pub by_count: Option<DamagedText>,
     /// The first line of the body that has letters, but not 50, though letters follow it. `None` if there is none.

@@ -19,7 +19,7 @@ use Rattle.kd_lost.specs.ShownParts.{is_one_message}
 use Rattle.kd_message.specs.TextSheet.{asked_words, count_asked, counted_reason, first_text_group, groups_told, has_lost}
 use Rattle.kd_message.specs.TextSheet.{is_wrong_day, lost_groups, reason_text}
 
--- the number of a part, with which its note begins
+-- the words for a part's number, at the start of a note about the part
 abbrev pub note_name : Language → PartName → List ℕ
 note_name l name = filled (text_in l texts.NOTE_PART) (decimal name.part ∷ decimal name.parts ∷ [])
 

@@ -178,7 +178,7 @@ abbrev pub page_fault : DamagedFormFault → ReceivePageFault
 page_fault form_faults.NoMemory = faults.NoMemory
 page_fault form_faults.TooManyParts = faults.TooManyParts
 
--- whether a write failed, so that the page isn't complete
+-- whether a write failed; then the page isn't complete
 abbrev pub is_device_fault : Result Bool ReceivePageFault → Bool
 is_device_fault (Err faults.Device) = true
 is_device_fault _ = false

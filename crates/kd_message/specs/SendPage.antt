@@ -132,7 +132,7 @@ IsSendRefusal m s order fault =
     IsKeyFault m s fault
     ⊎ (IsReadyOnKey m s × IsFaultOrNoMemory (IsSendFault s order) ((form : List ℕ) × IsFormOf s order form) fault)
 
--- whether a write failed, so that the page isn't complete
+-- whether a write failed; then the page isn't complete
 abbrev pub is_device : Result (Unit {0}) SendPageFault → Bool
 is_device (Err Device) = true
 is_device _ = false

@@ -1,4 +1,4 @@
--- The sheet with the text of a received form, and what to ask the other station for.
+-- The sheet with the text of a received form. It also says what to ask the other station for.
 use Rattle.std.specs.Prelude.{decimal, ℕ, ◌+◌, ◌-◌, ◌/◌, ◌==◌, nat_le, nat_lt, ◌&&◌, ◌||◌, not, Bool, true, false, is_none}
 use Rattle.std.specs.Prelude.{if◌then◌else◌}
 use Rattle.std.specs.Prelude.{List, [], ◌∷◌, ◌++◌, map, Option, Some, None}
@@ -56,8 +56,8 @@ abbrev pub heading_then : List ℕ → Option PartNumbers → List ℕ → List 
 heading_then first (Some numbers) more others = first ++ heading_words numbers ++ more
 heading_then first None more others = others
 
--- the numbers in the undamaged headings, with `first` before those of the first heading, and a comma before those of
--- each later one
+-- The numbers in the undamaged headings. `first` stands before the numbers of the first heading, and a comma before the
+-- numbers of each later heading.
 abbrev pub headings_after : List ℕ → List DamagedPart → List ℕ
 headings_after first [] = []
 headings_after first (part ∷ parts) =

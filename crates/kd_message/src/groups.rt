@@ -1,4 +1,4 @@
-//! The words for the groups of a body, for which the other station is asked.
+//! The words for groups of a body. The other station is asked for these groups.
 ghost use Rattle.std.specs.Prelude.{◌≡◌, ◌+◌, ◌≤◌, length};
 ghost use Rattle.kd_pictures.specs.Drawing.{Draws};
 ghost use Rattle.kd_part_sheet.specs.Rows.{pieces};

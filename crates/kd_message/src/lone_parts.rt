@@ -19,8 +19,8 @@ use kd_pictures::{Language, draw, draw_in};
 use kd_state::SheetDay;
 use kd_tables::{Model, Sink};
 
-/// Writes where a part without a number stands. It stands after the part with the number `after` or, if `after` is 0,
-/// before all numbered parts.
+/// Writes where a part without a number stands: after the part with number `after` or, if `after` is 0, before all
+/// numbered parts.
 pub(crate) fn draw_lone_words<W: Sink>(sink: &mut W, language: Language, after: u8)
     ensures { Draws W.taken W.has_failed sink.old sink.new (lone_words language after) }
 {
@@ -91,7 +91,7 @@ pub(crate) fn draw_lone_reason<W: Sink>(
     }
 }
 
-/// Writes that a heading is damaged: the line as it came, and an example of a valid heading.
+/// Writes that a heading is damaged, with the line as it came, and an example of a valid heading.
 fn draw_damaged_heading<W: Sink>(sink: &mut W, language: Language, model: Model, part: &DamagedPart)
     ensures { Draws W.taken W.has_failed sink.old sink.new
         (damaged_heading language model part.now) }

@@ -1,4 +1,4 @@
-//! The sheet with the text of a received form, and what to ask the other station for.
+//! The sheet with the text of a received form. It also says what to ask the other station for.
 ghost use Rattle.std.specs.Prelude.{◌≡◌, ◌∷◌, ◌≤◌, [], decimal, false, length, map};
 ghost use Rattle.kd_pictures.specs.Drawing.{Draws};
 ghost use Rattle.kd_form.specs.Sending.{space_letter};
@@ -100,8 +100,8 @@ fn draw_several_words<W: Sink>(sink: &mut W, language: Language, parts: &[Damage
     draw_in(sink, language, SEVERAL_END);
 }
 
-/// Writes the numbers in the undamaged headings. `first` stands before those of the first heading, a comma before those
-/// of each later one.
+/// Writes the numbers in the undamaged headings. `first` stands before the numbers of the first heading, a comma before
+/// the numbers of each later heading.
 fn draw_headings<W: Sink>(sink: &mut W, first: &str, parts: &[DamagedPart])
     ensures { Draws W.taken W.has_failed sink.old sink.new
         (headings_after first.now parts.now) }

@@ -1,4 +1,4 @@
-//! Parts that aren't read: why, and what to ask the other station for.
+//! Writes why parts aren't read, and what to ask the other station for.
 ghost use Rattle.std.specs.Prelude.{◌≡◌, ◌+◌, ◌-◌, Some};
 ghost use Rattle.kd_pictures.specs.Drawing.{Draws};
 ghost use Rattle.kd_message.specs.TextSheet.{ask_text, asked_words, bad_byte_text, counts_text, damage_text};

@@ -24,16 +24,17 @@ abbrev pub pin_by_pin : List Setting → List Setting
 pin_by_pin settings =
     flat_map (λ wheel. flat_map (λ letter. settings_at (pin_spot wheel letter) settings) alphabet) PIN_WHEELS
 
--- The settings that have a checkbox on a rotor machine's page, from the top of the page. `pin_boxes` has those on a
--- Converter's page, and `page_boxes` those on the page of any model.
+-- the settings that have a checkbox on a rotor machine's page, in the order of the checkboxes from the top
 abbrev pub rotor_boxes : List Setting → List Setting
 rotor_boxes settings =
     settings_at (step_spot Rings) settings ++ settings_at (step_spot Seats) settings
     ++ row_by_row PlugsOut CABLES settings ++ row_by_row PlugsIn CABLES settings ++ row_by_row Turns SLOTS settings
 
+-- the settings that have a checkbox on a Converter's page, in the order of the checkboxes from the top
 abbrev pub pin_boxes : List Setting → List Setting
 pin_boxes settings = pin_by_pin settings ++ row_by_row Lugs BARS settings ++ row_by_row Turns PIN_WHEELS settings
 
+-- the settings that have a checkbox on the page of any model, in the order of the checkboxes from the top
 abbrev pub page_boxes : Model → List Setting → List Setting
 page_boxes model settings = if is_converter model then pin_boxes settings else rotor_boxes settings
 

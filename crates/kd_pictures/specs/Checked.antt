@@ -42,8 +42,8 @@ TemplatesTakeTheirValues =
 abbrev pub Reads : Word → List ℕ → List ℕ → Type 0
 Reads word english german = (word_text English word ≡ english) × (word_text German word ≡ german)
 
--- The words for what an operator does are the right ones in both languages: which way to set a pin, which lug to move,
--- which slot to fill, and which machine a picture shows.
+-- In both languages, these words are right: which way to set a pin, which lug to move, which slot to fill, and which
+-- machine a picture shows.
 abbrev pub WordsTellWhatToDo : Type 0
 WordsTellWhatToDo =
     Reads words.On (codes "ON") (codes "EIN") × Reads words.Off (codes "OFF") (codes "AUS")

@@ -22,8 +22,9 @@ use crate::words::{Class, Word};
 use kd_state::{Cable, Machine, lies_in};
 use kd_tables::{Letter, Sink};
 
-/// The plugs that a picture of the plugboard marks. `Out`: the picture is of the machine before the settings, and marks
-/// the plugs to take out. `In`: the picture is of the machine after the settings, and marks the plugs to put in.
+/// The plugs that are marked in a picture of the plugboard.
+/// - `Out`: plugs to take out. The picture shows the machine before the settings.
+/// - `In`: plugs to put in. The picture shows the machine after the settings.
 #[derive(Clone, Copy)]
 pub enum Plugs {
     Out,

@@ -40,7 +40,7 @@ pub fn missing_of_model(head: &Head<'_>, model: Model) -> Words {
     missing_among(head, cells_of(model))
 }
 
-/// Whether no column that is read has a name in the first row.
+/// Whether the first row names none of the columns that are read.
 fn names_none(columns: &Columns) -> bool {
     are_missing(&places_of(columns)) && are_missing(&columns.pins)
 }
