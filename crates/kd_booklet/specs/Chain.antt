@@ -1,4 +1,4 @@
--- The plans of several days. Each plan starts from the machine as the previous plan leaves it.
+-- The plans of several days: each plan starts from the machine as the previous plan leaves it.
 -- Code: `add_plans` plans one day after another, and stops at the first day that can't be planned.
 -- Test: tests/cases/curator-pages.toml
 use Rattle.std.specs.Prelude.{◌≡◌, ◌≢◌, ◌⊎◌, ℕ, List, [], ◌∷◌, ◌++◌, Option, Some, None}

@@ -1,5 +1,5 @@
--- An order of a card's settings that suits an operator. Rings are set first, while the wheels are out, and windows are
--- set last.
+-- An order of a card's settings that suits an operator: rings are set first, while the wheels are out, and windows
+-- last.
 use Rattle.std.specs.Prelude.{Bool, true, false, not, List, [], ◌∷◌, ◌++◌, filter, if◌then◌else◌, IsTrue}
 use Rattle.std.specs.Prelude.{IsPermutation}
 use Rattle.std.specs.List.{list_all}

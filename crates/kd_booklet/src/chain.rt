@@ -1,4 +1,4 @@
-//! The plans of several days. Each plan starts from the machine as the previous plan leaves it.
+//! The plans of several days: each plan starts from the machine as the previous plan leaves it.
 ghost use Rattle.std.specs.Prelude.{◌≡◌, ◌+◌, ◌≤◌, length, IfErr, IfOk, OnOk};
 ghost use Rattle.arrayvec.specs.ArrayVec.{array_vec_len};
 ghost use Rattle.kd_state.specs.Machine.{model_of};

@@ -1,5 +1,4 @@
--- The text that `look_at` writes, and the answer of `look_at`. The text has a report on each file. The answer is the
--- first fault of all files.
+-- The report that `look_at` writes on files, and the answer of `look_at`: the first fault of all files.
 -- Test: tests/cases/curator-look.toml
 use Rattle.std.specs.Prelude.{◌≡◌, ◌⊎◌, ℕ, ◌++◌, List, [], ◌∷◌, Bool, false, true, Result, Err, OnErr, IfOk}
 use Rattle.kd_tables.specs.Ports.{Port}

@@ -1,5 +1,5 @@
--- The copies of a Converter's key letters. The chosen letter stands four times in a part, and each external letter
--- stands twice.
+-- The copies of a Converter's key letters: the chosen letter comes four times in a part, and each external letter comes
+-- twice.
 -- Test: tests/cases/curator-messages.toml
 use Rattle.std.specs.Prelude.{ℕ, ◌+◌, List, [], ◌∷◌, drop, All, Contains, Option, Some, None}
 use Rattle.std.specs.Prelude.{slice_index_or}

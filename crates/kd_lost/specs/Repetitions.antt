@@ -1,5 +1,5 @@
--- Parts that came several times. A letter that is lost in one copy of a part is taken from another copy. Copies have
--- the same part number, the same keys, and equally many letters.
+-- Parts that came several times: a letter that one copy of a part lost is taken from another copy. Copies have the same
+-- part number, the same keys, and equally many letters.
 -- Test: tests/cases/curator-messages.toml
 use Rattle.std.specs.Prelude.{ℕ, ◌+◌, ◌==◌, ◌&&◌, Bool, true, false, if◌then◌else◌, is_some, slice_index_or}
 use Rattle.std.specs.Prelude.{List, [], ◌∷◌, ◌++◌, length, slice_get, Option, Some, None}

@@ -1,4 +1,4 @@
--- The first short line of a body. A short line has letters, but not 50, and letters follow it. `desk send` writes lines
+-- The first short line of a body: this line has letters, but not 50, and more letters follow. `desk send` writes lines
 -- of 50 letters.
 use Rattle.std.specs.Prelude.{ℕ, ◌+◌, ◌-◌, ◌==◌, ◌&&◌, not, nat_lt, Bool, if◌then◌else◌, List, [], ◌∷◌, length}
 use Rattle.std.specs.Prelude.{Option, None, Some}

@@ -1,4 +1,4 @@
-//! Forms in which letters were lost on the air. This crate reads everything in them that can be read without guessing.
+//! Reads all parts of a form in which letters were lost on the air, as far as this is possible without guessing.
 //!
 //! A lost letter is a `?` or `-`, and a small letter means its capital letter. The text of a part is shown without the
 //! lost letters. A part whose keys were lost isn't read. Parts may come twice or in another order. This crate also says

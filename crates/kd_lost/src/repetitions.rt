@@ -1,4 +1,4 @@
-//! Parts that came several times. A letter that is lost in one copy of a part is taken from another copy.
+//! Parts that came several times: a letter that one copy of a part lost is taken from another copy.
 ghost use Rattle.std.specs.Prelude.{◌≡◌, ◌++◌, MatchResult, None, Some, slice_index_or};
 ghost use Rattle.kd_lost.specs.Repetitions.{are_kept, completed_byte, completed_from, completed_with, copied_letter};
 ghost use Rattle.kd_lost.specs.Repetitions.{has_keys_of, is_kept, is_same_part, known_letter};

@@ -1,4 +1,4 @@
--- The sheet with the text of a received form. It also says what to ask the other station for.
+-- The sheet with the text of a received form, and with what to ask the other station for.
 use Rattle.std.specs.Prelude.{decimal, ℕ, ◌+◌, ◌-◌, ◌/◌, ◌==◌, nat_le, nat_lt, ◌&&◌, ◌||◌, not, Bool, true, false, is_none}
 use Rattle.std.specs.Prelude.{if◌then◌else◌}
 use Rattle.std.specs.Prelude.{List, [], ◌∷◌, ◌++◌, map, Option, Some, None}
@@ -210,7 +210,7 @@ read_text l sheet s name shown =
 
 -- ---- A part that isn't read.
 
--- The words for a line of the form. It is line `number` of a part that begins on line `line` of the form.
+-- The words for line `number` of a part. The part begins on line `line` of the form.
 abbrev pub line_words : Language → ℕ → ℕ → List ℕ
 line_words l line number = text_in l texts.LINE ++ decimal (line + number - 1)
 

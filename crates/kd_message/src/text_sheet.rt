@@ -1,4 +1,4 @@
-//! The sheet with the text of a received form. It also says what to ask the other station for.
+//! The sheet with the text of a received form, and with what to ask the other station for.
 ghost use Rattle.std.specs.Prelude.{◌≡◌, ◌∷◌, ◌≤◌, [], decimal, false, length, map};
 ghost use Rattle.kd_pictures.specs.Drawing.{Draws};
 ghost use Rattle.kd_form.specs.Sending.{space_letter};

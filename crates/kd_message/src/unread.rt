@@ -113,7 +113,7 @@ pub(crate) fn draw_heading_fault<W: Sink>(
     draw(sink, fault);
 }
 
-/// Writes the words for a line of the form. It is line `number` of a part that begins on line `line` of the form.
+/// Writes the words for line `number` of a part. The part begins on line `line` of the form.
 pub(crate) fn draw_line_words<W: Sink>(sink: &mut W, language: Language, line: usize, number: usize)
     ensures { Draws W.taken W.has_failed sink.old sink.new (line_words language line number) }
 {
@@ -121,7 +121,7 @@ pub(crate) fn draw_line_words<W: Sink>(sink: &mut W, language: Language, line: u
     draw(sink, Buffer::new().format(line_of_form(line, number)));
 }
 
-/// The number of a line in the form. It is line `number` of a part that begins on line `line` of the form.
+/// The number in the form of line `number` of a part. The part begins on line `line` of the form.
 fn line_of_form(line: usize, number: usize) -> u128
     ensures { result ≡ line + number - 1 }
 {

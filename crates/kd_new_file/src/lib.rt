@@ -1,4 +1,4 @@
-//! New files. A new file is there as a whole or not at all, and never replaces another file.
+//! Makes new files, which are there as a whole or not at all, and never replace another file.
 #![tactic(auto)]
 
 mod host_new_files;

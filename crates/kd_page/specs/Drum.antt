@@ -1,5 +1,5 @@
--- The table of a Converter's bars. Marks show the lugs that stay, the lugs that leave a place, and the lugs that come
--- to a place. The table has checkboxes for the lugs to move.
+-- The table of a Converter's bars, with marks for the lugs that stay, leave a place, or come to a place. The table has
+-- checkboxes for the lugs to move.
 use Rattle.std.specs.Prelude.{decimal, ℕ, ◌==◌, Bool, true, false, ◌&&◌, ◌||◌, if◌then◌else◌, List, [], ◌∷◌, ◌++◌}
 use Rattle.std.specs.Prelude.{flat_map}
 use Rattle.std.specs.Prelude.{Option, Some, None}

@@ -1,4 +1,5 @@
--- The table of a Converter's pins. It shows which pins are effective after the settings, and which pins change.
+-- The table of a Converter's pins, with marks for the pins that are effective after the settings, and frames for the
+-- pins that change.
 use Rattle.std.specs.Prelude.{decimal, ℕ, ◌==◌, Bool, false, not, if◌then◌else◌, List, [], ◌∷◌, ◌++◌, flat_map, take}
 use Rattle.std.specs.Prelude.{drop}
 use Rattle.std.specs.Prelude.{Option, Some, None}

@@ -1,5 +1,4 @@
-//! The table of a Converter's bars. Marks show the lugs that stay, the lugs that leave a place, and the lugs that come
-//! to a place.
+//! The table of a Converter's bars, with marks for the lugs that stay, leave a place, or come to a place.
 ghost use Rattle.std.specs.Prelude.{◌≡◌, ◌++◌, flat_map};
 ghost use Rattle.kd_tables.specs.Places.{places};
 ghost use Rattle.kd_state.specs.Machine.{machine_standing};

@@ -1,5 +1,5 @@
--- How a text from a file is shown in a line: in backticks. If the text is long, or has control characters, only its
--- length in bytes is shown.
+-- How a text from a file is shown in a line. The text stands in backticks. If it is long, or has control characters,
+-- only its length in bytes is shown.
 -- Test: tests/cases/curator-look.toml
 use Rattle.std.specs.Prelude.{codes, ℕ, ◌++◌, ◌==◌, ◌&&◌, nat_le, not, Bool, List, length, decimal, if◌then◌else◌}
 use Rattle.std.specs.List.{list_all}

@@ -1,4 +1,4 @@
--- The texts of the options. They replace blank or missing cells.
+-- The texts of the options, which replace blank or missing cells.
 -- Test: tests/cases/curator-sheet.toml
 use Rattle.std.specs.Prelude.{List, ℕ}
 use Rattle.std.specs.Borrow.{Bor}

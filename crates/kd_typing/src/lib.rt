@@ -1,4 +1,4 @@
-//! Tables of machines. With a table, a text is typed by looking letters up instead of pressing a machine's keys.
+//! Tables of machines: with a table, a text is typed by looking letters up instead of pressing keys.
 #![tactic(auto)]
 
 mod around;
