@@ -145,7 +145,7 @@ pub record IsLeftAlone (p : Port) : Type 0 where
 
 -- ---- The program's answer.
 
--- Whether the whole output was written. This is so in three cases: there is no refusal, or files that were looked at
+-- Whether the whole output was written. This is so in three cases: the program succeeds, or files that were looked at
 -- have faults, or a form isn't one whole message.
 abbrev pub is_whole : Result (Unit {0}) Stop → Bool
 is_whole (Ok done) = true

@@ -24,8 +24,8 @@ pub fn forms_read_are_shown_whole()
     ensures shown { FormsReadAreShownWhole }
 {}
 
-/// In a form of one message, parts with the same number have the same letter at each place, unless one of the letters
-/// is lost.
+/// In a form of one message, take two parts with the same number. At each place that both bodies have, their letters
+/// are equal, unless one of the two letters is lost.
 #[tactic(auto, using(crate::proofs::OneMessage::repetitions_agree))]
 pub fn repetitions_agree()
     ensures { RepetitionsAgree }

@@ -45,8 +45,8 @@ abbrev pub pressed_of : List Cell → List Cell
 pressed_of cells = filter (λ cell. cell.is_pressed) cells
 
 -- The rows of a part that is read can be deciphered, whatever keys are pressed for the lost letters. The operator sets
--- the windows that the sheet shows, and presses `keys`. Then the machine's lamps show the letters below the line. Below
--- a lost letter stands `?`, and for a space nothing.
+-- the windows that the sheet shows, and presses `keys`. Then the machine gives the letters below the line. Below a lost
+-- letter stands `?`, and for a space nothing.
 abbrev pub RowsAreDeciphered : Type 0
 RowsAreDeciphered =
     (s : Day) (part : List ℕ) (shown : DamagedText) (keys : List ℕ) → IsDamagedTextAnswer s part (Ok shown)
@@ -134,8 +134,8 @@ abbrev pub IsClear : List ℕ → Type 0
 IsClear part = All (λ byte. IsFalse (is_lost byte) × (meant_byte byte ≡ byte)) part
 
 -- Let a form be one whole message, with no lost letter, no small letter, no tab, and no heading with needless blanks.
--- Then `desk receive` can read the form once its parts are sorted, and all but one part of each number are left out. It
--- gives the text that the page shows.
+-- Then there are parts of the form, one for each number and in the order of the numbers, that `desk receive` reads as a
+-- form. It gives the text that the page shows.
 abbrev pub WholeMessagesAreRead : Type 0
 WholeMessagesAreRead =
     (s : Day) (form : List ℕ) (parts : List DamagedPart) → AreFormParts s form parts
