@@ -36,7 +36,7 @@ setting_cells day =
     filled texts.ROW.now (decimal day.day ∷ reflector_text day.reflector ∷ []) ++ flat_map wheel_cell day.wheels
     ++ flat_map (ring_cell (has_numbered_rings day.model)) day.wheels
 
--- the cells of the cables, of the ground setting, which has a letter for each wheel, and of the groups
+-- the cells of the cables, the ground setting and the groups; the ground setting has a letter for each wheel
 abbrev pub word_cells : RotorDay → List ℕ
 word_cells day =
     texts.CELL.now ++ words_text pair_text day.pairs ++ texts.CELL.now ++ words_text ground_text day.wheels

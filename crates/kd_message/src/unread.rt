@@ -121,7 +121,8 @@ pub(crate) fn draw_line_words<W: Sink>(sink: &mut W, language: Language, line: u
     draw(sink, Buffer::new().format(line_of_form(line, number)));
 }
 
-/// The number in the form of line `number` of a part. The part begins on line `line` of the form.
+/// The number of a line, counted from the start of the form. It is line `number` of its part, and the part begins on
+/// line `line` of the form.
 fn line_of_form(line: usize, number: usize) -> u128
     ensures { result ≡ line + number - 1 }
 {

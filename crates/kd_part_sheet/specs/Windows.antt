@@ -13,7 +13,8 @@ window_words is_converter number letter =
     if is_converter then filled markup.WHEEL_WORDS.now (decimal number ∷ letter_text letter ∷ [])
     else filled markup.WINDOW_WORDS.now (decimal number ∷ letter_text letter ∷ ordinal_text letter ∷ [])
 
--- the words for windows: `first`, the first window with number `number`, and the later windows, each after a comma
+-- The words for windows, the first of which has number `number`. `first` stands before the first window, and a comma
+-- before each later window.
 abbrev pub words_after : Bool → List ℕ → ℕ → List ℕ → List ℕ
 words_after is_converter first number [] = []
 words_after is_converter first number (letter ∷ letters) =

@@ -38,8 +38,8 @@ fn windows_title(language: Language, is_converter: bool) -> &'static str
     }
 }
 
-/// Writes the words for windows: `first`, the first window with number `number`, and the later windows, each after a
-/// comma.
+/// Writes the words for windows, the first of which has number `number`. `first` stands before the first window, and a
+/// comma before each later window.
 fn draw_all_words<W: Sink>(
     sink: &mut W,
     language: Language,

@@ -51,7 +51,7 @@ is_plugged m number = is_some (cable_of m number).0
 abbrev pub cable_after : List ℕ → Parts → ℕ → List ℕ
 cable_after separator m number = separator ++ cable_words number (cable_of m number)
 
--- the words for all plugged cables: `separator` and the first cable, then each later cable after a comma
+-- The words for all plugged cables. `separator` stands before the first cable, and a comma before each later cable.
 abbrev pub cables_after : List ℕ → Parts → List ℕ → List ℕ
 cables_after separator m [] = []
 cables_after separator m (number ∷ numbers) =

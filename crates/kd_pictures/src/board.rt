@@ -96,7 +96,7 @@ fn is_plugged(machine: &Machine, number: u8) -> bool
     one.is_some()
 }
 
-/// Writes the plugged cables in words: `separator` and the first cable, then each later cable after a comma.
+/// Writes the plugged cables in words. `separator` stands before the first cable, and a comma before each later cable.
 fn draw_cables_after<W: Sink>(
     sink: &mut W,
     language: Language,

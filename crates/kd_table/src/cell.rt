@@ -18,7 +18,7 @@ use csv::ByteRecord;
 use kd_sheet::pins_of_text;
 use kd_tables::{Letter, Model, Reading, Ring, Wheel, ring1, ring2, ring3, ring4, ring5, ring6};
 
-/// A cell of a row, named after the cell's value of the day.
+/// A cell of a row. The cell is named after the value that it has.
 #[derive(Clone, Copy)]
 pub enum Cell {
     Day,
