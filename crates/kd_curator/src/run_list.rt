@@ -37,7 +37,7 @@ pub fn run_list<W: Sink>(
     write_list(&machine, &sheet, number, sink)
 }
 
-/// Writes the list for a machine and a sheet that are already read, as `run_list` does. Allocates no memory.
+/// Does what `run_list` does, for a machine and a sheet that are already read. Allocates no memory.
 pub fn write_list<W: Sink>(
     machine: &Machine,
     sheet: &Sheet,

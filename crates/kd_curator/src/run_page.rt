@@ -44,7 +44,7 @@ pub fn run_page<W: Sink>(
     write_days(language, &machine, &sheet, &days, sink)
 }
 
-/// Writes the pages for a machine and a sheet that are already read, as `run_page` does. Allocates no memory.
+/// Does what `run_page` does, for a machine and a sheet that are already read. Allocates no memory.
 pub fn write_days<W: Sink>(
     language: Language,
     machine: &Machine,

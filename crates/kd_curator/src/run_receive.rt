@@ -52,7 +52,7 @@ pub fn run_receive<W: Sink, E: Sink>(
     )
 }
 
-/// Writes the page for a machine and a sheet that are already read, as `run_receive` does.
+/// Does what `run_receive` does, for a machine and a sheet that are already read.
 fn write_form<W: Sink, E: Sink>(
     alloc: Global,
     language: Language,

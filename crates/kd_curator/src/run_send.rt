@@ -39,7 +39,7 @@ pub fn run_send<W: Sink>(
     write_order(alloc, language, &machine, &sheet, number, order, sink)
 }
 
-/// Writes the page for a machine and a sheet that are already read, as `run_send` does.
+/// Does what `run_send` does, for a machine and a sheet that are already read.
 fn write_order<W: Sink>(
     alloc: Global,
     language: Language,

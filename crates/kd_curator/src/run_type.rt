@@ -34,7 +34,7 @@ pub fn run_type<W: Sink>(
     write_typing_page(language, &machine, sink)
 }
 
-/// Writes the page for a machine that is already read, as `run_type` does. Allocates no memory.
+/// Does what `run_type` does, for a machine that is already read. Allocates no memory.
 pub fn write_typing_page<W: Sink>(
     language: Language,
     machine: &Machine,

@@ -25,7 +25,7 @@ pub enum TableForm {
     Csv,
 }
 
-/// Writes the tables of a sheet that is already read, as `run_table` does. Allocates no memory.
+/// Does what `run_table` does, for a sheet that is already read. Allocates no memory.
 pub fn write_tables<W: Sink>(
     sink: &mut W,
     language: Language,

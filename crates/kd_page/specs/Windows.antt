@@ -19,7 +19,7 @@ abbrev pub letter_in_slot : Parts → ℕ → Option ℕ
 letter_in_slot m slot =
     option_and_then (λ seated. option_and_then (machine_letter m) seated) (machine_slot m slot)
 
--- the letter in a slot's window, or of a pin wheel
+-- the letter in a slot's window, or on a pin wheel
 abbrev pub letter_shown : Parts → ℕ → Option ℕ
 letter_shown m number = option_or (letter_in_slot m number) (machine_pin_letter m number)
 

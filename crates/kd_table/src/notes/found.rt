@@ -27,7 +27,7 @@ impl Found {
         }
     }
 
-    /// Says which columns the row needs, but the table lacks. Only the first row of each model gets these words.
+    /// Names the columns that the row needs, but the table lacks. Only the first row of each model gets these words.
     pub fn missing(&mut self, head: &Head<'_>, row: &ByteRecord) -> Words {
         match row_model(head.options(), head.columns(), row) {
             Some(model) if !self.models.as_slice().contains(&Some(model)) => {

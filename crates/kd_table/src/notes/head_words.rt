@@ -21,7 +21,7 @@ static OFTEN_NAMED: [Cell; 5] = [
     Cell::Bars,
 ];
 
-/// Says which of the columns are missing that every table needs. If the first row has no column names, says why.
+/// Names the columns that every table needs, but this table lacks. If the first row has no column names, says why.
 pub fn missing_columns(head: &Head<'_>) -> Words {
     if names_none(head.columns()) {
         let mut lines = Words::new();
@@ -31,7 +31,7 @@ pub fn missing_columns(head: &Head<'_>) -> Words {
     missing_among(head, &NEEDED)
 }
 
-/// Says which of the columns are missing that a day of `model` needs. If the first row has no column names, says
+/// Names the columns that a day of `model` needs, but this table lacks. If the first row has no column names, says
 /// nothing.
 pub fn missing_of_model(head: &Head<'_>, model: Model) -> Words {
     if names_none(head.columns()) {
@@ -79,7 +79,7 @@ fn says_separator(cell: &[u8]) -> bool {
     is_named("sep=", start)
 }
 
-/// Says for each of `cells` whose column the table lacks that the column is missing.
+/// Names each column of `cells` that is needed, but missing in the table.
 fn missing_among(head: &Head<'_>, cells: &[Cell]) -> Words {
     let mut lines = Words::new();
     for cell in cells {
