@@ -6,8 +6,8 @@ use Rattle.std.specs.Prelude.{◌≡◌, ℕ, ◌≤◌, List, length, ℤ, pos,
 use Rattle.kd_assign.specs.Prices.{FitCosts, price_sum}
 use Rattle.kd_assign.specs.Assignment.{IsOneToOne, assignment_cost}
 
--- Prices fit if a row's price plus a column's price is always at most the cost where they meet. Then every one-to-one
--- assignment costs at least the sum of all prices.
+-- Prices fit if, for each row and each column, the two prices add up to at most the cost in their cell. Then every
+-- one-to-one assignment costs at least the sum of all prices.
 abbrev pub FittingPricesBoundCosts : Type 0
 FittingPricesBoundCosts =
     (cost : List (List ℕ)) (row col : List ℤ) (to : List ℕ) →

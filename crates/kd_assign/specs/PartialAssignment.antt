@@ -21,8 +21,8 @@ abbrev pub IsCheapestColumn : ℕ → List (List ℕ) → List ℤ → ℕ → �
 IsCheapestColumn n cost prices i j =
     (k : ℕ) → k < n → (pos (cost_at cost i j) +ℤ price_at prices k) ≤ℤ (pos (cost_at cost i k) +ℤ price_at prices j)
 
--- The rows before `next` have a column each, and no other row has one. Each row's column is its cheapest at the prices
--- `prices`.
+-- Each row before row `next` has a column, and no other row has a column. At the prices `prices`, each row's column is
+-- the cheapest column for this row.
 pub record IsSolvedUpTo (n : ℕ) (cost : List (List ℕ)) (prices : List ℤ)
     (holders : List (Option ℕ)) (next : ℕ) : Type 0 where
   pub places : length holders ≡ n

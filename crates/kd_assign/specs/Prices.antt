@@ -1,5 +1,5 @@
--- Prices of the rows and columns of a table of costs. Prices fit if a row's price plus a column's price is always at
--- most the cost where they meet. Rows and columns are counted from 0.
+-- Prices of the rows and columns of a table of costs. Prices fit if, for each row and each column, the two prices add
+-- up to at most the cost in their cell. Rows and columns are counted from 0.
 -- Source: the assignment problem and its dual.
 -- Code: `assign` lowers the columns' prices once for each tree, and computes the rows' prices last.
 -- Test: answers_three_rows
@@ -17,8 +17,8 @@ AreCostsAtMost greatest cost = All (λ line. All (λ c. c ≤ greatest) line) co
 abbrev pub price_at : List ℤ → ℕ → ℤ
 price_at prices i = slice_index_or prices i (pos 0)
 
--- The prices fit: a row's price plus a column's price is always at most the cost where they meet. Such prices are a
--- feasible dual solution.
+-- The prices fit: for each row and each column, the two prices add up to at most the cost in their cell. Such prices
+-- are a feasible dual solution.
 abbrev pub FitCosts : List (List ℕ) → List ℤ → List ℤ → Type 0
 FitCosts cost row col =
     (i j : ℕ) → i < length row → j < length col → (price_at row i +ℤ price_at col j) ≤ℤ pos (cost_at cost i j)

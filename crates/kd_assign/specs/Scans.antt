@@ -1,15 +1,15 @@
 -- The number of comparisons for assigning `n` rows to `n` columns by growing a tree from each row.
 use Rattle.std.specs.Prelude.{ℕ, zero, suc, ◌+◌, ◌-◌, ◌*◌, ◌/◌, ◌≤◌}
 
--- The number of comparisons, `scans`, is at least `n * n`: one for each cell of the table. At most, it is 1 + 4 + ... +
--- `n * n`, if all `n` trees grow to their full size.
+-- The number of comparisons, `scans`, is at least `n * n`: one for each cell of the table. It is at most the sum 1 + 4
+-- + ... + `n * n`. It is this sum if all `n` trees grow to their full size.
 pub record IsScanCount (n scans : ℕ) : Type 0 where
   pub least : n * n ≤ scans
   pub most : scans ≤ n * (n + 1) * (2 * n + 1) / 6
 
 -- ---- Of one tree. No public contract cites this definition.
 
--- the comparisons for a tree of `rows` rows: `n` for the first row, `n - 1` for the second, and so on
+-- the number of comparisons for a tree of `rows` rows: `n` for the first row, `n - 1` for the second, and so on
 abbrev pub scans_of_tree : ℕ → ℕ → ℕ
 scans_of_tree n zero = 0
 scans_of_tree n (suc rows) = scans_of_tree n rows + (n - rows)

@@ -19,15 +19,16 @@ pub record AreWithinCeilings (n : ℕ) (prices ceilings : List ℤ) : Type 0 whe
   pub between : (j : ℕ) → j < n → price_at prices j ≤ℤ price_at ceilings j
   pub high : (j : ℕ) → j < n → price_at ceilings j ≤ℤ pos 4
 
--- Of all columns outside the tree, column `end` has the least room (its ceiling minus its price).
+-- Column `end` has the least room (its ceiling minus its price) of all columns outside the tree.
 pub record IsNearest (n : ℕ) (prices : List ℤ) (reached : List Bool) (ceilings : List ℤ) (end : ℕ) : Type 0 where
   pub within : end < n
   pub outside : has_column reached end ≡ false
   pub least : (j : ℕ) → j < n → has_column reached j ≡ false → room_at ceilings prices end ≤ℤ room_at ceilings prices j
 
--- One column is compared with `row`, which offers the price `offer` for it. Before, the column's nearest row is `near`,
--- which offers `ceiling`; after, it is `near'`, which offers `ceiling'`. If the column is outside the tree, `near'` is
--- whichever of `near` and `row` offers less. If the tree has the column (`reached`), nothing changes.
+-- One column is compared with `row`, which offers the price `offer` for it. Before the comparison, the column's nearest
+-- row is `near`, which offers `ceiling`. After the comparison, the nearest row is `near'`, which offers `ceiling'`. If
+-- the column is outside the tree, `near'` is whichever of `near` and `row` offers less. If the tree has the column
+-- (`reached`), nothing changes.
 pub record IsCompared (reached : Bool) (row : ℕ) (offer : ℤ) (near : ℕ) (ceiling : ℤ)
     (near' : ℕ) (ceiling' : ℤ) : Type 0 where
   pub one : ((near' ≡ near) × (ceiling' ≡ ceiling)) ⊎ ((reached ≡ false) × (near' ≡ row) × (ceiling' ≡ offer))

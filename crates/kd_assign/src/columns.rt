@@ -22,7 +22,7 @@ pub fn columns_of_rows<const N: usize>(holders: &[Option<usize>; N]) -> [u8; N]
     columns
 }
 
-/// The price of each row: the cost where the row and its column meet, minus the column's price.
+/// The price of each row: the cost in the cell of the row and its column, minus the column's price.
 pub fn row_prices<const N: usize>(cost: &[[u8; N]; N], prices: &[i16; N], to: &[u8; N]) -> [i16; N]
     requires few { N ≤ 32 }
     requires costs { AreCostsAtMost 4 cost.now }

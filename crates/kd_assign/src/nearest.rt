@@ -56,7 +56,7 @@ impl<const N: usize> Nearest<N> {
         }
     }
 
-    /// If `column` is outside the tree and its ceiling is above `offer`, makes `row` the column's nearest row.
+    /// If `column` is outside the tree and the column's ceiling is above `offer`, makes `row` the column's nearest row.
     fn compare(&mut self, reached: bool, row: usize, column: usize, offer: i16, scans: &mut Scans)
         requires column { column < N }
         requires room { scans.old < 4294967295 }
@@ -86,9 +86,9 @@ impl<const N: usize> Nearest<N> {
         self.ceiling[column] - prices[column]
     }
 
-    /// The level of `row`, which holds `column`: the column's ceiling minus the cost where the two meet.
+    /// The level of `row`, which holds `column`: the column's ceiling minus the cost in their cell.
     ///
-    /// For any column, a row of the tree offers its level plus the cost where row and column meet.
+    /// For any column, a row of the tree offers the row's level plus the cost in their cell.
     pub fn level(&self, cost: &[[u8; N]; N], row: usize, column: usize) -> i16
         requires row { row < N }
         requires column { column < N }
@@ -102,7 +102,7 @@ impl<const N: usize> Nearest<N> {
         self.ceiling[column] - i16::from(cost[row][column])
     }
 
-    /// The nearest column: of all columns outside the tree, the one with the least room (its ceiling minus its price).
+    /// The nearest column: the column outside the tree with the least room (its ceiling minus its price).
     pub fn column(
         &self,
         reached: &[bool; N],
@@ -120,10 +120,11 @@ impl<const N: usize> Nearest<N> {
         least.unwrap()
     }
 
-    /// Of two columns, the one with less room (ceiling minus price), or `first` if the tree has `second` already.
+    /// The column with less room (ceiling minus price), `first` or `second`. The result is `first` if the tree has
+    /// `second` already.
     ///
-    /// If both have equal room, `second` wins exactly if it is free, because a free column ends the tree's growth. The
-    /// contract leaves this choice open.
+    /// If both columns have equal room, `second` wins exactly if it is free, because a free column ends the tree's
+    /// growth. The contract leaves this choice open.
     fn nearer(
         &self,
         reached: &[bool; N],

@@ -20,7 +20,7 @@ impl Model for Scans {
 }
 
 impl Scans {
-    /// Creates a counter that stands at 0.
+    /// Creates a counter with the count 0.
     pub fn new() -> Self
         ensures { result ≡ 0 }
     {

@@ -8,7 +8,7 @@ use crate::columns::{assignment_cost, columns_of_rows, row_prices};
 use crate::growth::assign_row;
 use crate::scans::Scans;
 
-/// A minimum-cost assignment of rows to columns. Both are counted from 0.
+/// A minimum-cost assignment of rows to columns. Rows and columns are counted from 0.
 #[derive(Clone, Copy)]
 pub struct Solution<const N: usize> {
     /// The column of each row.
@@ -25,8 +25,9 @@ pub struct Solution<const N: usize> {
 
 /// Finds a minimum-cost assignment by the Hungarian method of Kuhn and Munkres.
 ///
-/// The method grows a tree of tight edges from each row. An edge is a row and a column. It is tight if their prices add
-/// up to the cost where they meet. If several assignments cost the least, the contract leaves open which one is found.
+/// The method grows a tree of tight edges from each row. An edge joins a row and a column. An edge is tight if its two
+/// prices add up to the cost in the cell. If several assignments cost the least, the contract leaves open which one is
+/// found.
 pub fn assign<const N: usize>(cost: &[[u8; N]; N]) -> Solution<N>
     requires some { 1 ≤ N }
     requires few { N ≤ 32 }

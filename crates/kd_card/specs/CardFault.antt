@@ -37,14 +37,15 @@ IsNumeral true text =
 
 -- ---- lines
 
--- The first line of `bytes` ends with LF. Split at each space, the line is `words`. The bytes after its LF are `rest`.
+-- The first line of `bytes` ends with LF. The list `words` has the parts of this line between its spaces. The bytes
+-- after the LF are `rest`.
 pub record HasLineWords (bytes : List ℕ) (words : List (List ℕ)) (rest : List ℕ) : Type 0 where
   pub line : List ℕ
   pub first : IsFirstPart 10 bytes line rest
   pub parts : words_of line ≡ words
 
 -- The result of reading a line such as `SUM 12`: the bytes after the line, or a fault. The line is `prefix` and then a
--- number. If the line has another form or no LF, the fault is `BadLine`. If its number isn't `due`, the fault is
+-- number. If the line has another form or no LF, the fault is `BadLine`. If the line's number isn't `due`, the fault is
 -- `CountWrong`.
 abbrev pub IsValueAnswer : Bool → List ℕ → List ℕ → ℕ → List ℕ → AnswerRule CardFault (List ℕ)
 IsValueAnswer signed prefix due line bytes = do
@@ -54,7 +55,8 @@ IsValueAnswer signed prefix due line bytes = do
   _ ← Demands (found.0 ≡ due) CountWrong
   Yields found.1
 
--- The result of reading a price line: first word, other words and the bytes after the line, or a fault.
+-- The result of reading a price line: a fault, or three values. The values are the line's first word, its other words,
+-- and the bytes after the line.
 abbrev pub IsLineAnswer : ℕ → List ℕ → AnswerRule CardFault (List ℕ × List (List ℕ) × List ℕ)
 IsLineAnswer line bytes = do
   _ ← Demands (bytes ≢ []) PriceMissing
@@ -67,12 +69,13 @@ pub record BeginsWithHead (bytes : List ℕ) (version : Version) (day : ℕ) (re
   pub text : bytes ≡ line_then (head_words version day) rest
   pub of_month : IsDayNumber day
 
--- The result of reading a card's first line: version, day and the bytes after the line, or the fault `BadHead`.
+-- The result of reading a card's first line. It is the fault `BadHead`, or the version, the day, and the bytes after
+-- the line.
 abbrev pub IsHeadAnswer : List ℕ → AnswerRule CardFault (Version × ℕ × List ℕ)
 IsHeadAnswer bytes = Finds (λ (head : Version × ℕ × List ℕ). BeginsWithHead bytes head.0 head.1 head.2) BadHead
 
--- The result of reading a card's settings: the settings, and the bytes after them. They end before the first line that
--- isn't a setting. If the first 193 lines are settings, the fault is `TooMany`.
+-- The result of reading a card's settings: the settings, and the bytes after them. The settings end before the first
+-- line that isn't a setting. If the first 193 lines are settings, the fault is `TooMany`.
 abbrev pub IsSettingsAnswer : List ℕ → AnswerRule CardFault (List Setting × List ℕ)
 IsSettingsAnswer bytes (Ok list) = BeginsWithAllSettings bytes list.0 list.1
 IsSettingsAnswer bytes (Err fault) =
@@ -81,14 +84,14 @@ IsSettingsAnswer bytes (Err fault) =
 
 -- ---- prices by number: two lines
 
--- the first word of the first price line: `CABLES` or `BARS` in version 1, `CABLE` or `BAR` in version 2
+-- the first word of the first price line: `CABLES` or `BARS` in version 1, and `CABLE` or `BAR` in version 2
 abbrev pub first_text : Version → CostTable → List ℕ
 first_text ByNumber Cables = codes "CABLES"
 first_text ByNumber Bars = codes "BARS"
 first_text ByKind Cables = cable_format.word
 first_text ByKind Bars = bar_format.word
 
--- The result of reading the first price line's first word: the table of costs that it names, or a fault.
+-- The result of reading the first price line's first word: the table of costs that the word names, or a fault.
 abbrev pub IsTableAnswer : Version → ℕ → List ℕ → AnswerRule CardFault CostTable
 IsTableAnswer version line bytes = do
   found ← IsLineAnswer line bytes
@@ -102,7 +105,8 @@ IsPricesAnswer number line words = do
   _ ← Demands (length prices ≡ number) PriceMissing
   Yields prices
 
--- The result of reading a line of `word` and `number` prices: the prices and the following bytes, or a fault.
+-- The result of reading a line that has `word` and then `number` prices: the prices and the following bytes, or a
+-- fault.
 abbrev pub IsPriceLineAnswer : List ℕ → ℕ → ℕ → List ℕ → AnswerRule CardFault (List ℤ × List ℕ)
 IsPriceLineAnswer word number line bytes = do
   found ← IsLineAnswer line bytes
@@ -111,8 +115,8 @@ IsPriceLineAnswer word number line bytes = do
   Yields (prices, found.2)
 
 -- The result of reading two price lines: both lists of prices and the following bytes, or a fault. Each line has a
--- first word and then `number` prices. The first line is for the rows of the table of costs, the second for its
--- columns.
+-- first word and then `number` prices. The first line is for the rows of the table of costs, and the second line is for
+-- its columns.
 abbrev pub IsListsAnswer : List ℕ → List ℕ → ℕ → ℕ → List ℕ → AnswerRule CardFault (List ℤ × List ℤ × List ℕ)
 IsListsAnswer row_word column_word number line bytes = do
   rows ← IsPriceLineAnswer row_word number line bytes
@@ -145,13 +149,13 @@ pub record IsNextKind {K X : Type 0} (format : KindFormat K X) (last : Option K)
 abbrev pub HasNoNext : {K X : Type 0} → KindFormat K X → Option K → List ℕ → Type 0
 HasNoNext {K} format last bytes = (kind : K) (rest : List ℕ) → ¬ (IsNextKind format last bytes kind rest)
 
--- the last of `kinds`, or `last` if `kinds` is empty
+-- the last kind in the list `kinds`, or `last` if this list is empty
 abbrev pub last_of : {K : Type 0} → Option K → List K → Option K
 last_of last [] = last
 last_of last (kind ∷ kinds) = last_of (Some kind) kinds
 
 -- `bytes` are the lines of `kinds`, and then `rest`. The kinds are valid and strictly ascending, after the kind `last`
--- if there is one. `rest` doesn't begin with the line of a kind that may follow them.
+-- if there is one. `rest` doesn't begin with the line of a kind that may follow these kinds.
 pub record BeginsWithKinds {K X : Type 0} (format : KindFormat K X) (last : Option K) (bytes : List ℕ) (kinds : List K)
     (rest : List ℕ) : Type 0 where
   pub lines : bytes ≡ kinds_text format kinds ++ rest
@@ -201,7 +205,7 @@ IsAllPricesAnswer version line bytes = do
   table ← IsTableAnswer version line bytes
   IsTablePricesAnswer version table line bytes
 
--- The result of reading the rest of a card, from the line `SETTINGS` on: the whole card, or a fault. The lines before
+-- The result of reading the rest of a card, from the line `SETTINGS` on: the whole card, or a fault. The earlier lines
 -- gave `day` and `settings`.
 abbrev pub IsRestAnswer : Version → ℕ → List Setting → ℕ → List ℕ → AnswerRule CardFault (ℕ × List Setting × PriceParts)
 IsRestAnswer version day settings number bytes = do

@@ -10,7 +10,8 @@ use Rattle.kd_tables.specs.Places.{standing_text, reading_text}
 use Rattle.std.specs.Prelude.{codes, decimal, ◌≡◌, ℕ, ◌≤◌, List, [], ◌∷◌, ◌++◌, length, map, All}
 use Rattle.std.specs.{Fmt.signed_decimal, List.flat_map}
 
--- the words of a card's first line, such as `CARD 2 DAY 31`. Version 1 has prices by number, version 2 prices by kind.
+-- the words of a card's first line, such as `CARD 2 DAY 31`. Version 1 has prices by number, and version 2 has prices
+-- by kind.
 abbrev pub head_words : Version → ℕ → List (List ℕ)
 head_words ByNumber day = codes "CARD" ∷ codes "1" ∷ codes "DAY" ∷ decimal day ∷ []
 head_words ByKind day = codes "CARD" ∷ codes "2" ∷ codes "DAY" ∷ decimal day ∷ []

@@ -1,4 +1,5 @@
--- Kinds: a kind is one entry for equal cables, columns, bars or rows. It has their count, and the price of each.
+-- Kinds: a kind is one entry for equal cables, columns, bars or rows. A kind has the number of these cables, columns,
+-- bars or rows, and the price of each.
 use Rattle.kd_card.specs.{declared.kinds.CableKind.CableKind, declared.kinds.PairKind.PairKind}
 use Rattle.kd_card.specs.{declared.kinds.BarKind.BarKind, declared.kinds.RowKind.RowKind, declared.kinds.KindOf.KindOf}
 use Rattle.kd_state.specs.{Costs.{column_letters, one_unless}, LineWords.line_of, Machine.cable_letters}
@@ -12,7 +13,7 @@ use Rattle.std.specs.declared.cmp.Ordering.{Ordering, TheVariants.Less}
 
 -- ---- keys: a cable's letters, a column's pair, a bar's standing, a row's reading
 
--- the letters of a cable or a column in the line of its kind, or `-` if there are none
+-- the letters of a cable or a column in the line of its kind, or `-` if there are no letters
 abbrev pub letters_text : List ℕ → List ℕ
 letters_text [] = codes "-"
 letters_text (letter ∷ letters) = tables.letters_text (letter ∷ letters)
@@ -21,7 +22,7 @@ letters_text (letter ∷ letters) = tables.letters_text (letter ∷ letters)
 abbrev pub kind_line : List ℕ → List ℕ → ℕ → ℤ → List (List ℕ)
 kind_line word key count price = word ∷ key ∷ decimal count ∷ signed_decimal price ∷ []
 
--- The two ends have letters in alphabetical order, or only the first end has a letter, or neither has.
+-- Two letters are in alphabetical order, or only the first end has a letter, or no end has a letter.
 abbrev pub AreEnds : Option ℕ → Option ℕ → Type 0
 AreEnds None None = Unit {0}
 AreEnds None (Some other) = ⊥
@@ -37,8 +38,8 @@ IsPairInOrder (Some pair) = (pair.0 < pair.1) × (pair.1 < 26)
 
 -- The form of kinds of one sort (of cables, columns, bars or rows) on a card. Each line begins with `word`. `kind`
 -- gives a kind's key (letters, a standing or a reading), its count and its price. `text` writes a key, such as `AB`.
--- `InForm` says which keys a card may have. Lines are sorted by the numbers that `order` gives for their keys. So empty
--- cables and empty columns come last.
+-- `InForm` says which keys a card may have. Lines are sorted by the numbers that `order` gives for the kinds' keys. So
+-- empty cables and empty columns come last.
 pub record KindFormat (K X : Type 0) : Type 1 where
   pub word : List ℕ
   pub kind : K → KindOf X
@@ -46,7 +47,7 @@ pub record KindFormat (K X : Type 0) : Type 1 where
   pub InForm : X → Type 0
   pub order : X → List ℕ
 
--- how a card writes kinds of cables: by their letters
+-- the form of kinds of cables on a card; the key of a kind is its cables' letters
 abbrev pub cable_format : KindFormat CableKind (Option ℕ × Option ℕ)
 cable_format = record {
   word = codes "CABLE";
@@ -56,7 +57,7 @@ cable_format = record {
   order = λ ends. one_unless (is_some ends.0) ∷ cable_letters ends;
 }
 
--- how a card writes kinds of columns: by the letters of the pair
+-- the form of kinds of columns on a card; the key of a kind is its columns' pair, or `None`
 abbrev pub pair_format : KindFormat PairKind (Option (ℕ × ℕ))
 pair_format = record {
   word = codes "PAIR";
@@ -66,7 +67,7 @@ pair_format = record {
   order = λ pair. one_unless (is_some pair) ∷ column_letters pair;
 }
 
--- how a card writes kinds of bars: by the places of the two lugs
+-- the form of kinds of bars on a card; the key of a kind is the places of the two lugs
 abbrev pub bar_format : KindFormat BarKind (Place × Place)
 bar_format = record {
   word = codes "BAR";
@@ -76,7 +77,7 @@ bar_format = record {
   order = λ standing. place_rank standing.0 ∷ place_rank standing.1 ∷ [];
 }
 
--- how a card writes kinds of rows: by the two numbers of the reading
+-- the form of kinds of rows on a card; the key of a kind is the two numbers of the reading
 abbrev pub row_format : KindFormat RowKind (ℕ × ℕ)
 row_format = record {
   word = codes "ROW";
@@ -95,12 +96,12 @@ key_cmp format x y = slice_cmp nat_cmp (format.order x) (format.order y)
 abbrev pub KeyComesBefore : {K X : Type 0} → KindFormat K X → X → X → Type 0
 KeyComesBefore format x y = key_cmp format x y ≡ Less
 
--- `key` (letters, a standing or a reading) is valid on a card, and `text` is how a card writes it.
+-- `key` (letters, a standing or a reading) is valid on a card, and its text on a card is `text`.
 pub record HasText {K X : Type 0} (format : KindFormat K X) (text : List ℕ) (key : X) : Type 0 where
   pub form : format.InForm key
   pub written : format.text key ≡ text
 
--- A card writes `key` (letters, a standing or a reading), and no other key, as `text`.
+-- On a card, `text` is the text of `key` (letters, a standing or a reading), and of no other key.
 pub record IsOnlyKey {K X : Type 0} (format : KindFormat K X) (text : List ℕ) (key : X) : Type 0 where
   pub has : HasText format text key
   pub only : (other : X) → HasText format text other → other ≡ key
@@ -112,14 +113,14 @@ abbrev pub ComesAfter : {K X : Type 0} → KindFormat K X → Option K → K →
 ComesAfter format None next = Unit {0}
 ComesAfter format (Some last) next = KeyComesBefore format (format.kind last).key (format.kind next).key
 
--- The kind is valid: a card may have its key. Its count is from 1 to 255, its price from -9999 to 9999.
+-- The kind is valid: a card may have its key. Its count is from 1 to 255, and its price is from -9999 to 9999.
 pub record IsKind {K X : Type 0} (format : KindFormat K X) (kind : K) : Type 0 where
   pub form : format.InForm (format.kind kind).key
   pub some : 1 ≤ (format.kind kind).count
   pub most : (format.kind kind).count ≤ 255
   pub in_range : unsigned_abs (format.kind kind).price ≤ 9999
 
--- The kinds are valid and strictly ascending. If there is a kind `last`, they come after it.
+-- The kinds are valid and strictly ascending. If there is a kind `last`, all of them come after `last`.
 abbrev pub AreKinds : {K X : Type 0} → KindFormat K X → Option K → List K → Type 0
 AreKinds format last [] = Unit {0}
 AreKinds format last (kind ∷ kinds) =
@@ -139,7 +140,8 @@ pub record IsGroup {K X : Type 0} (format : KindFormat K X) (number : ℕ) (kind
 abbrev pub expansion : {X : Type 0} → List (KindOf X) → List (X × ℤ)
 expansion kinds = flat_map (λ kind. replicate kind.count (kind.key, kind.price)) kinds
 
--- The kinds have `keys` with `prices`, in some order: each key as often as its kind's count says.
+-- In some order, the kinds have the keys `keys` with the prices `prices`. Each key comes as often as its kind's count
+-- says.
 -- Code: `kinds_of` sorts keys with their prices, and counts equal neighbours. For each key, `prices_of` takes its
 -- kind's price, and lowers the kind's count.
 pub record AreKindsOf {K X : Type 0} (format : KindFormat K X) (keys : List X) (prices : List ℤ) (kinds : List K)
@@ -160,7 +162,7 @@ kinds_text format kinds = flat_map (λ kind. line_of (kind_words format kind) ++
 
 -- ---- Reading the words of a kind's line, and listing prices. No public contract cites these definitions.
 
--- The kind is valid, and `words` are the words of its line.
+-- The kind is valid, and `words` are the words of the kind's line.
 pub record HasKindWords {K X : Type 0} (format : KindFormat K X) (words : List (List ℕ)) (kind : K) : Type 0 where
   pub good : IsKind format kind
   pub written : kind_words format kind ≡ words

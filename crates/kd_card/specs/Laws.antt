@@ -17,7 +17,8 @@ LooseThingsAreCounted =
     (machine : Parts) (day : Day) → IsMachine machine → IsLegalDay day → model_of machine ≡ day_model day
     → length (loose_lines machine day) ≡ loose_count machine day
 
--- If prices fit, no list that reaches the day is shorter than their sum plus the number of loose things.
+-- Suppose that prices fit. Then no list that reaches the day is shorter than the prices' sum plus the number of loose
+-- things.
 abbrev pub FittingPricesBoundLists : Type 0
 FittingPricesBoundLists =
     (machine : Parts) (day : Day) (prices : PriceParts) (settings : List Setting) → IsMachine machine → IsLegalDay day
@@ -25,8 +26,8 @@ FittingPricesBoundLists =
     → PricesFit (cost_table machine day) prices → LeadsToTheDay machine day settings
     → (pos (loose_count machine day) +ℤ price_sum prices) ≤ℤ pos (length settings)
 
--- A setting is unpriced if it changes no cable and no bar. If a list reaches the day with no more unpriced settings
--- than loose things, all its unpriced settings are needed.
+-- A setting is unpriced if it changes no cable and no bar. Suppose that a list reaches the day, and has no more
+-- unpriced settings than there are loose things. Then all unpriced settings of the list are needed.
 abbrev pub AsFewAreNeeded : Type 0
 AsFewAreNeeded =
     (machine : Parts) (day : Day) (settings : List Setting) → IsLegalDay day → model_of machine ≡ day_model day

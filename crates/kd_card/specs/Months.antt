@@ -17,9 +17,9 @@ pub record IsProvedCard (machine : Parts) (day : Day) (settings : List Setting) 
   pub are_prices : ArePrices prices
   pub proves : Proves machine day settings prices
 
--- Each day has one list of settings. `Sets` holds for each day, its list, and the machine before and after the list.
--- The first list is carried out on `machine`. Each later list is carried out on the machine that the previous list has
--- reached.
+-- Each day has one list of settings. The statement `Sets` holds for each day, its list, and the machines before and
+-- after the list. The first list is carried out on `machine`. Each later list is carried out on the machine that the
+-- previous list has reached.
 abbrev pub DayAfterDay : (Parts → Day → List Setting → Parts → Type 0) → Parts → List Day → List (List Setting) → Type 0
 DayAfterDay Sets machine [] [] = Unit {0}
 DayAfterDay Sets machine (day ∷ days) (settings ∷ lists) =
@@ -31,7 +31,7 @@ abbrev pub total_length : List (List Setting) → ℕ
 total_length lists = sum (map length lists)
 
 -- On a rotor machine, cards that prove themselves also have the fewest settings in total over several days. No lists
--- that reach these days, in this order and from the same first machine, have fewer.
+-- that reach these days, in this order and from the same first machine, have fewer settings.
 abbrev pub CardsAreFewestInAll : Type 0
 CardsAreFewestInAll =
     (machine : Parts) (days : List Day) (cards lists : List (List Setting)) → IsMachine machine

@@ -55,7 +55,7 @@ ArePrices (BarKinds bars rows) = IsGroup bar_format 27 bars.items × IsGroup row
 abbrev pub cost_at : List (List ℕ) → ℕ → ℕ → ℕ
 cost_at costs i j = slice_index (slice_index_or costs i []) j
 
--- item `i` of a list of prices, counted from 0; of prices by number, the price of row or column `i`
+-- item `i` of a list of prices, counted from 0. In a list of prices by number, it is the price of row or column `i`.
 abbrev pub price_at : List ℤ → ℕ → ℤ
 price_at prices i = slice_index_or prices i (pos 0)
 
@@ -68,7 +68,7 @@ PricesFitAt costs prices i j =
 abbrev pub PricesFit : List (List ℕ) → PriceParts → Type 0
 PricesFit costs prices = (i j : ℕ) → i < table_size prices → j < table_size prices → PricesFitAt costs prices i j
 
--- the sum of all prices, the machine's and the day's
+-- the sum of all prices of the machine and of the day
 abbrev pub price_sum : PriceParts → ℤ
 price_sum prices = fold (λ sum price. sum +ℤ price) (pos 0) (machine_prices prices ++ day_prices prices)
 

@@ -28,12 +28,12 @@ is_priced_setting _ = false
 abbrev pub priced_count : List Setting → ℕ
 priced_count settings = count_by is_priced_setting settings
 
--- The setting changes a cable or a bar. Or the machine carries the setting out, and then has one loose thing less.
+-- The setting is needed. It changes a cable or a bar, or the machine carries it out and then has one loose thing less.
 abbrev pub IsSettingNeeded : Parts → Day → Setting → Type 0
 IsSettingNeeded machine day setting = IsFalse (is_priced_setting setting)
     → (after : Parts) × Carries machine setting after × (loose_count machine day ≡ loose_count after day + 1)
 
--- The machine carries the settings out one after another, and each is needed when its turn comes.
+-- The machine carries the settings out one after another, and each setting is needed when its turn comes.
 abbrev pub AreSettingsNeeded : Parts → Day → List Setting → Type 0
 AreSettingsNeeded machine day [] = Unit {0}
 AreSettingsNeeded machine day (setting ∷ rest) = (after : Parts) × Carries machine setting after
@@ -51,8 +51,8 @@ AreExpanded (Pin machine) (Pin day) (BarKinds bar_kinds row_kinds) (Bars bars ro
     AreKindsOf bar_format machine.bars bars bar_kinds.items × AreKindsOf row_format day.rows rows row_kinds.items
 AreExpanded _ _ _ _ = ⊥
 
--- If `prices` are by number, `numbered` equal them. Otherwise both are valid, and `numbered` have for each cable,
--- column, bar or row the price of its kind.
+-- If `prices` are by number, the prices `numbered` equal `prices`. Otherwise, `prices` and `numbered` are valid prices,
+-- and `numbered` has for each cable, column, bar or row the price of its kind.
 pub data Expands (machine : Parts) (day : Day) (prices numbered : PriceParts) : Type 0 where
   Same : version_of prices ≡ ByNumber → prices ≡ numbered → Expands machine day prices numbered
   Expanded : ArePrices prices → ArePrices numbered → AreExpanded machine day prices numbered
@@ -61,7 +61,7 @@ pub data Expands (machine : Parts) (day : Day) (prices numbered : PriceParts) : 
 -- ---- the card proves itself
 
 -- A card with prices by number proves itself. Its settings lead the machine to the day, and each of them is needed. Its
--- prices fit the table of costs. Their sum is the number of settings that change a cable or a bar.
+-- prices fit the table of costs. The sum of the prices is the number of settings that change a cable or a bar.
 pub record ProvesByNumber (machine : Parts) (day : Day) (settings : List Setting) (prices : PriceParts) : Type 0 where
   pub model : model_of machine ≡ day_model day
   pub kind : AreModelPrices machine prices

@@ -7,12 +7,13 @@ use Rattle.kd_state.specs.LineWords.{words_of}
 use Rattle.std.specs.Prelude.{codes, ◌≡◌, ◌<◌, ◌≤◌, ℕ, ℤ, unsigned_abs, List, [], Option, Some, None, Err}
 use Rattle.std.specs.Fmt.{signed_decimal}
 
--- the words of a line after its first word, from the line's text after its first space (`None` without a space)
+-- the words of a line after its first word. The argument is the line's text after its first space, or `None` if the
+-- line has no space.
 abbrev pub words_after_first : Option (List ℕ) → List (List ℕ)
 words_after_first None = []
 words_after_first (Some text) = words_of text
 
--- The word is a price from -9999 to 9999, as a card writes it.
+-- The word is a price from -9999 to 9999, in the form that prices have on a card.
 abbrev pub IsPriceText : List ℕ → Type 0
 IsPriceText word = (price : ℤ) × (unsigned_abs price ≤ 9999) × (signed_decimal price ≡ word)
 
@@ -21,13 +22,13 @@ abbrev pub head_prefix : Version → List ℕ
 head_prefix ByNumber = codes "CARD 1 DAY "
 head_prefix ByKind = codes "CARD 2 DAY "
 
--- Line `line` of a card, with which `bytes` begin, can't be read as `word` and then prices. The fault is `fault`,
+-- `bytes` begin with line `line` of a card. This line can't be read as `word` and then prices. The fault is `fault`,
 -- whatever number of prices above 0 is asked for.
 abbrev pub IsNoPriceLine : List ℕ → ℕ → List ℕ → CardFault → Type 0
 IsNoPriceLine word line bytes fault =
     (number : ℕ) → 0 < number → IsPriceLineAnswer word number line bytes (Err fault)
 
--- A group of kinds ends before `bytes`; `last` is its last kind so far.
+-- A group of kinds ends before `bytes`; `last` is the group's last kind, if it has one.
 pub record EndsKindsAt {K X : Type 0} (format : KindFormat K X) (last : Option K) (bytes : List ℕ) : Type 0 where
   pub ends : EndsGroup format.word bytes
   pub none_more : HasNoNext format last bytes

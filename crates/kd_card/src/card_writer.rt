@@ -105,7 +105,7 @@ fn push_prices<const N: usize>(text: &mut ArrayString<N>, prices: &Prices)
     }
 }
 
-/// Appends a line: `word`, and then `prices`, each after a space.
+/// Appends a line: `word`, and then `prices`, with a space before each price.
 fn push_price_line<const N: usize>(text: &mut ArrayString<N>, word: &str, prices: &[i16])
     requires room { array_string_len text.old + length word.now + 7 * length prices.now + 1 ≤ N }
     requires in_range { ArePricesInRange prices.now }

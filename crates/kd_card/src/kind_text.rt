@@ -15,7 +15,7 @@ use kd_state::{is_word, number_of_text, push_number, split_words};
 
 /// Parses a kind from its line without the first word.
 ///
-/// Of the line `CABLE AB 1 0`, `behind` is `AB 1 0`. Of a line with only one word, `behind` is `None`. The result is
+/// For the line `CABLE AB 1 0`, `behind` is `AB 1 0`. For a line with only one word, `behind` is `None`. The result is
 /// `None` if the words don't make a valid kind.
 #[tactic(auto, using(crate::proofs::OneCard::words_in_place))]
 fn kind_of_words<K: Kind>(behind: Option<&[u8]>) -> Option<K>

@@ -1,4 +1,5 @@
-//! Kinds: a kind is one entry for equal cables, columns, bars or rows. It has their count, and the price of each.
+//! Kinds: a kind is one entry for equal cables, columns, bars or rows. A kind has the number of these cables, columns,
+//! bars or rows, and the price of each.
 ghost use Rattle.std.specs.Prelude.{◌≡◌, ◌≢◌, ◌↔◌, ℕ, ◌+◌, ◌<◌, ◌≤◌, [], ◌∷◌, ◌++◌, length, replicate, None};
 ghost use Rattle.std.specs.Prelude.{IsTrue, MatchOption};
 ghost use Rattle.arrayvec.specs.ArrayVec.{array_vec_len};
@@ -72,7 +73,7 @@ pub trait Kind: Copy + Default {
     /// The key of a kind: what its cables, columns, bars or rows have in common, such as their letters.
     type Key: Copy + Default;
 
-    /// How a card writes kinds of this type, and in which order.
+    /// The form of the kinds of this type on a card, and their order.
     ghost format: { KindFormat Self Self.Key };
 
     /// The first word of a kind's line on a card: `CABLE`, `PAIR`, `BAR` or `ROW`.
@@ -102,11 +103,11 @@ pub trait Kind: Copy + Default {
             ((key : Self.Key) → ¬ (HasText format text.now key))
             (IsOnlyKey format text.now) };
 
-    /// Compares two keys. A card sorts the lines of kinds by this order of their keys.
+    /// Compares two keys. On a card, the lines of kinds are sorted by this order of the keys.
     fn compare(one: &Self::Key, other: &Self::Key) -> Ordering
         ensures { result ≡ key_cmp format one.now other.now };
 
-    /// Keys with the same place in this order are the same key.
+    /// If `order` gives the same numbers for two keys, the keys are equal.
     ghost told_apart: { (x y : Self.Key) → format.order x ≡ format.order y → x ≡ y };
 }
 

@@ -32,7 +32,8 @@ pub fn fitting_prices_bound_lists()
     ensures { FittingPricesBoundLists }
 {}
 
-/// If a list reaches the day with no more unpriced settings than loose things, each of its settings is needed.
+/// Suppose that a list reaches the day, and has no more unpriced settings than there are loose things. Then each
+/// setting of the list is needed.
 ///
 /// A setting is priced if it changes a cable or a bar, and priced settings always count as needed. An unpriced setting
 /// is needed if it lowers the number of loose things by one.
@@ -56,7 +57,7 @@ pub fn proving_cards_are_shortest()
 
 /// If prices by kind show that a list of settings is shortest, no shorter list reaches the day.
 ///
-/// Prices show it if they fit, and if their sum plus the number of loose things is the number of settings.
+/// Prices show this if they fit, and if their sum plus the number of loose things is the number of settings.
 pub fn shown_lists_are_shortest()
     ensures { ShownListsAreShortest }
 {}
@@ -77,7 +78,7 @@ pub fn proving_prices_are_tight()
 /// On a rotor machine, cards that prove themselves have the fewest settings in total over several days.
 ///
 /// Each card begins with the machine that the card before it reaches. No other lists that reach these days, in this
-/// order and from the same first machine, have fewer.
+/// order and from the same first machine, have fewer settings.
 #[tactic(auto, using(crate::proofs::Months::cards_are_fewest_in_all))]
 pub fn cards_are_fewest_in_all()
     ensures { CardsAreFewestInAll }

@@ -1,5 +1,5 @@
-//! Reads and writes cards. A card has settings that set a machine to a day, and prices. The prices can prove that no
-//! fewer settings do.
+//! Reads and writes cards. A card has settings that set a machine to a day, and prices. The prices can prove that fewer
+//! settings aren't enough.
 #![tactic(auto)]
 
 mod card;

@@ -47,7 +47,8 @@ pub(crate) fn price_of_text(text: &[u8]) -> Option<i16>
     (price.unsigned_abs() <= 9999 && is_written_so).then_some(price)
 }
 
-/// Splits `text` into the first word, the rest of the first line (`None` without a space), and the next lines.
+/// Splits `text` into the first word, the rest of the first line (`None` if this line has no space), and the next
+/// lines.
 ///
 /// If `text` is empty, the fault is `PriceMissing`. If the first line, which is line `line` of the card, has no LF, the
 /// fault is `BadLine`.
@@ -100,7 +101,7 @@ fn are_prices(text: &[u8]) -> bool
         .all(|word| price_of_text(word).is_some())
 }
 
-/// Parses each of `words` as a price. `None` if one of them isn't a price.
+/// Parses each of `words` as a price. `None` if one of the words isn't a price.
 fn prices_of_words<const N: usize>(words: &[&[u8]]) -> Option<ArrayVec<i16, N>>
     requires { length words.now ≤ N }
     ensures { let texts = map (λ word. word.now) words.now in

@@ -1,5 +1,5 @@
-//! The prices of a card, by number or by kind. By number, each cable, column, bar or row has its own price. By kind,
-//! each kind of them has one price.
+//! The prices of a card, by number or by kind. With prices by number, each cable, column, bar or row has its own price.
+//! With prices by kind, all cables, columns, bars or rows of one kind share a price.
 ghost use Rattle.kd_card.specs.Prices.{price_sum, version_of, ArePricesInRange, IsPriceList, ArePrices};
 ghost use Rattle.kd_card.specs.{CardFault.first_text, CardText.price_lines, Kinds.IsGroup, Reading.head_prefix};
 ghost use Rattle.std.specs.Prelude.{◌≡◌, ◌↔◌, ◌+◌, ◌*◌, ◌≤◌, ◌++◌, length, fold, pos, unsigned_abs, ◌+ℤ◌, IsTrue};

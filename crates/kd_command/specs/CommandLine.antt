@@ -70,7 +70,7 @@ desk_grammar = record {
 -- Code: `Command` has two type parameters: for files that are read whole, and for a file that is streamed.
 -- Test: tests/cases/desk-program.toml
 
--- the task, with `f` applied to its file that is read whole, and `g` to its file that is streamed
+-- the task, with `f` applied to its file that is read whole, and with `g` applied to its file that is streamed
 abbrev pub with_task_files : {F G O P : Type 0} → (F → G) → (O → P) → Task F O → Task G P
 with_task_files f g tasks.Card = tasks.Card
 with_task_files f g (tasks.Check card) = tasks.Check (f card)
@@ -148,12 +148,12 @@ HasActionWords rows actions.Type = Unit {0}
 HasActionWords rows (actions.Apply list) = first_of (codes "LIST") rows ≡ Some list
 HasActionWords rows (actions.OnDay sheet day task) = HaveSheetAndDay rows sheet day × HasTaskFile rows task
 
--- `said` is a command's name and the values of its arguments. They mean the action `action`.
+-- `said` is a command's name and the values of its arguments. The name and the values mean the action `action`.
 pub record IsActionOf (said : List ℕ × List Row) (action : NamedAction) : Type 0 where
   pub name : said.0 ≡ action_name action
   pub words : HasActionWords said.1 action
 
--- `said` is a command's name and the values of its arguments. They mean the command `command`.
+-- `said` is a command's name and the values of its arguments. The name and the values mean the command `command`.
 pub record IsCommandOf (said : List ℕ × List Row) (command : NamedCommand) : Type 0 where
   pub machine : first_of (codes "MACHINE") said.1 ≡ Some command.machine
   pub action : IsActionOf said command.action

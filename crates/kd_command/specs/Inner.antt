@@ -9,11 +9,11 @@ use Rattle.kd_command.specs.declared.command.Action.{Action}
 use Rattle.kd_command.specs.declared.command.Task.{Task}
 use Rattle.kd_command.specs.CommandLine.{NamedCommand, IsCommandOf, command_shape, with_action_files, with_task_files}
 
--- a grammar whose only command is `shape`, without subcommands
+-- a grammar that has only the command `shape`, and no subcommands
 abbrev pub app_without_subcommands : Shape → App
 app_without_subcommands shape = record { top = shape; subs = [] }
 
--- `command_shape`, but the names of the arguments are borrowed
+-- the result of `command_shape`, but with borrowed names of arguments
 abbrev pub borrowed_shape : List ℕ → List (Bor (List ℕ)) → Shape
 borrowed_shape name words = command_shape name (map (λ word. word.now) words)
 

@@ -14,8 +14,8 @@ use std::convert::AsStr;
 
 /// A command of the desk, with its files or their names.
 ///
-/// `F` stands for a file that is read whole, and `O` for an order or a form, which is streamed. In a parsed command
-/// both are file names. When a command is carried out, `F` is the file's contents, and `O` the opened file.
+/// `F` stands for a file that is read whole, and `O` for an order or a form, which is streamed. In a parsed command,
+/// `F` and `O` are file names. When a command is carried out, `F` is the file's contents, and `O` is the opened file.
 #[derive(Drop)]
 pub struct Command<F, O> {
     /// The machine file.
@@ -102,8 +102,8 @@ impl From<AllocError> for NoCommand {
 
 /// Parses the command line `words`, which begins with the program's own name.
 ///
-/// A file name that begins with `-` must come after the argument `--`, unless it is `-` alone. The argument `--` may
-/// come once, after the command's name. An invalid command line gives `Usage`.
+/// A file name that begins with `-` must come after the argument `--`, unless the name is `-` alone. The argument `--`
+/// may come once, after the command's name. An invalid command line gives `Usage`.
 pub fn parse_words<'a, S: AsStr>(
     alloc: Global,
     words: &'a [S],

@@ -22,7 +22,7 @@ abbrev pub error_text : Result (Unit {0}) Stop → List ℕ
 error_text (Ok done) = []
 error_text (Err stop) = stop_line stop
 
--- the exit status: 0 if all went well, 2 for an invalid command line, 1 for a refusal
+-- the exit status: 0 if all went well, 2 for an invalid command line, and 1 for a refusal
 abbrev pub status_of : Result (Unit {0}) Stop → ℕ
 status_of (Ok done) = 0
 status_of (Err Usage) = 2

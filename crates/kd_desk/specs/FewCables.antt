@@ -1,4 +1,5 @@
--- If a machine uses only its first `number` cables, they suffice for a month of days with at most `number` pairs.
+-- If a machine uses only its first `number` cables, these cables suffice for a month of days with at most `number`
+-- pairs.
 use Rattle.std.specs.Prelude.{◌≡◌, ℕ, List, Option, Some, Ok, All}
 use Rattle.kd_state.specs.declared.machine.parts.Parts.{Parts}
 use Rattle.kd_state.specs.declared.setting.Setting.{Setting}
@@ -31,7 +32,7 @@ pub record UsesFirstCablesOnly (number : ℕ) (papers : CardAndFile) : Type 0 wh
   pub file : FileUsesNoneAbove number papers.file
 
 -- The first machine file uses only the first `number` cables, and each day has at most `number` pairs. Then the month
--- uses only these cables. So if only cables 1 to 10 are in use, they suffice for ten pairs a day.
+-- uses only these cables. So if only cables 1 to 10 are in use, these cables suffice for ten pairs a day.
 abbrev pub FewCablesServeAMonth : Type 0
 FewCablesServeAMonth =
     (number : ℕ) (file sheet days : List ℕ) (papers : List CardAndFile) → AreWrittenInTurn file sheet days papers

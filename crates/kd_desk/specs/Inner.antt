@@ -29,8 +29,8 @@ with_action_stream g action = with_action_files (λ file. file) g action
 abbrev pub HasNoFailedRead : {O : Type 0} → (O → Bool) → Option O → Type 0
 HasNoFailedRead failed file = IfSome file (λ f. failed f ≡ false)
 
--- A task was carried out as `IsCommandDone` says of a command. It has the machine file `machine`, and day `number` of
--- the key sheet `sheet`.
+-- A task was carried out as `IsCommandDone` says of a command. The task has the machine file `machine`, and day
+-- `number` of the key sheet `sheet`.
 pub record IsTaskDone (left : KnownFile) (machine sheet : List ℕ) (number : ℕ) (task : KnownTask) (sink : Port)
     (answer : Result (Unit {0}) Stop) : Type 0 where
   pub told : Result (Unit {0}) DeskFault

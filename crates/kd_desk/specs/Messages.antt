@@ -15,7 +15,7 @@ use Rattle.kd_desk.specs.declared.fault.DeskFault.{DeskFault}
 use Rattle.kd_desk.specs.declared.fault.DeskFault.TheVariants as faults
 use Rattle.kd_tables.specs.Ports.{Port}
 
--- the desk's fault for a message's fault: `Device` and `ReadTooLong` stay, any other fault becomes a `Message`
+-- the desk's fault for a message's fault: `Device` and `ReadTooLong` stay, and any other fault becomes a `Message`
 abbrev pub fault_of_message : FormFault → DeskFault
 fault_of_message message.Device = faults.Device
 fault_of_message message.ReadTooLong = faults.ReadTooLong
@@ -25,8 +25,8 @@ fault_of_message fault = faults.Message fault
 abbrev pub answer_to_message : Result (Unit {0}) FormFault → Result (Unit {0}) DeskFault
 answer_to_message answer = result_map_both (λ done. done) fault_of_message answer
 
--- A call that types, sends or receives a message gave the answer `told`. This answer satisfies `is_so`, and the desk's
--- answer `answer` is made from it.
+-- A call that types, sends or receives a message gave the answer `told`. The answer `told` satisfies `is_so`, and the
+-- desk's answer `answer` is made from `told`.
 pub record IsAnswered (is_so : Result (Unit {0}) FormFault → Type 0) (answer : Result (Unit {0}) DeskFault)
     : Type 0 where
   pub told : Result (Unit {0}) FormFault
@@ -45,7 +45,7 @@ IsStreamedOn m s message source sink answer = IsAnswered (StreamsOnKey m s messa
 abbrev pub Sends : Parts → Day → Port → Port → Result (Unit {0}) DeskFault → Type 0
 Sends m s order sink answer = IsStreamedOn m s (order_message s) order sink answer
 
--- How the forms and the orders of day `s` agree. If a form is made from an order, its text is the text that the
+-- How the forms and the orders of day `s` agree. If a form is made from an order, the form's text is the text that the
 -- receiver must get. A form with a fault is made from no order. If no further bytes can change the fault, no order's
 -- form begins with the faulty form.
 pub record FormsAgreeWithOrders (s : Day) : Type 0 where

@@ -33,8 +33,8 @@ use Rattle.kd_desk.specs.RunCard.{IsChosenCard, Prints}
 use Rattle.kd_desk.specs.RunCheck.{Checks}
 use Rattle.kd_desk.specs.CallAnswers.{LacksMemory, AnswersFault, is_refused_before_message, is_device}
 
--- A task whose files have been read or opened. A file that is read whole is given by its bytes, an opened file by a
--- `KnownFile`.
+-- A task whose files have been read or opened. A file that is read whole is given by its bytes, and an opened file is
+-- given by a `KnownFile`.
 abbrev pub KnownTask : Type 0
 KnownTask = Task (List ℕ) KnownFile
 
@@ -44,12 +44,12 @@ KnownAction = Action (List ℕ) KnownFile
 abbrev pub KnownCommand : Type 0
 KnownCommand = Command (List ℕ) KnownFile
 
--- `made` applied to the file, or the fault if the file couldn't be read or opened
+-- the function `made` applied to the file, or the fault if the file couldn't be read or opened
 abbrev pub with_file : {F X : Type 0} → Result F FileFault → (F → Result X FileFault) → Result X FileFault
 with_file (Ok file) made = made file
 with_file (Err fault) made = Err fault
 
--- the task with its files read or opened, or the fault of the first file for which this fails
+-- the task with its files read or opened, or the fault of the first file that couldn't be read or opened
 abbrev pub known_task : (List ℕ → Option (List ℕ)) → NamedTask → Result KnownTask FileFault
 known_task held tasks.Card = Ok tasks.Card
 known_task held (tasks.Check card) = with_file (content_of (held card)) (λ bytes. Ok (tasks.Check bytes))
@@ -70,12 +70,12 @@ known_command held command =
 
 -- ---- What each command does, as the contract of its function promises.
 
--- A text was typed on the machine of a machine file. Or the machine file was refused, or memory ran out.
+-- Either a text was typed on the machine of a machine file, or the machine file was refused, or memory ran out.
 pub record TypesOn (machine : List ℕ) (source sink : Port) (answer : Result (Unit {0}) DeskFault) : Type 0 where
   pub refused : IfErr (machine_of machine) (λ fault. AnswersFault answer (File fault))
   pub typed : IfOk (machine_of machine) (λ m. TypesText m source sink answer ⊎ LacksMemory answer)
 
--- Settings were carried out on the machine of a machine file. Or the machine file was refused, or memory ran out.
+-- Either the bytes `list` were applied to the machine of a machine file, or the file was refused, or memory ran out.
 pub record AppliesTo (machine list : List ℕ) (sink : Port) (answer : Result (Unit {0}) DeskFault) : Type 0 where
   pub refused : IfErr (machine_of machine) (λ fault. AnswersFault answer (File fault))
   pub applied : IfOk (machine_of machine) (λ m. Applies m list sink answer ⊎ LacksMemory answer)
@@ -100,7 +100,7 @@ DoesCommand command source sink answer = DoesAction command.machine command.acti
 
 -- ---- How a command is carried out, and what is left of the file that it opened.
 
--- the opened file as a port: `file` is what is known of it before a call, `left` after the call
+-- the opened file as a port. `file` is what is known of the file before a call, and `left` is what is known after it.
 abbrev pub file_port : KnownFile → KnownFile → Port
 file_port left file = record { had = file.bytes; has = left.bytes; had_failed = file.failed; has_failed = left.failed }
 
@@ -121,7 +121,7 @@ pub record IsCommandDone (left : KnownFile) (command : KnownCommand) (source sin
   pub does : DoesCommand (with_command_stream (file_port left) command) source sink told
   pub answers : answer ≡ stop_after (has_file_failed (command_stream command) left) told
 
--- A command was carried out. Or a file of the command couldn't be read or opened, or memory ran out.
+-- Either a command was carried out, or a file of the command couldn't be read or opened, or memory ran out.
 abbrev pub CarriesOut : KnownFile → Result KnownCommand FileFault → Port → Port → Result (Unit {0}) Stop → Type 0
 CarriesOut left (Ok command) source sink answer =
     IsCommandDone left command source sink answer ⊎ StopsForMemory answer

@@ -13,9 +13,10 @@ use Rattle.kd_tables.specs.Ports.{Port}
 use Rattle.kd_host.specs.Writing.{WritesText}
 use Rattle.kd_desk.specs.Settings.{AreSettings, IsSettingsFault}
 
--- The bytes aren't settings, and the answer is the fault of the bytes. Or the machine refuses a setting, and the answer
--- is the first line that it refuses. Or the settings lead to a machine `n`, and the machine file of `n` is written.
--- This file is read as exactly `n`.
+-- One of these cases holds:
+-- - The bytes are neither a list nor a card, and the answer is the fault of the bytes.
+-- - The machine refuses a setting, and the answer names the first refused line.
+-- - The settings lead to a machine `n`, and the machine file of `n` is written. This file is read as exactly `n`.
 pub data Applies (m : Parts) (bytes : List ℕ) (sink : Port) (answer : Result (Unit {0}) DeskFault) : Type 0 where
   NoSettings : (fault : DeskFault) → IsSettingsFault bytes fault → answer ≡ Err fault → Applies m bytes sink answer
   RefusedLine : (settings : List Setting) (fault : IllegalAt) → AreSettings bytes settings

@@ -29,7 +29,7 @@ pub record IsShortestCard (machine : Parts) (day : Day) (settings : List Setting
   pub shown : ShowShortest machine day settings prices
   pub deciphers : EquallySetDecipherOn day
 
--- A card that satisfies `Promise` was written for day `number`. Or the sink failed, and only a prefix of the card was
+-- A card that satisfies `Promise` was written for day `number`. If the sink failed, only a prefix of the card was
 -- written.
 pub record WritesCard (Promise : List Setting → PriceParts → Type 0) (number : ℕ) (sink : Port)
     (answer : Result (Unit {0}) DeskFault) : Type 0 where

@@ -17,13 +17,13 @@ use Rattle.kd_desk.specs.declared.fault.DeskFault.TheVariants as faults
 abbrev pub begins_as_card : List ℕ → Bool
 begins_as_card bytes = starts_with nat_eq bytes (codes "CARD ")
 
--- The bytes are a card with the settings `settings`, for any day and with any prices. Or they are a list of `settings`.
+-- The bytes are a card with the settings `settings`, for any day and any prices, or they are a list of `settings`.
 pub data AreSettings (bytes : List ℕ) (settings : List Setting) : Type 0 where
   OfCard : IsTrue (begins_as_card bytes) → (day : ℕ) (prices : PriceParts) → IsCard bytes day settings prices
       → AreSettings bytes settings
   OfList : IsFalse (begins_as_card bytes) → IsListText bytes settings → AreSettings bytes settings
 
--- `fault` is the fault of `bytes` as a card if they begin with `CARD` and a space, otherwise as a list.
+-- `fault` is why `bytes` aren't a card if they begin with `CARD` and a space, and why they aren't a list otherwise.
 pub data IsSettingsFault (bytes : List ℕ) (fault : DeskFault) : Type 0 where
   InCard : IsTrue (begins_as_card bytes) → (card : CardFault) → IsCardFault bytes card → fault ≡ faults.Card card
       → IsSettingsFault bytes fault

@@ -40,10 +40,11 @@ pub fn months_are_fewest()
     ensures { MonthsAreFewest }
 {}
 
-/// If a machine uses only its first `number` cables, they suffice for a month of days with at most `number` pairs.
+/// If a machine uses only its first `number` cables, these cables suffice for a month of days with at most `number`
+/// pairs.
 ///
-/// For example, a machine uses only its first ten cables, and each day has at most ten pairs. Then the month's cards
-/// name only these cables, and only these are used.
+/// For example, suppose that a machine uses only its first ten cables, and that each day has at most ten pairs. Then
+/// the month's cards name only these cables, and only these cables are used.
 pub fn few_cables_serve_a_month()
     ensures { FewCablesServeAMonth }
 {}

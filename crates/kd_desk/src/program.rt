@@ -35,7 +35,7 @@ use std::convert::AsStr;
 /// on `errors` says why. If `errors` fails, only a prefix of the line is written. Each file is read or opened once, in
 /// the order of the command line. An order or a form is opened in its turn, but read only while the command is carried
 /// out. Every other file is read whole before the next file is read or opened. If a file can't be read or opened, no
-/// later file is asked for. Then nothing is read from `source`, and nothing is written to `sink`.
+/// later file is asked for. In this case, nothing is read from `source`, and nothing is written to `sink`.
 pub fn run_desk<'n, S: AsStr, F: Files<'n>, R: Source, W: Sink, E: Sink>(
     alloc: Global,
     words: &'n [S],

@@ -14,13 +14,13 @@ use std::alloc::Global;
 /// Receives `form` on the machine in the file `machine`, and writes the form's text.
 ///
 /// The machine must be on the key of day `number` of the key sheet `sheet`. The form is streamed: a part's text is
-/// written once the next part begins. Before the form is read, faults are tested in this order: of the machine file, of
-/// the sheet, `NoSuchDay`, `NotReady`, `NotOnKey`. At these faults, nothing of the form has been read, and nothing has
-/// been written.
+/// written once the next part begins. Before the form is read, faults are tested in this order: faults of the machine
+/// file, faults of the sheet, `NoSuchDay`, `NotReady`, `NotOnKey`. At these faults, nothing of the form has been read,
+/// and nothing has been written.
 ///
-/// While the form is read, its own faults, such as `BadByte`, can come. `ReadTooLong` comes if it has more than
-/// 1,048,576 bytes, and `Device` if a read or a write fails. The texts of the parts before the fault are written, or a
-/// prefix of them if a write failed.
+/// While the form is read, the form's own faults, such as `BadByte`, can come. `ReadTooLong` comes if the form has more
+/// than 1,048,576 bytes, and `Device` comes if a read or a write fails. The texts of the parts before the fault are
+/// written, or a prefix of them if a write failed.
 pub fn run_receive<R: Source, W: Sink>(
     alloc: Global,
     machine: &[u8],

@@ -14,13 +14,13 @@ use std::alloc::Global;
 /// Sends `order` on the machine in the file `machine`, and writes the order's form.
 ///
 /// The machine must be on the key of day `number` of the key sheet `sheet`. The order is streamed: a part is written
-/// once the first letter of the next part is read. Before the order is read, faults are tested in this order: of the
-/// machine file, of the sheet, `NoSuchDay`, `NotReady`, `NotOnKey`. At these faults, nothing of the order has been
-/// read, and nothing has been written.
+/// once the first letter of the next part is read. Before the order is read, faults are tested in this order: faults of
+/// the machine file, faults of the sheet, `NoSuchDay`, `NotReady`, `NotOnKey`. At these faults, nothing of the order
+/// has been read, and nothing has been written.
 ///
-/// While the order is read, its own faults, such as `BadByte`, can come. `ReadTooLong` comes if it has more than
-/// 1,048,576 bytes, and `Device` if a read or a write fails. The parts made before the fault are written, or a prefix
-/// of them if a write failed.
+/// While the order is read, the order's own faults, such as `BadByte`, can come. `ReadTooLong` comes if the order has
+/// more than 1,048,576 bytes, and `Device` comes if a read or a write fails. The parts made before the fault are
+/// written, or a prefix of them if a write failed.
 pub fn run_send<R: Source, W: Sink>(
     alloc: Global,
     machine: &[u8],

@@ -1,6 +1,7 @@
--- The cipher of the Converter M-209. It reverses each letter (A becomes Z), and moves it on by the number of bars that
--- the wheels meet. Wheels are numbered from 1 to 6. Letters of a text and places of a wheel are counted from 0.
--- Source: War Department TM 11-380
+-- The cipher of the Converter M-209. The cipher reverses each letter (A becomes Z), and moves the result on by the
+-- number of bars that the wheels meet. Wheels are numbered from 1 to 6. Letters of a text and places of a wheel are
+-- counted from 0.
+-- Source: War Department TM 11-380.
 -- Code: `Converter` turns its wheels at each letter. A table says for each of the 64 sets of wheels how many bars they
 -- meet.
 -- Test: bars_are_met, tests/cases/desk-files.toml
@@ -11,9 +12,9 @@ use Rattle.kd_tables.specs.Rings.{ring_of, place_on}
 use Rattle.kd_pins.specs.PinWheel.{is_effective}
 use Rattle.kd_pins.specs.PinWheels.{pin_wheels, pins_on, acting_offset}
 
--- A key of the Converter. `pins`: which pins of its six wheels are effective. `letters`: the letters that they show.
--- `bars`: for each bar, the numbers of the wheels at its two lugs, in either order. The number is 0 at a place without
--- a wheel.
+-- A key of the Converter. `pins`: which pins of its six wheels are effective. `letters`: the letters that the wheels
+-- show. `bars`: for each bar, the numbers of the wheels at its two lugs, in either order. The number is 0 at a place
+-- without a wheel.
 pub record PinKey : Type 0 where
   pub pins : List (List Bool)
   pub letters : List ℕ

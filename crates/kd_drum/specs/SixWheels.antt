@@ -5,7 +5,7 @@ use Rattle.kd_pins.specs.PinWheel.{TurnedWheel, IsWheel, letter_shown}
 use Rattle.kd_pins.specs.PinWheels.{acting_offset}
 use Rattle.kd_drum.specs.Converter.{PinKey}
 
--- The wheel is wheel `number`, and has `size` places.
+-- The wheel is the pin wheel with the number `number`, and has `size` places.
 pub record IsPinWheel (number size : ℕ) (wheel : TurnedWheel) : Type 0 where
   pub ring : wheel.ring ≡ ring_of number
   pub offset : wheel.offset ≡ acting_offset number

@@ -124,7 +124,7 @@ impl Converter {
 
     /// The number of bars that the wheels meet for the next letter.
     ///
-    /// A wheel meets a bar if its acting pin is effective, and the bar has a lug at the wheel.
+    /// A wheel meets a bar if the wheel's acting pin is effective, and the bar has a lug at the wheel.
     pub fn met(&self) -> u8
         ensures value { result ≡ bars_met self.now 0 }
         ensures most { result ≤ 27 }
@@ -176,7 +176,7 @@ impl Converter {
     }
 }
 
-/// Reverses `letter` (A becomes Z, B becomes Y), and moves it on by `met` places, with A after Z.
+/// Reverses `letter` (A becomes Z, B becomes Y), and moves the reversed letter on by `met` places, with A after Z.
 fn reversed_letter(met: u8, letter: Letter) -> Letter
     requires { met ≤ 27 }
     ensures { result ≡ (25 + met - letter) % 26 }

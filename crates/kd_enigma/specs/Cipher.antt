@@ -1,4 +1,4 @@
--- The key of a rotor machine, before and after key presses; the current's path, and the cipher.
+-- The key of a rotor machine before and after key presses, the current's path, and the cipher.
 -- Code: `Enigma` keeps each part of the key in a field; the window is in its stepper.
 -- Test: the_rings_do_not_turn_the_notches
 use Rattle.std.specs.Prelude.{ℕ, List, [], ◌∷◌, ◌++◌, map, reverse, slice_index}
@@ -33,7 +33,7 @@ key_after key n = key_turned key (window_after key.wheels key.window n)
 
 -- ---- The current's path as a product of permutations, and the cipher that steps the wheels before each letter.
 -- Source: the published accounts of the current's path.
--- Code: `Enigma` keeps one table, the path for the letters in the windows, and makes it anew after each step.
+-- Code: `Enigma` keeps the path for the letters in the windows as one table, and makes this table anew after each step.
 -- Test: tests/refusals
 
 -- the wheels' permutations for given ring letters and window letters; all lists are in order from the left

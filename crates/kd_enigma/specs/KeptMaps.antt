@@ -8,12 +8,13 @@ use Rattle.kd_step.specs.Stepper.{Stepping}
 use Rattle.kd_enigma.specs.CurrentPath.{SeatedWheel, around_wheels}
 use Rattle.kd_enigma.specs.Cipher.{RotorKey, IsPlugboard, path}
 
--- the items of the slow wheels: all but the last item, which is the right wheel's
+-- the list without its last item. In a list with an item for each slot, the last item is the right wheel's, and the
+-- others are the slow wheels'.
 abbrev pub slow_slots : {X : Type 0} → List X → List X
 slow_slots slots = take (length slots - 1) slots
 
 -- The wheels in their slots, each with the board to its right. The right wheel has the plugboard, and each other wheel
--- a permutation that changes nothing.
+-- has a permutation that changes nothing.
 abbrev pub wheels_with_boards : List ℕ → List Wheel → List ℕ → List SeatedWheel
 wheels_with_boards plugs (wheel ∷ []) (ring ∷ rings) = record { wheel = wheel; ring = ring; board = plugs } ∷ []
 wheels_with_boards plugs (wheel ∷ wheels) (ring ∷ rings) =

@@ -2,7 +2,7 @@
 use Rattle.std.specs.Prelude.{◌≡◌, ℕ, ◌<◌, List, ◌++◌, length, take, slice_index}
 use Rattle.std.specs.List.{range_with_len}
 
--- the contents of the six lanes after the 26 letters' lanes: each holds its own number, from 26 to 31
+-- the contents of the six lanes after the letters' lanes: each spare lane holds its own number, from 26 to 31
 abbrev pub spare_lanes : List ℕ
 spare_lanes = range_with_len 26 6
 

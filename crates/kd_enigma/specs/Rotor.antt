@@ -7,11 +7,12 @@ use Rattle.kd_tables.specs.Permutation.{followed_by, shift}
 use Rattle.kd_tables.specs.Tables.{wiring_of}
 use Rattle.kd_tables.specs.declared.wheel.Wheel.{Wheel}
 
--- by how many places a wheel is turned from the position of its published wiring: window letter minus ring letter
+-- the number of places that a wheel is turned from the position of its published wiring: window letter minus ring
+-- letter
 abbrev pub offset : ℕ → ℕ → ℕ
 offset ring letter = (letter + (26 - ring)) % 26
 
--- the permutation of a wiring that is turned by `by` places
+-- the permutation of a wiring that is turned by a number of places, `by`
 unfoldable pub wiring_turned_by : ℕ → List ℕ → List ℕ
 wiring_turned_by by wiring = followed_by (followed_by (shift by) wiring) (shift (26 - by))
 

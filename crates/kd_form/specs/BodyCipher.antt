@@ -59,7 +59,7 @@ text_of_body letters = slice_range letters 10 (length letters - 10)
 -- first that fails gives the fault:
 -- - `HasIndicatorsAround` holds for the indicators before and after the text.
 -- - Each external letter is on its wheel.
--- - The list letters are the day's.
+-- - The list letters are the day's list letters.
 -- - There is an internal key.
 abbrev pub IsPinAnswer : Day → ℕ → List ℕ → AnswerRule FormFault (List ℕ)
 IsPinAnswer s part letters = do
@@ -72,8 +72,8 @@ IsPinAnswer s part letters = do
 -- ---- The letters of a body for either kind of machine.
 -- Test: tests/cases/desk-messages.toml
 
--- The indicator is valid for the day's model. On a rotor machine, its ground setting and its enciphered key have a
--- letter for each slot. On the Converter M-209, there is no indicator.
+-- The indicator is valid for the day's model. On a rotor machine, the indicator's ground setting and enciphered key
+-- have a letter for each slot. On the Converter M-209, there is no indicator.
 abbrev pub HasIndicator : Day → Option Indicator → Type 0
 HasIndicator (Rotor s) (Some i) = AreLetters (length s.wheels) i.ground_setting
     × AreLetters (length s.wheels) i.enciphered_key
@@ -81,8 +81,8 @@ HasIndicator (Pin s) None = Unit {0}
 HasIndicator (Rotor s) None = ⊥
 HasIndicator (Pin s) (Some i) = ⊥
 
--- The answer for the letters of a body. With an indicator in the heading, it is as on a rotor machine, otherwise as on
--- the Converter M-209.
+-- The answer for the letters of a body. If the heading has an indicator, it is the answer for a rotor machine,
+-- otherwise for a Converter M-209.
 abbrev pub IsLettersAnswer : Day → ℕ → Option Indicator → List ℕ → AnswerRule FormFault (List ℕ)
 IsLettersAnswer s part (Some i) letters = IsRotorAnswer s part i letters
 IsLettersAnswer s part None letters = IsPinAnswer s part letters

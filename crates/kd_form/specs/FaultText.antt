@@ -5,7 +5,8 @@ use Rattle.kd_tables.specs.Refusals.{refusal_name, word_after_space}
 use Rattle.kd_form.specs.declared.fault.FormFault.{FormFault}
 use Rattle.kd_form.specs.declared.fault.FormFault.TheVariants as faults
 
--- the text of a fault: its number, its name, and then the place or the numbers that the fault has
+-- the text of a fault: the refusal's number and name, and then the fault's details, such as a position or a part's
+-- number
 abbrev pub form_fault_text : FormFault → List ℕ
 form_fault_text faults.NotReady = refusal_name refusals.NotReady
 form_fault_text faults.Device = refusal_name refusals.Device

@@ -1,5 +1,5 @@
 -- How a form is cut into parts. A part is a heading line and all lines before the next heading line.
--- Code: `FormReader` reads byte by byte. By the first six bytes of a line it sees whether this is a heading line.
+-- Code: `FormReader` reads byte by byte. The first six bytes of a line show whether the line is a heading line.
 -- Test: tests/cases/desk-messages.toml
 use Rattle.std.specs.Prelude.{codes, ◌≡◌, ◌≢◌, ◌⊎◌, ℕ, ◌%◌, ◌≤◌, ◌==◌, ◌&&◌, nat_le, Bool, IsTrue, if◌then◌else◌}
 use Rattle.std.specs.Prelude.{List, [], ◌∷◌, ◌++◌, take, slice_index}

@@ -42,14 +42,15 @@ FitsHeadingAt place byte = (place < 5 → byte ≡ slice_index (codes "PART ") p
 abbrev pub HasBegunHeading : List ℕ → Type 0
 HasBegunHeading bytes = ((count : ℕ) × (count ≤ 5) × (bytes ≡ take count (codes "PART "))) ⊎ BeginsHeading bytes
 
--- `part` is the beginning of a heading line, without LF. `held` is `part`, cut off after 64 bytes if it is longer.
+-- `part` is the beginning of a heading line, without LF. The bytes `held` are `part`, or the first 64 bytes of `part`
+-- if it is longer.
 pub record HoldsLine (held part : List ℕ) : Type 0 where
   pub kept : held ≡ take 64 part
   pub unbroken : IsWithout 10 part
   pub begins : HasBegunHeading part
 
--- `first` has the first six bytes of the last line of `body`, or this whole line if it is shorter. `line` comes before
--- `body`.
+-- `first` has the first six bytes of the last line of `body`, or this whole line if it is shorter. The line before
+-- `body` is `line`.
 pub record HasLastLineStart (line body first : List ℕ) : Type 0 where
   pub settled : List ℕ
   pub tail : List ℕ
@@ -59,7 +60,7 @@ pub record HasLastLineStart (line body first : List ℕ) : Type 0 where
   pub unbroken : IsWithout 10 tail
   pub kept : first ≡ take 6 tail
 
--- `part` is a heading line and `body`. The reader holds, in `b`, the heading and the first 525 letters of `body`.
+-- `part` is a heading line and then `body`. The reader holds, in `b`, the heading and the first 525 letters of `body`.
 pub record HoldsBody (s : Day) (b : PartBody) (part body : List ℕ) : Type 0 where
   pub line : List ℕ
   pub first : IsFirstPart 10 part line body
@@ -81,12 +82,13 @@ abbrev pub HoldsFormStage : Day → FormStage → ℕ → Option ℕ → List �
 HoldsFormStage s (stages.Heading line) number expected part = HoldsLine line.items part × (length part < 6 → number ≡ 1)
 HoldsFormStage s (stages.Body b) number expected part = HoldsPart s b number expected part
 
--- The letters of a body after the heading `h` are deciphered, and `made` are the bytes of their text.
+-- The letters of a body after the heading `h` are deciphered to a text, and the bytes `made` are this text.
 abbrev pub IsBodyPlaintext : Day → Heading → List ℕ → List ℕ → Type 0
 IsBodyPlaintext s h letters made = (text : List ℕ) × IsBodyAnswer s h.part h letters (Ok text)
     × (made ≡ plaintext_bytes s text)
 
--- The body that `b` holds, without its last `others` letters, is deciphered to `output`, or refused.
+-- The body that `b` holds is deciphered to `output`, or refused. The body's last letters are left out; `others` is
+-- their number.
 abbrev pub IsDecipherAnswer : Day → PartBody → ℕ → List ℕ → Result (Unit {0}) FormFault → Type 0
 IsDecipherAnswer s b others output answer =
     (letters more : List ℕ) → length more ≡ others → b.letters.items ≡ take 525 (letters ++ more)
@@ -94,13 +96,14 @@ IsDecipherAnswer s b others output answer =
     (λ _. IsBodyPlaintext s b.heading letters output)
     (λ fault. IsBodyAnswer s b.heading.part b.heading letters (Err fault))
 
--- `part` has no LF, so it ends within its heading line. `found` is the heading in it, or `None` if there is no heading.
+-- `part` has no LF, so it ends within its heading line. `found` is the heading in this line, or `None` if there is no
+-- heading.
 abbrev pub IsOpenHeading : Day → List ℕ → Option Heading → Type 0
 IsOpenHeading s part found =
     MatchOption found ((h : Heading) (body : List ℕ) → ¬ (HasHeading s part h body)) (λ h. HasHeading s part h [])
 
 -- The result of testing the heading `found`: the heading or a fault. The fault is `BadHeading` if there is no heading,
--- `PartOrder` if its numbers are wrong.
+-- and `PartOrder` if the heading's numbers are wrong.
 abbrev pub IsHeadingAnswer : ℕ → Option ℕ → Option Heading → AnswerRule FormFault Heading
 IsHeadingAnswer number expected found = do
   heading ← Finds (λ heading. found ≡ Some heading) (BadHeading number)
@@ -117,8 +120,8 @@ current_part_start r front = record { number = r.number; expected = r.expected; 
 abbrev pub IsAtPartStart : PartStart → PartsProperty
 IsAtPartStart q p parts = (p ≡ q) × (parts ≡ [])
 
--- The reader `r` has read `form`. It has output `text` (the texts of all parts but the last), and holds the last part.
--- Further bytes don't change the earlier parts.
+-- The reader `r` has read `form`. The reader's output is `text`, the texts of all parts but the last, and the reader
+-- holds the last part. Further bytes don't change the earlier parts.
 pub record HoldsForm (s : Day) (r : FormReader) (form text : List ℕ) : Type 0 where
   pub front : List ℕ
   pub last : List ℕ

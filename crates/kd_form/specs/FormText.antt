@@ -20,7 +20,7 @@ use Rattle.kd_form.specs.PartReading.{PartStart, ReadPart, IsContentAnswer, IsPa
 abbrev pub first_part_start : PartStart
 first_part_start = record { number = 1; expected = None; bytes_before = 0 }
 
--- the start of the part after `part`, which starts at `p` and says that there are `count` parts
+-- the start of the part after `part`; the part `part` starts at `p`, and says that there are `count` parts
 abbrev pub next_part_start : PartStart → ℕ → List ℕ → PartStart
 next_part_start p count part = record
     { number = p.number + 1; expected = Some count; bytes_before = p.bytes_before + length part }
@@ -63,14 +63,14 @@ IsFormReadTo s Holds form text =
 -- ---- The result of reading a form: its text, or its first fault.
 -- Test: tests/cases/desk-messages.toml, tests/refusals
 
--- The answer for a form whose parts before `p` are read. It is the fault of the next part. If no part is left, it is
--- success, or `PartOrder` if the headings say another number of parts.
+-- The answer for a form whose parts before `p` are read. If a part is left, the answer is the fault of the next part.
+-- If no part is left, the answer is success, or `PartOrder` if the headings say another number of parts.
 abbrev pub IsAnswerAt : Day → Result (Unit {0}) FormFault → PartsProperty
 IsAnswerAt s answer p [] = (count : ℕ) × (p.expected ≡ Some count) × Demands (p.number ≡ count + 1) PartOrder answer
 IsAnswerAt s answer p (part ∷ parts) = (fault : FormFault) × IsPartAnswer s p part (Err fault) × (answer ≡ Err fault)
 
 -- `answer` is the answer for a whole form. `text` is the text of the parts before the first fault, or of all parts if
--- there is none.
+-- there is no fault.
 abbrev pub IsAnswerAfter : Day → List ℕ → List ℕ → Result (Unit {0}) FormFault → Type 0
 IsAnswerAfter s form text answer = IsFormReadTo s (IsAnswerAt s answer) form text
 
@@ -90,8 +90,8 @@ IsReceiveFault s form fault = IsFormAnswer s form (Err fault)
 -- ---- Which faults no further bytes can change, and what is written before a fault.
 -- Test: tests/cases/desk-messages.toml, tests/refusals
 
--- The first unread part, which begins at `p`, has `fault` whatever bytes follow. Either another part comes after this
--- part. Or its heading line has ended, and `IsContentAnswer` gives the fault.
+-- The first unread part, which begins at `p`, has `fault` whatever bytes follow. Either another part follows this part,
+-- or this part's heading line has ended and `IsContentAnswer` gives the fault.
 abbrev pub IsPartFaultForGood : Day → FormFault → PartsProperty
 IsPartFaultForGood s fault p [] = ⊥
 IsPartFaultForGood s fault p (part ∷ []) =
@@ -109,13 +109,13 @@ pub data IsRefusedForGood (s : Day) (form text : List ℕ) (fault : FormFault) :
 abbrev pub IsLastPart : PartsProperty
 IsLastPart p parts = (part : List ℕ) × (parts ≡ part ∷ [])
 
--- `text` is written so far: the text of the parts before the fault. Without a fault, it is the text of all parts but
--- the last.
+-- `text` is written so far: the text of the parts before the fault. If there is no fault, `text` is the text of all
+-- parts but the last.
 abbrev pub IsTextBefore : Day → Option FormFault → List ℕ → List ℕ → Type 0
 IsTextBefore s None form text = IsFormReadTo s IsLastPart form text
 IsTextBefore s (Some fault) form text = IsAnswerAfter s form text (Err fault)
 
--- forms, as a kind of message
+-- the rules for forms, as a `Message`: their faults, their texts, and what is written while a form is read
 abbrev pub form_message : Day → Message
 form_message s = record {
   stands = λ form fault. (text : List ℕ) × IsRefusedForGood s form text fault;
@@ -132,7 +132,7 @@ abbrev pub sent_letters : Day → List ℕ → List ℕ
 sent_letters (Rotor s) letters = letters
 sent_letters (Pin s) letters = fill_last_group letters
 
--- `given` is the text that the receiver of the order's form must get.
+-- The text `given` is what the receiver of the order's form must get.
 pub record IsPlaintextOf (s : Day) (order given : List ℕ) : Type 0 where
   pub keys : List Keys
   pub head : List ℕ

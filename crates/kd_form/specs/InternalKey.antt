@@ -7,7 +7,7 @@ use Rattle.std.specs.Prelude.{◌≡◌, ◌++◌, Contains, ◌⊎◌, ℕ, ◌
 use Rattle.kd_tables.specs.Rings.{ring_of}
 use Rattle.kd_state.specs.Machine.{AreOnWheels}
 
--- The places rise strictly. Each is at least `first` and below `end`.
+-- The places rise strictly. Each place is at least `first` and below `end`.
 abbrev pub AreRising : ℕ → ℕ → List ℕ → Type 0
 AreRising first end [] = Unit {0}
 AreRising first end (place ∷ places) = (first ≤ place) × (place < end) × AreRising (place + 1) end places
@@ -39,8 +39,8 @@ HaveNoInternalKey letters = (places picked : List ℕ) → ¬ (ArePicked letters
 
 -- ---- What the code holds. No public contract cites this definition.
 
--- `key` has the letters of the first wheels. If the next wheel has `letter`, `next` is `key` with `letter` appended;
--- otherwise `next` is `key`.
+-- The list `key` has letters for the first wheels. If the next wheel has `letter`, the list `next` is `key` with
+-- `letter` appended. Otherwise `next` equals `key`.
 pub data IsTakenInTurn (key : List ℕ) (letter : ℕ) (next : List ℕ) : Type 0 where
   OnWheel : Contains (ring_of (length key + 1)) letter → next ≡ key ++ letter ∷ [] → IsTakenInTurn key letter next
   OffWheel : ¬ (Contains (ring_of (length key + 1)) letter) → next ≡ key → IsTakenInTurn key letter next

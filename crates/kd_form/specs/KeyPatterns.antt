@@ -1,4 +1,4 @@
--- The pattern of a line of keys, and the letters that fill it; days of rotor machines and of Converters.
+-- The pattern of a line of keys, the letters that fill the pattern, and which models days are for.
 use Rattle.std.specs.Prelude.{codes, ◌≡◌, ◌⊎◌, ℕ, List, [], ◌∷◌, ◌++◌, length, replicate}
 use Rattle.kd_state.specs.LineWords.{line_of}
 use Rattle.kd_state.specs.SheetDay.{Day, RotorDay, PinDay, Rotor, Pin}
@@ -9,7 +9,7 @@ use Rattle.kd_form.specs.Order.{IsKeyLine}
 
 -- ---- What a line of keys is made of. No public contract cites these definitions.
 
--- `number` bytes `_`, each of which stands for a letter
+-- a list of `number` bytes, which are all `_`; each `_` stands for a letter
 abbrev pub blank_places : ℕ → List ℕ
 blank_places number = replicate number 95
 

@@ -1,4 +1,4 @@
--- Whether a machine is ready and on the day's key, and the fault that a call returns if it isn't.
+-- Whether a machine is ready and on the day's key, and the fault that a call returns otherwise.
 -- Test: tests/cases/desk-messages.toml
 use Rattle.std.specs.Prelude.{◌≡◌, ◌⊎◌, Result, Err, MatchResult}
 use Rattle.kd_state.specs.declared.machine.parts.Parts.{Parts}
@@ -18,7 +18,7 @@ pub record IsReadyOnKey (m : Parts) (s : Day) : Type 0 where
 abbrev pub IsKeyFault : Parts → Day → FormFault → Type 0
 IsKeyFault m s fault = (¬ (IsReady m) × (fault ≡ NotReady)) ⊎ (IsReady m × ¬ (OnKey m s) × (fault ≡ NotOnKey))
 
--- `fault` satisfies `is_fault`; or `fault` is `NoMemory`, and `takes_memory` holds.
+-- Either `fault` satisfies `is_fault`, or `fault` is `NoMemory` and `takes_memory` holds.
 abbrev pub IsFaultOrNoMemory : (FormFault → Type 0) → Type 0 → FormFault → Type 0
 IsFaultOrNoMemory is_fault takes_memory fault = (takes_memory × (fault ≡ NoMemory)) ⊎ is_fault fault
 

@@ -17,7 +17,8 @@ IsLineWithEnd line bytes = (bytes ≡ line ++ 10 ∷ []) ⊎ (bytes ≡ line ++ 
 abbrev pub IsKeyLine : Keys → List ℕ → Type 0
 IsKeyLine keys bytes = IsLineWithEnd (line_of (key_words keys)) bytes
 
--- `bytes` begin with a line for each of `keys`, all for the day's model. The bytes after these lines satisfy `Holds`.
+-- `bytes` begin with a line of keys for each of `keys`, and all keys are for the day's model. The bytes after these
+-- lines satisfy `Holds`.
 abbrev pub BeginsWithKeys : Day → List Keys → (List ℕ → Type 0) → List ℕ → Type 0
 BeginsWithKeys s [] Holds bytes = Holds bytes
 BeginsWithKeys s (keys ∷ more) Holds bytes =
@@ -38,8 +39,8 @@ pub record IsOrder (s : Day) (order : List ℕ) (keys : List Keys) (head text : 
   pub joined : order ≡ head ++ text
   pub is_head : IsOrderHead s keys head
 
--- `Incomplete`: with some more bytes, `bytes` satisfy `Is`. `Mismatch`: `bytes` don't satisfy `Is`, whatever bytes
--- follow.
+-- `Incomplete` means that `Is` holds for `bytes` followed by some more bytes. `Mismatch` means that `Is` doesn't hold,
+-- whatever bytes follow `bytes`.
 abbrev pub IsPatternFault : (List ℕ → Type 0) → List ℕ → PatternFault → Type 0
 IsPatternFault Is bytes Incomplete = (more : List ℕ) × (more ≢ []) × Is (bytes ++ more)
 IsPatternFault Is bytes Mismatch = (more : List ℕ) → ¬ (Is (bytes ++ more))

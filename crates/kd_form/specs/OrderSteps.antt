@@ -41,14 +41,14 @@ IsHeadStep s keys line order Bad = IsOrderHeadFault s order (length order)
 
 -- ---- The text behind the head. No public contract cites these definitions.
 
--- There are keys for at most 99 parts. All are for the day's model, and suit the day.
+-- There are keys for at most 99 parts. All keys are for the day's model, and suit the day.
 pub record AreSuitedKeys (s : Day) (keys : List Keys) : Type 0 where
   pub of_the_day : All (AreKeys s) keys
   pub suited : InTurn (IsKeysAnswer s) 1 keys (Ok tt)
   pub few : length keys ≤ 99
 
--- The keys suit the day. The writer `w` has taken `letters`, and has written all parts that can be written. It keeps
--- the letters after these parts, at most as many as a part can have.
+-- The keys suit the day. The writer `w` has taken `letters`, and has written all parts that can be written. The writer
+-- keeps the letters after these parts, at most as many as a part can have.
 pub record AreLettersTaken (s : Day) (keys : List Keys) (w : PartWriter) (letters sent : List ℕ) : Type 0 where
   pub suited : AreSuitedKeys s keys
   pub counted : w.count ≡ length letters
@@ -82,7 +82,7 @@ HoldsOrderStage s stages.Head h w order sent = IsHeadBegun s h.keys.items h.line
     × IsFreshWriter w
 HoldsOrderStage s stages.Text h w order sent = HoldsOrderText s h.keys.items w order sent
 
--- The reader `r` has read `order`, and `sent` was output for it.
+-- The reader `r` has read the bytes `order`, and the bytes `sent` are the reader's output for these bytes.
 pub record HoldsOrder (s : Day) (r : OrderReader) (order sent : List ℕ) : Type 0 where
   pub counted : r.read ≡ length order
   pub stage : HoldsOrderStage s r.stage r.head r.writer order sent

@@ -28,7 +28,7 @@ abbrev pub list_letters : Day → List ℕ
 list_letters (Rotor s) = []
 list_letters (Pin s) = s.list
 
--- how many letters of text a part can have
+-- the greatest number of letters of text that a part can have
 abbrev pub part_size : Day → ℕ
 part_size (Rotor s) = 245
 part_size (Pin s) = 500
@@ -88,7 +88,7 @@ IsKeysAnswer s part (Pin k) = do
   _ ← Finds (IsInternalKey (enciphered_choice s k)) (IndicatorSpent part)
   Yields tt
 
--- `made` is part number `part` of `parts`: `text` enciphered with the keys.
+-- The part `made` is part number `part` of `parts`. It is made by enciphering `text` with the keys.
 abbrev pub IsPartMade : Day → ℕ → ℕ → Keys → List ℕ → Part → Type 0
 IsPartMade s part parts (Rotor k) text made = made
     ≡ part_of part parts (Some (indicator_of s k)) (rotor_letters s k text)

@@ -25,7 +25,7 @@ pub record HasHeading (s : Day) (part : List ℕ) (h : Heading) (body : List ℕ
   pub is_heading : IsHeading s h
   pub first : HasFirstLine part (line_of (heading_words h)) body
 
--- `part` is a part's first line, without its LF. `found` is the heading in it, or `None` if there is no heading.
+-- `part` is a part's first line, without its LF. `found` is the heading in this line, or `None` if there is no heading.
 abbrev pub IsEndedHeading : Day → List ℕ → Option Heading → Type 0
 IsEndedHeading s part found =
     MatchOption found
@@ -47,8 +47,8 @@ pub record PartContent : Type 0 where
   pub heading : Heading
   pub body : List ℕ
 
--- The result of reading the bytes of a part that starts at `p`. They must begin with a heading line, whose numbers are
--- right, and each byte of the body must be allowed.
+-- The result of reading the bytes of a part that starts at `p`. The bytes must begin with a heading line whose numbers
+-- are right, and each byte of the body must be allowed.
 abbrev pub IsContentAnswer : Day → PartStart → List ℕ → AnswerRule FormFault PartContent
 IsContentAnswer s p part = do
   content ← Finds (λ content. HasHeading s part content.heading content.body) (BadHeading p.number)
@@ -57,7 +57,7 @@ IsContentAnswer s p part = do
   Yields content
 
 -- The answer is `CountWrong` if the body has more or fewer letters than its heading says. Otherwise `IsLettersAnswer`
--- says the answer.
+-- says which answer is right.
 abbrev pub IsBodyAnswer : Day → ℕ → Heading → List ℕ → AnswerRule FormFault (List ℕ)
 IsBodyAnswer s number h letters = do
   _ ← Demands (length letters ≡ h.letters) (CountWrong number)

@@ -1,10 +1,11 @@
--- Patterns of lines: `_` stands for any capital letter, each other byte for itself. No public contract cites this file.
+-- Patterns of lines: `_` stands for any capital letter, and each other byte stands for itself. No public contract cites
+-- this file.
 use Rattle.std.specs.Prelude.{◌≡◌, ℕ, ◌+◌, ◌-◌, ◌==◌, ◌++◌, ◌&&◌, nat_le, Bool, List, [], ◌∷◌, drop, slice_index}
 use Rattle.std.specs.Prelude.{if◌then◌else◌}
 use Rattle.kd_state.specs.Machine.{AreLetters}
 use Rattle.kd_form.specs.Order.{IsLineWithEnd}
 
--- the pattern, with each `_` replaced by the next of `letters`
+-- the pattern, with each `_` replaced by the next letter of `letters`
 abbrev pub filled_pattern : List ℕ → List ℕ → List ℕ
 filled_pattern [] letters = []
 filled_pattern (mark ∷ pattern) letters =
@@ -27,7 +28,7 @@ IsPatternLine pattern bytes = (letters : List ℕ) × IsFilledLine pattern lette
 
 -- ---- one byte
 
--- whether `byte` fits `mark`, a byte of a pattern: `_` takes any capital letter, each other mark only itself
+-- whether `byte` fits `mark`, a byte of a pattern: `_` takes any capital letter, and each other mark takes only itself
 abbrev pub fits_mark : ℕ → ℕ → Bool
 fits_mark mark byte = if mark == 95 then nat_le 65 byte && nat_le byte 90 else byte == mark
 
@@ -35,6 +36,7 @@ fits_mark mark byte = if mark == 95 then nat_le 65 byte && nat_le byte 90 else b
 abbrev pub letters_for_mark : ℕ → ℕ → List ℕ
 letters_for_mark mark byte = if mark == 95 then (byte - 65) ∷ [] else []
 
--- `bytes` are a line that fits the pattern. `new` is `old`, followed by the letters that the line has at each `_`.
+-- `bytes` are a line that fits the pattern. The list `new` is the list `old`, followed by the letters that the line has
+-- at each `_`.
 abbrev pub AreLettersAppended : List ℕ → List ℕ → List ℕ → List ℕ → Type 0
 AreLettersAppended pattern bytes old new = (more : List ℕ) × IsFilledLine pattern more bytes × (new ≡ old ++ more)

@@ -18,14 +18,15 @@ pub record IsAllowedPrefix (text front : List ℕ) : Type 0 where
   pub allowed : All (λ b. IsTrue (is_text_byte b)) front
   pub ends : (byte : ℕ) (more : List ℕ) → rest ≡ byte ∷ more → IsFalse (is_text_byte byte)
 
--- Once `letters` letters have been read, `written` of the `parts` parts can be written. A part has at most `size`
--- letters. It can be written once a letter of the next part has been read.
+-- Some letters of the text have been read, and some parts can be written: `letters` and `written` are their numbers.
+-- `parts` is the number of all parts. A part has at most `size` letters. A part can be written once a letter of the
+-- next part has been read.
 pub record IsWritableCount (size parts letters written : ℕ) : Type 0 where
   pub writable : (written ≡ 0) ⊎ ((written < parts) × (size * written < letters))
   pub most : (other : ℕ) → other < parts → size * other < letters → other ≤ written
 
--- `sent` is written before the end of the order is read. If the head isn't complete, or the keys don't suit the day,
--- nothing is written. Otherwise `sent` has the parts that `IsWritableCount` counts.
+-- The bytes `sent` are written before the end of the order is read. If the head isn't complete, or the keys don't suit
+-- the day, nothing is written. Otherwise `sent` are the parts that `IsWritableCount` counts.
 pub data IsSentBeforeEnd (s : Day) (order sent : List ℕ) : Type 0 where
   NothingSent : (fault : FormFault) → IsHeadAnswer s order (Err fault) → sent ≡ [] → IsSentBeforeEnd s order sent
   TextBegun : (parts : OrderParts) (front : List ℕ) (written : ℕ) → IsHeadAnswer s order (Ok parts)
@@ -35,7 +36,7 @@ pub data IsSentBeforeEnd (s : Day) (order sent : List ℕ) : Type 0 where
       (pieces (part_size s) (take (part_size s * written) (text_letters s front))) sent
       → IsSentBeforeEnd s order sent
 
--- orders, as a kind of message
+-- the rules for orders, as a `Message`: their faults, their forms, and what is written while an order is read
 abbrev pub order_message : Day → Message
 order_message s = record {
   stands = IsOrderFaultForGood s;

@@ -16,12 +16,13 @@ use Rattle.kd_form.specs.Order.{IsOrder, IsOrderHeadFault}
 -- ---- The letters that an order's text gives, and how many parts they need.
 -- Test: tests/cases/desk-messages.toml
 
--- the letter that is sent for a space: Z on the Converter M-209, none on a rotor machine
+-- the letter that is sent for a space: Z on the Converter M-209, no letter on a rotor machine
 abbrev pub space_letter : Day → Option ℕ
 space_letter (Rotor s) = None
 space_letter (Pin s) = Some 25
 
--- the letter that a byte gives: for a capital letter this letter, for a space `for_space`, for other bytes none
+-- the letter that a byte gives: a capital letter gives itself, a space gives `for_space`, and other bytes give no
+-- letter
 abbrev pub letter_of_byte : Option ℕ → ℕ → Option ℕ
 letter_of_byte for_space byte = if is_capital byte then Some (byte - 65) else if byte == 32 then for_space else None
 
@@ -89,7 +90,8 @@ IsHeadAnswer s order = do
   _ ← InTurn (IsKeysAnswer s) 1 parts.keys
   Yields parts
 
--- The result of reading the bytes of an order. Its head must be right, and each byte of its text must be allowed.
+-- The result of reading the bytes of an order. The order's head must be right, and each byte of the order's text must
+-- be allowed.
 abbrev pub IsReadAnswer : Day → List ℕ → AnswerRule FormFault OrderParts
 IsReadAnswer s order = do
   parts ← IsHeadAnswer s order
@@ -110,8 +112,8 @@ IsFormOf s order form = IsOrderAnswer s order (Ok form)
 abbrev pub IsSendFault : Day → List ℕ → FormFault → Type 0
 IsSendFault s order fault = IsOrderAnswer s order (Err fault)
 
--- The order has `fault`, and no further bytes can change it: it is found while the bytes are read. A `BadByte` is then
--- for one of the order's bytes, not for a byte missing at its end.
+-- The order has `fault`, and no further bytes can change this: the fault is found while the bytes are read. If it is
+-- `BadByte`, it is for one of the order's bytes, not for a byte missing at the order's end.
 pub record IsOrderFaultForGood (s : Day) (order : List ℕ) (fault : FormFault) : Type 0 where
   pub found : IsReadAnswer s order (Err fault)
   pub inside : (position : ℕ) → fault ≡ BadByte position → position ≤ length order

@@ -10,8 +10,8 @@ use Rattle.kd_form.specs.declared.stream.interruption.Interruption.{Interruption
 use Rattle.kd_form.specs.declared.stream.interruption.Interruption.TheVariants.{Device, Refused}
 use Rattle.kd_form.specs.Streams.{Message, IsOpen, IsMessageAnswer, FallsShort}
 
--- The reader has read `bytes` and output `text`. So far the bytes have no fault, and the reader's state satisfies
--- `holds`.
+-- The reader has read `bytes`, and the reader's output is `text`. So far the bytes have no fault, and the reader's
+-- state satisfies `holds`.
 pub record HasReadSoFar (m : Message) (holds : List ℕ → List ℕ → Type 0) (bytes text : List ℕ) : Type 0 where
   pub is : holds bytes text
   pub open_yet : IsOpen m bytes text
@@ -29,8 +29,8 @@ pub record HasFaultForGood (m : Message) (bytes text : List ℕ) (fault : FormFa
   pub refused : (more : List ℕ) → m.refused (bytes ++ more) fault
   pub written : (more : List ℕ) → m.written_before (Some fault) (bytes ++ more) text
 
--- The reader reads `byte`. If `byte` causes no fault, the reader outputs `made`, and its state changes from `old` to
--- `new`. Otherwise the message is refused, whatever bytes follow.
+-- The reader reads `byte`. If `byte` causes no fault, the reader outputs `made`, and the reader's state changes from
+-- `old` to `new`. Otherwise the message is refused, whatever bytes follow.
 abbrev pub IsFeedAnswer : Message → (List ℕ → List ℕ → Type 0) → (List ℕ → List ℕ → Type 0) → ℕ → List ℕ
     → Result (Unit {0}) FormFault → Type 0
 IsFeedAnswer m old new byte made answer =
@@ -38,8 +38,8 @@ IsFeedAnswer m old new byte made answer =
     → MatchResult answer (λ _. HasReadSoFar m new (bytes ++ byte ∷ []) (text ++ made))
     (HasFaultForGood m (bytes ++ byte ∷ []) text)
 
--- At the end of the message, the reader outputs `made`. It is the rest of the result or, with a fault, the rest of the
--- text before the fault.
+-- At the end of the message, the reader outputs `made`: the rest of the result, or the rest of the text before the
+-- fault.
 abbrev pub IsEndAnswer : Message → (List ℕ → List ℕ → Type 0) → List ℕ → Result (Unit {0}) FormFault → Type 0
 IsEndAnswer m old made answer = (bytes text : List ℕ) → HasReadSoFar m old bytes text
     → IsMessageAnswer m bytes (text ++ made) answer
@@ -64,20 +64,21 @@ pub record IsPrefixOfDue (m : Message) (bytes text : List ℕ) : Type 0 where
   pub open_yet : IsOpen m front due
   pub of_due : FallsShort due text
 
--- The reader has read `bytes`. Or the bytes have a fault, or the sink failed.
+-- Either the reader has read `bytes`, or the bytes have a fault, or the sink failed.
 abbrev pub HasBeenFed : Message → (List ℕ → List ℕ → Type 0) → List ℕ → List ℕ → Result (Unit {0}) Interruption → Type 0
 HasBeenFed m new bytes text (Ok _) = HasReadSoFar m new bytes text
 HasBeenFed m new bytes text (Err (Refused fault)) = HasFaultForGood m bytes text fault
 HasBeenFed m new bytes text (Err Device) = IsPrefixOfDue m bytes text
 
--- The reader has read more bytes, and its output for them was written.
+-- The reader has read more bytes, and the reader's output for these bytes was written.
 pub record IsFed (m : Message) (new : List ℕ → List ℕ → Type 0) (bytes text : List ℕ) (sink : Port)
     (answer : Result (Unit {0}) Interruption) : Type 0 where
   pub made : List ℕ
   pub written : Appends sink.had sink.has made
   pub fed : HasBeenFed m new bytes (text ++ made) answer
 
--- The reader's state satisfies `old`. The reader reads the bytes `more`, and its output is written to the sink.
+-- The reader's state satisfies the condition `old`. The reader reads the bytes `more`, and the reader's output is
+-- written to the sink.
 abbrev pub IsFeedAllAnswer : Message → (List ℕ → List ℕ → Type 0) → (List ℕ → List ℕ → Type 0) → List ℕ → Port
     → Result (Unit {0}) Interruption → Type 0
 IsFeedAllAnswer m old new more sink answer =
@@ -85,8 +86,7 @@ IsFeedAllAnswer m old new more sink answer =
 
 -- ---- the end
 
--- At the end of the message, all text that was due was written. Or the sink failed, and only a proper prefix was
--- written.
+-- Either all text due at the end of the message was written, or the sink failed and only a proper prefix was written.
 abbrev pub HasBeenEnded : Message → List ℕ → List ℕ → Result (Unit {0}) Interruption → Type 0
 HasBeenEnded m bytes text (Ok _) = IsMessageAnswer m bytes text (Ok tt)
 HasBeenEnded m bytes text (Err (Refused fault)) = IsMessageAnswer m bytes text (Err fault)
@@ -100,7 +100,7 @@ pub record IsClosed (m : Message) (bytes text : List ℕ) (sink : Port) (answer 
   pub written : Appends sink.had sink.has made
   pub ended : HasBeenEnded m bytes (text ++ made) answer
 
--- The reader's state satisfies `old`. The reader ends the message.
+-- The reader's state satisfies the condition `old`. The reader ends the message.
 abbrev pub IsFinishAnswer : Message → (List ℕ → List ℕ → Type 0) → Port → Result (Unit {0}) Interruption → Type 0
 IsFinishAnswer m old sink answer = (bytes text : List ℕ) → HasReadSoFar m old bytes text
     → IsClosed m bytes text sink answer
@@ -140,7 +140,7 @@ HasBeenRead m new source sink bytes more text (Ok count) =
     × KeepsFailureFlag sink
 HasBeenRead m new source sink bytes more text (Err stop) = IsReadStopped m new source sink (bytes ++ more) text stop
 
--- At most `room` bytes were taken from the source and fed to the reader. Its output was written to the sink.
+-- At most `room` bytes were taken from the source and fed to the reader. The reader's output was written to the sink.
 pub record IsChunkRead (m : Message) (new : List ℕ → List ℕ → Type 0) (bytes text : List ℕ) (room : ℕ)
     (source sink : Port)
     (answer : Result ℕ Interruption) : Type 0 where
@@ -151,7 +151,7 @@ pub record IsChunkRead (m : Message) (new : List ℕ → List ℕ → Type 0) (b
   pub written : Appends sink.had sink.has made
   pub read : HasBeenRead m new source sink bytes more (text ++ made) answer
 
--- The reader's state satisfies `old`. The reader reads the next bytes of the source.
+-- The reader's state satisfies the condition `old`. The reader reads the next bytes of the source.
 abbrev pub IsReadNextAnswer : Message → (List ℕ → List ℕ → Type 0) → (List ℕ → List ℕ → Type 0) → ℕ → Port → Port
     → Result ℕ Interruption → Type 0
 IsReadNextAnswer m old new room source sink answer =
@@ -160,7 +160,7 @@ IsReadNextAnswer m old new room source sink answer =
 
 -- ---- a whole message
 
--- The result of the message was written. Or the message has a fault, or the sink failed.
+-- Either the result of the message was written, or the message has a fault, or the sink failed.
 abbrev pub IsWriteMessageAnswer : Message → List ℕ → Port → Result (Unit {0}) Interruption → Type 0
 IsWriteMessageAnswer m bytes sink (Ok _) = (text : List ℕ) × m.becomes bytes text × Appends sink.had sink.has text
 IsWriteMessageAnswer m bytes sink (Err (Refused fault)) = m.refused bytes fault

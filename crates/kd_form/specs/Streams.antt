@@ -12,7 +12,7 @@ use Rattle.kd_form.specs.OnTheKey.{IsReadyOnKey, IsKeyFault}
 
 -- A kind of message, such as orders. `stands`: the first bytes of a message have a fault that no further bytes can
 -- change. `refused`: a whole message has a fault. `becomes`: a whole message has a result. `written_before`: the text
--- that is written before the fault is returned or, without a fault, before more bytes are read.
+-- that is written before the fault is returned or, if there is no fault, before more bytes are read.
 pub record Message : Type 1 where
   pub stands : List ℕ → FormFault → Type 0
   pub refused : List ℕ → FormFault → Type 0
@@ -24,7 +24,8 @@ pub record IsOpen (m : Message) (bytes text : List ℕ) : Type 0 where
   pub unrefused : (fault : FormFault) → ¬ (m.stands bytes fault)
   pub written : m.written_before None bytes text
 
--- The bytes are the whole message. Its result is `text`; or it has a fault, and `text` is written before the fault.
+-- The bytes are the whole message. Either the message's result is `text`, or the message has a fault and `text` is
+-- written before the fault.
 abbrev pub IsMessageAnswer : Message → List ℕ → List ℕ → Result (Unit {0}) FormFault → Type 0
 IsMessageAnswer m bytes text answer =
     MatchResult answer (λ _. m.becomes bytes text)
@@ -34,8 +35,8 @@ IsMessageAnswer m bytes text answer =
 -- Code: `stream_message` reads a message chunk by chunk. The readers of orders and forms take the chunks byte by byte.
 -- Test: tests/cases/desk-messages.toml
 
--- `text` is all text that is due after some prefix of `read` without a fault. Or the source ends after `read`, and
--- `text` is all text that is due then.
+-- Either some prefix of `read` has no fault, and `text` is all text that is due after this prefix. Or the source ends
+-- after `read`, and `text` is all text that is due then.
 pub data IsDue (m : Message) (source : Port) (read text : List ℕ) : Type 0 where
   ByThen : (front : List ℕ) → StartsWith read front → IsOpen m front text → IsDue m source read text
   ByTheEnd : (answer : Result (Unit {0}) FormFault) → IsAtEnd source.has → IsMessageAnswer m read text answer
@@ -45,7 +46,7 @@ pub data IsDue (m : Message) (source : Port) (read text : List ℕ) : Type 0 whe
 abbrev pub KeepFailureFlags : Port → Port → Type 0
 KeepFailureFlags source sink = KeepsFailureFlag source × KeepsFailureFlag sink
 
--- `text` is a proper prefix of `due`.
+-- `text` is a proper prefix of the text `due`.
 pub record FallsShort (due text : List ℕ) : Type 0 where
   pub missing : List ℕ
   pub some : missing ≢ []
@@ -76,7 +77,7 @@ pub data IsStreamAnswer (m : Message) (source sink : Port) (read text : List ℕ
       → FailsAlone sink source
       → answer ≡ Err Device → IsStreamAnswer m source sink read text answer
 
--- The call took `read` from the source and put `text` into the sink, as `IsStreamAnswer` says.
+-- The call took the bytes `read` from the source and put the bytes `text` into the sink, as `IsStreamAnswer` says.
 pub record IsStreamed (m : Message) (source sink : Port) (answer : Result (Unit {0}) FormFault) : Type 0 where
   pub read : List ℕ
   pub text : List ℕ
@@ -103,8 +104,8 @@ pub record IsUntouched (p : Port) : Type 0 where
   pub has : p.has ≡ p.had
   pub well : KeepsFailureFlag p
 
--- Either the answer is a fault that satisfies `is_fault`, and both ports are left as they were. Or `may` holds, and the
--- call reads and writes as `IsStreamed` says.
+-- Either the answer is a fault that satisfies `is_fault`, and both ports are left as they were. Or the statement `may`
+-- holds, and the call reads and writes as `IsStreamed` says.
 pub data StreamsUnlessFault (is_fault : FormFault → Type 0) (may : Type 0) (message : Message) (source sink : Port)
     (answer : Result (Unit {0}) FormFault) : Type 0 where
   FaultBefore : (fault : FormFault) → is_fault fault → answer ≡ Err fault → IsUntouched source → IsUntouched sink

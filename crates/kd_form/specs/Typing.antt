@@ -1,4 +1,4 @@
--- Typed texts, as a kind of message: a text becomes the ciphertext of its letters, then LF.
+-- Typed texts, which are one kind of message: a text becomes the ciphertext of its letters, and then LF.
 -- Code: `type_stream` reads chunks of at most 4,096 bytes, and presses a key for each letter of a chunk.
 -- Test: tests/cases/desk-messages.toml, tests/refusals
 use Rattle.std.specs.Prelude.{◌≡◌, ℕ, ◌<◌, ◌≤◌, List, [], ◌∷◌, ◌++◌, length, take, slice_index, All, IsTrue}
@@ -15,7 +15,7 @@ use Rattle.kd_form.specs.Sending.{letters_from, IsBytesAnswer}
 use Rattle.kd_form.specs.SendStream.{IsAllowedPrefix}
 use Rattle.kd_form.specs.Streams.{Message, StreamsUnlessFault}
 
--- the capital letters among `bytes`; other bytes, such as spaces, give none
+-- the capital letters among `bytes`; other bytes, such as spaces, give no letter
 abbrev pub typed_letters : List ℕ → List ℕ
 typed_letters bytes = letters_from None bytes
 
@@ -27,7 +27,7 @@ cipher_text enciphers bytes = letters_text (enciphers (typed_letters bytes))
 abbrev pub IsTextFault : List ℕ → FormFault → Type 0
 IsTextFault bytes fault = IsBytesAnswer 1 bytes (Err fault)
 
--- typed texts, as a kind of message. All letters before the first byte that isn't allowed are enciphered.
+-- the rules for typed texts, as a `Message`. All letters before the first byte that isn't allowed are enciphered.
 abbrev pub text_message : (List ℕ → List ℕ) → Message
 text_message enciphers = record {
   stands = IsTextFault;
@@ -45,13 +45,13 @@ TypesIfReady m source sink answer =
 
 -- ---- What the code holds. No public contract cites these definitions.
 
--- `lamps` is the ciphertext of the letters in `bytes`. `left` is the machine's key after it has enciphered these
--- letters.
+-- `lamps` is the ciphertext of the letters in `bytes`. The key `left` is the machine's key after these letters were
+-- enciphered.
 pub record IsTypedChunk (key left : EngineKey) (bytes lamps : List ℕ) : Type 0 where
   pub cipher : lamps ≡ cipher_text (cipher key) bytes
   pub after : left ≡ engine_key_after key (length (typed_letters bytes))
 
--- The first `front` bytes are allowed, and the next byte, if there is one, isn't.
+-- The first bytes are allowed; `front` is their number. The next byte, if there is one, isn't allowed.
 pub record IsAllowedUpTo (bytes : List ℕ) (front : ℕ) : Type 0 where
   pub within : front ≤ length bytes
   pub allowed : All (λ b. IsTrue (is_text_byte b)) (take front bytes)

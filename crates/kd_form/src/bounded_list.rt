@@ -13,7 +13,7 @@ pub fn push_if_room<T: Copy, const N: usize>(items: &mut ArrayVec<T, N>, item: T
     }
 }
 
-/// Appends `more` to `letters`, which must have room for it.
+/// Appends the letters `more` to `letters`, which must have room for them.
 pub(crate) fn append_letters<const N: usize>(letters: &mut ArrayVec<Letter, N>, more: &[Letter])
     requires { length letters.old.items + length more.now ≤ N }
     ensures { letters.new.items ≡ letters.old.items ++ more.now }

@@ -34,7 +34,7 @@ pub enum FormFault {
     BadHeading(u8),
     /// This part has more or fewer letters than its heading says.
     CountWrong(u8),
-    /// The indicators at the end of this part aren't those at its start, or the first two letters differ.
+    /// The indicators at the end of this part differ from the indicators at its start, or the first two letters differ.
     IndicatorsDiffer(u8),
     /// Parts are out of order or missing, or their headings differ in the number of all parts.
     PartOrder,

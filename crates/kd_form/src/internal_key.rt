@@ -10,7 +10,7 @@ use super::keys::PinKeys;
 use arrayvec::ArrayVec;
 use kd_tables::{Letter, place_on_wheel};
 
-/// Enciphers the chosen letter of `keys` twelve times, and picks the internal key; `None` if there is none.
+/// Enciphers the chosen letter of `keys` twelve times, and picks the internal key; `None` if there is no internal key.
 pub fn internal_key_of(machine: &mut DayMachine, keys: &PinKeys) -> Option<ArrayVec<Letter, 6>>
     requires { IsWindow (sheet_key machine.old) keys.now.external }
     ensures day { machine.new ≡ machine.old }

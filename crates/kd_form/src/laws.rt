@@ -12,14 +12,14 @@ pub fn orders_have_one_answer()
     ensures { OrdersHaveOneAnswer }
 {}
 
-/// Every order has a form or a fault: the body of this function reads `order` and finds which.
+/// Every order has a form or a fault: the body of this function reads `order` and finds which of the two it has.
 pub fn orders_have_an_answer(day: &SheetDay, order: &[u8])
     ensures { OrderIsAnswered day.now order.now }
 {
     let _answer = check_message::<OrderReader>(day, order);
 }
 
-/// A fault that shows before the end of an order remains the order's fault, whatever bytes follow.
+/// A fault that is found before the end of an order remains the order's fault, whatever bytes follow.
 pub fn orders_stay_refused()
     ensures { OrdersStayRefused }
 {}
@@ -29,12 +29,12 @@ pub fn forms_have_one_answer()
     ensures { FormsHaveOneAnswer }
 {}
 
-/// A fault that shows before the end of a form remains the form's fault, whatever bytes follow.
+/// A fault that is found before the end of a form remains the form's fault, whatever bytes follow.
 pub fn forms_stay_refused()
     ensures { FormsStayRefused }
 {}
 
-/// Every form has a text or a fault: the body of this function reads `form` and finds which.
+/// Every form has a text or a fault: the body of this function reads `form` and finds which of the two it has.
 pub fn forms_have_an_answer(day: &SheetDay, form: &[u8])
     ensures { FormIsAnswered day.now form.now }
 {

@@ -1,4 +1,4 @@
-//! `check_machine`, which refuses a machine that isn't on the day's key.
+//! The function `check_machine`, which refuses a machine that isn't on the day's key.
 ghost use Rattle.std.specs.Prelude.{MatchResult};
 ghost use Rattle.kd_form.specs.OnTheKey.{IsReadyOnKey, IsKeyFault};
 

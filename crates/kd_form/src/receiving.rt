@@ -1,4 +1,4 @@
-//! Receives a form: `receive` returns its text, and `receive_stream` writes it to a sink.
+//! Receives a form: `receive` returns the form's text, and `receive_stream` writes this text to a sink.
 //!
 //! A form is an enciphered message. Each of its parts has a heading line, and a body of letters in groups of five.
 ghost use Rattle.std.specs.Prelude.{◌≡◌, ℕ, List, IsTrue};
@@ -49,8 +49,8 @@ pub fn receive(
 /// At most one part is held, and nothing is allocated. `NotReady` and `NotOnKey` are returned before anything is read.
 /// A fault that further bytes can't change is returned at once, before the rest of the source is read. Other faults are
 /// found at the form's end. Before a fault of the form is returned, the texts of the parts before the fault are
-/// written. `ReadTooLong` means that the source has more than `READ_LIMIT` bytes, and `Device` that a get or a put
-/// failed.
+/// written. `ReadTooLong` means that the source has more than `READ_LIMIT` bytes, and `Device` means that a get or a
+/// put failed.
 pub fn receive_stream<R: Source, W: Sink>(
     machine: &Machine,
     day: &SheetDay,

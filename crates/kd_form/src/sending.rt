@@ -1,4 +1,4 @@
-//! Sends an order: `send` returns the order's form, and `send_stream` writes it to a sink.
+//! Sends an order: `send` returns the order's form, and `send_stream` writes this form to a sink.
 //!
 //! An order has a line of keys for each part, then the line TEXT, and then the text to send.
 ghost use Rattle.std.specs.Prelude.{◌≡◌, ℕ, List, IsTrue};

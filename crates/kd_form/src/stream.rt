@@ -1,4 +1,4 @@
-//! The loop that reads a message from a source, and writes its result to a sink.
+//! The loop that reads a message from a source, and writes the message's result to a sink.
 ghost use Rattle.std.specs.Prelude.{[]};
 ghost use Rattle.kd_tables.specs.Ports.{port};
 ghost use Rattle.kd_form.specs.Streams.{IsStreamed};

@@ -16,7 +16,7 @@ pub fn space_letter(day: &SheetDay) -> Option<Letter>
     }
 }
 
-/// The letter that `byte` gives: for a capital letter this letter, for a space `for_space`, for other bytes `None`.
+/// The letter that `byte` gives: a capital letter gives itself, a space gives `for_space`, and other bytes give `None`.
 pub fn letter_of_byte(for_space: &Option<Letter>, byte: u8) -> Option<Letter>
     ensures { result ≡ letter_of_byte for_space.now byte }
 {

@@ -33,11 +33,11 @@ opening_of (Some bytes) = Ok (record { bytes = Some bytes; failed = false })
 abbrev pub bytes_in_files : List (Bor (List ℕ) × Bor (List ℕ)) → List ℕ → Option (List ℕ)
 bytes_in_files files name = option_map (λ file. file.1.now) (find (λ file. bytes_eq file.0.now name) files)
 
--- `answer` and `meant` are the same fault. Or `answer` is an opened file, which `known` maps to `meant`.
+-- Either `answer` and `meant` are the same fault, or `answer` is an opened file that `known` maps to `meant`.
 abbrev pub IsOpenAnswer : {O : Type 0} → Result KnownFile FileFault → (O → KnownFile) → Result O FileFault → Type 0
 IsOpenAnswer meant known answer = result_map_both known (λ fault. fault) answer ≡ meant
 
--- `read` has the bytes that were read from a source.
+-- The list `read` has the bytes that were read from a source.
 -- - With `Ok`, these are all bytes of the source.
 -- - With `ReadTooLong`, they are one more than a file may have.
 -- - With `Device`, the next read failed, and they are at most as many as a file may have.
@@ -75,8 +75,8 @@ pub record MissesOne (names : List (List ℕ)) (old new : List AskedName) : Type
   pub names_are : names ≡ before ++ name ∷ after
   pub asked : new ≡ old ++ (map asked_and_had before ++ asked_and_missed name ∷ [])
 
--- `new` is `old` followed by the names asked for. With `true`, these are all of `names`. With `false`, they end with
--- the first file that couldn't be read or opened.
+-- The list `new` is the list `old`, followed by the names asked for. If the flag is `true`, these are all of `names`.
+-- If it is `false`, the last of them is the first name whose file couldn't be read or opened.
 abbrev pub AreAskedFor : List (List ℕ) → List AskedName → List AskedName → Bool → Type 0
 AreAskedFor names old new true = new ≡ old ++ map asked_and_had names
 AreAskedFor names old new false = MissesOne names old new

@@ -4,7 +4,7 @@ ghost use Rattle.std.specs.Prelude.{◌≡◌, ◌<◌, [], ◌∷◌, ◌++◌,
 use arrayvec::ArrayVec;
 use std::marker::Model;
 
-/// The names asked for, in order. Beside each name: whether the file could be read or opened.
+/// The names asked for, in order. A flag beside each name says whether the file could be read or opened.
 ///
 /// There are at most three: no command names more files.
 #[derive(Drop)]

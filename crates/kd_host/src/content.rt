@@ -29,7 +29,7 @@ impl Model for Content {
 }
 
 impl Content {
-    /// Wraps `bytes`; returns `ReadTooLong` if they are more than `READ_LIMIT`.
+    /// Wraps `bytes`; returns `ReadTooLong` if there are more than `READ_LIMIT` bytes.
     pub fn new(bytes: Vec<u8>) -> Result<Self, FileFault>
         ensures { result ≡ content_of (Some bytes.items) }
     {
@@ -47,7 +47,7 @@ impl Content {
     }
 }
 
-/// Reads `source` to its end; returns `ReadTooLong` if it has more than `READ_LIMIT` bytes.
+/// Reads `source` to its end; returns `ReadTooLong` if the source has more than `READ_LIMIT` bytes.
 ///
 /// Reads at most one byte beyond the limit, to see whether the source has more bytes.
 pub fn read_whole<S: Source>(alloc: Global, source: &mut S) -> Result<Content, FileFault>

@@ -15,10 +15,10 @@ pub trait Files<'n> {
 
     /// Maps a name to the bytes of the file with this name, if there is one.
     ///
-    /// `None` in place of the map: the files' bytes aren't known, as for the host's files.
+    /// The map is missing (`None`) if the files' bytes aren't known, as for the host's files.
     ghost known: { Self → Option (List ℕ → Option (List ℕ)) } = { λ _. None };
 
-    /// The names asked for, in order. Beside each name: whether the file could be read or opened.
+    /// The names asked for, in order. A flag beside each name says whether the file could be read or opened.
     ghost asked: { Self → List AskedName };
 
     /// The opened file that was taken back last: its unread bytes, and whether a read of it failed.

@@ -1,4 +1,4 @@
-//! The law of files in memory: no read of them fails.
+//! The law of files in memory: no read of such a file fails.
 ghost use Rattle.std.specs.Prelude.{◌≡◌, false};
 
 use crate::files::Files;

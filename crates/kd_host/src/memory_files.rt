@@ -11,7 +11,7 @@ use crate::files::Files;
 use kd_tables::{Failed, Source};
 use std::alloc::Global;
 
-/// Files in memory: the name and the bytes of each.
+/// Files in memory: the name and the bytes of each file.
 #[derive(Drop)]
 pub struct MemoryFiles<'n> {
     files: &'n [(&'n str, &'n [u8])],
@@ -21,7 +21,7 @@ pub struct MemoryFiles<'n> {
 }
 
 impl<'n> MemoryFiles<'n> {
-    /// Creates files in memory. If several have the same name, the first is read.
+    /// Creates files in memory. If several files have the same name, the first of them is read.
     pub fn new(files: &'n [(&'n str, &'n [u8])]) -> Self
         ensures files { result.files ≡ files.entry }
         ensures asked { result.asked ≡ [] }

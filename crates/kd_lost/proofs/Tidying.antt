@@ -3,8 +3,8 @@ use Rattle.std.proofs.Common.{◌≡◌, ◌≢◌, ℕ, ◌≤◌, ◌==◌, �
 use Rattle.std.proofs.Common.{Bool, true, false, if◌then◌else◌, Some, None, unwrap_or}
 use Rattle.std.proofs.lemmas.Slice.Eq.{bytes_eq-Decides}
 use Rattle.std.specs.Str.{bytes_eq}
-use Rattle.kd_lost.specs.HeadingLine.{is_heading_line, is_part_line}
-use Rattle.kd_lost.specs.Tidy.{later_heading, tidied, was_heading, without_mark}
+use Rattle.kd_lost.specs.HeadingLine.{is_heading_line, may_be_part}
+use Rattle.kd_lost.specs.Tidy.{later_heading, tidied, without_mark}
 
 pub mark_stripped : (form : List ℕ) → take 3 form ≡ 239 ∷ 187 ∷ 191 ∷ [] → without_mark form ≡ drop 3 form
 mark_stripped form is = grind (arith, bytes_eq-Decides (take 3 form) (239 ∷ 187 ∷ 191 ∷ []))
@@ -18,11 +18,11 @@ without_length : (form : List ℕ) (has : Bool) → length (if has then drop 3 f
 without_length form true = omega (arith, length-drop {A = ℕ})
 without_length form false = omega arith
 
-later_from : (bytes other : List ℕ) (ends slash : Bool) → length bytes ≤ length other
+later_from : (bytes other : List ℕ) (ends may_be : Bool) → length bytes ≤ length other
     → length (unwrap_or (later_heading bytes) other) ≤ length other
-    → length (unwrap_or (if ends then Some bytes else if slash then None else later_heading bytes) other)
+    → length (unwrap_or (if ends then Some bytes else if may_be then None else later_heading bytes) other)
     ≤ length other
-later_from bytes other true slash few rest = few
+later_from bytes other true may_be few rest = few
 later_from bytes other false true few rest = omega arith
 later_from bytes other false false few rest = rest
 
@@ -31,7 +31,7 @@ later_length : (bytes other : List ℕ) → length bytes ≤ length other
 later_length [] other few = omega arith
 later_length (byte ∷ bytes) other few =
     let short : length bytes ≤ length other = omega (arith, few) in
-    later_from bytes other (byte == 10 && is_heading_line bytes) (was_heading byte bytes) short
+    later_from bytes other (byte == 10 && is_heading_line bytes) (byte == 10 && may_be_part bytes) short
     (later_length bytes other short)
 
 from_length : (bytes : List ℕ) (begins : Bool)
@@ -43,6 +43,6 @@ pub tidied_length : (form : List ℕ) → length (tidied form) ≤ length form
 tidied_length form =
     omega (
       arith,
-      from_length (without_mark form) (is_part_line (without_mark form)),
+      from_length (without_mark form) (may_be_part (without_mark form)),
       without_length form (bytes_eq (take 3 form) (239 ∷ 187 ∷ 191 ∷ [])),
     )

@@ -19,6 +19,7 @@ use Rattle.kd_form.proofs.Headings.{no_cut}
 use Rattle.kd_lost.specs.declared.{part.DamagedPart.{DamagedPart}}
 use Rattle.kd_lost.specs.HeadingLine.{after_blanks, after_word, has_digit_line, has_lost_number, has_short_word, is_blank, is_heading_line}
 use Rattle.kd_lost.specs.HeadingLine.{is_lost_sign, is_part_line}
+unfoldable use Rattle.kd_lost.specs.HeadingLine.{may_be_part}
 use Rattle.kd_lost.specs.Lost.{is_lost}
 use Rattle.kd_lost.specs.DamagedForm.{AsItStands, IsMeant, IsReadOf, Respaced, cut_at_heading_lines}
 use Rattle.kd_lost.specs.DamagedForm.{ends_part, parts_cut, shown_byte}
@@ -294,6 +295,7 @@ no_mark : (more : List ℕ) → without_mark (codes "PART " ++ more) ≡ codes "
 no_mark more = refl
 
 from_first : (bytes : List ℕ) → is_heading_line bytes ≡ true → from_heading bytes ≡ bytes
+unfolding may_be_part
 from_first bytes begins =
     rw (and_parts (is_part_line bytes) (has_digit_line bytes || has_lost_number bytes) begins).0 refl
 

@@ -3,9 +3,9 @@
 -- if some of its signs are lost or wrong.
 -- Test: tests/cases/curator-messages.toml
 use Rattle.std.specs.Prelude.{codes, ℕ, ◌+◌, ◌==◌, ◌&&◌, ◌||◌, nat_le, Bool, false, true, if◌then◌else◌, List, [], ◌∷◌}
-use Rattle.std.specs.Prelude.{Option, None, Some, map, not, slice_get, take}
+use Rattle.std.specs.Prelude.{Option, None, Some, drop, is_some, length, map, not, slice_get, take}
 use Rattle.kd_tables.specs.Text.{is_capital}
-use Rattle.kd_lost.specs.Lost.{meant_byte, is_lost}
+use Rattle.kd_lost.specs.Lost.{meant_byte, is_lost, received_letter}
 
 -- whether the byte is a blank: a space or a tab
 abbrev pub is_blank : ℕ → Bool
@@ -16,16 +16,18 @@ abbrev pub after_blanks : List ℕ → List ℕ
 after_blanks [] = []
 after_blanks (byte ∷ bytes) = if is_blank byte then after_blanks bytes else byte ∷ bytes
 
--- how many signs of `bytes` equal the sign of `word` at the same place; small letters mean capitals
+-- how many signs of the first line of `bytes` equal the sign of `word` at the same place; small letters mean capitals
 abbrev pub right_signs : List ℕ → List ℕ → ℕ
-right_signs (letter ∷ word) (byte ∷ bytes) = (if meant_byte byte == letter then 1 else 0) + right_signs word bytes
+right_signs (letter ∷ word) (byte ∷ bytes) =
+    if byte == 10 then 0 else (if meant_byte byte == letter then 1 else 0) + right_signs word bytes
 right_signs [] bytes = 0
 right_signs (letter ∷ word) [] = 0
 
--- how many signs of `bytes` equal the sign of `word` at the same place, or are lost
+-- how many signs of the first line of `bytes` equal the sign of `word` at the same place, or are lost
 abbrev pub fitting_signs : List ℕ → List ℕ → ℕ
 fitting_signs (letter ∷ word) (byte ∷ bytes) =
-    (if meant_byte byte == letter || is_lost byte then 1 else 0) + fitting_signs word bytes
+    if byte == 10 then 0
+    else (if meant_byte byte == letter || is_lost byte then 1 else 0) + fitting_signs word bytes
 fitting_signs [] bytes = 0
 fitting_signs (letter ∷ word) [] = 0
 
@@ -51,6 +53,22 @@ has_three bytes =
 abbrev pub begins_with_three : List ℕ → Bool
 begins_with_three bytes = has_three bytes && not (is_letter (slice_get bytes 3))
 
+-- whether `bytes` begin with `front`, then any letter, then `back`
+abbrev pub begins_apart : List ℕ → List ℕ → List ℕ → Bool
+begins_apart front back bytes =
+    is_letter (slice_get bytes (length front))
+    && (right_signs front bytes == length front && right_signs back (drop (length front + 1) bytes) == length back)
+
+-- whether the first five signs of `bytes` are `PART` with one more letter before its T
+abbrev pub has_five : List ℕ → Bool
+has_five bytes =
+    begins_apart [] (codes "PART") bytes || begins_apart (codes "P") (codes "ART") bytes
+    || begins_apart (codes "PA") (codes "RT") bytes || begins_apart (codes "PAR") (codes "T") bytes
+
+-- whether `bytes` begin with `PART` with one more letter before its T, and no sixth letter follows
+abbrev pub begins_with_five : List ℕ → Bool
+begins_with_five bytes = has_five bytes && not (is_letter (slice_get bytes 5))
+
 -- whether the first line of `bytes` has a digit or a slash
 abbrev pub has_digit_line : List ℕ → Bool
 has_digit_line [] = false
@@ -59,7 +77,23 @@ has_digit_line (byte ∷ bytes) =
 
 -- whether the first line of `bytes` begins like `PART`; blanks may stand before it
 abbrev pub is_part_line : List ℕ → Bool
-is_part_line bytes = begins_with_part (after_blanks bytes) || begins_with_three (after_blanks bytes)
+is_part_line bytes =
+    begins_with_part (after_blanks bytes) || begins_with_three (after_blanks bytes)
+    || begins_with_five (after_blanks bytes)
+
+-- how many letters or lost signs stand at the beginning of `bytes`
+abbrev pub leading_signs : List ℕ → ℕ
+leading_signs [] = 0
+leading_signs (byte ∷ bytes) = if is_some (received_letter byte) then 1 + leading_signs bytes else 0
+
+-- whether the first line of `bytes` begins with two groups of five letters, some of them perhaps lost
+abbrev pub begins_with_groups : List ℕ → Bool
+begins_with_groups bytes =
+    leading_signs (after_blanks bytes) == 5 && leading_signs (after_blanks (drop 5 (after_blanks bytes))) == 5
+
+-- whether the first line of `bytes` may belong to a part: it begins like `PART`, or with two groups
+unfoldable pub may_be_part : List ℕ → Bool
+may_be_part bytes = is_part_line bytes || begins_with_groups bytes
 
 -- the end of `bytes` that begins with the blank or LF after their first word
 abbrev pub after_word : List ℕ → List ℕ

@@ -1,12 +1,12 @@
 -- A form without noise: bytes that no operator sent, left by copying the form or typing around it. A byte order mark is
--- dropped. The lines before the first heading are dropped, too, unless one may be a damaged heading. Such a line begins
--- like `PART`, or has a slash. In a heading, blanks around its words are dropped, and all but one between two words.
+-- dropped. The lines before the first heading are dropped, too, unless one may belong to a part. Such a line begins like
+-- `PART`, or with two groups. In a heading, blanks around its words are dropped, and all but one between two words.
 -- Bodies may have any spaces and line ends.
 -- Test: tests/cases/curator-messages.toml
 use Rattle.std.specs.Prelude.{ℕ, ◌==◌, ◌&&◌, ◌||◌, Bool, true, if◌then◌else◌, List, [], ◌∷◌, ◌++◌, take, drop}
 use Rattle.std.specs.Prelude.{Option, None, Some, unwrap_or}
 use Rattle.std.specs.Str.{bytes_eq}
-use Rattle.kd_lost.specs.HeadingLine.{after_blanks, is_blank, is_heading_line, is_part_line}
+use Rattle.kd_lost.specs.HeadingLine.{after_blanks, is_blank, is_heading_line, may_be_part}
 use Rattle.kd_lost.specs.DamagedPart.{first_line}
 
 -- ---- The form.
@@ -15,21 +15,17 @@ use Rattle.kd_lost.specs.DamagedPart.{first_line}
 abbrev pub without_mark : List ℕ → List ℕ
 without_mark form = if bytes_eq (take 3 form) (239 ∷ 187 ∷ 191 ∷ []) then drop 3 form else form
 
--- Whether `byte` may belong to a damaged heading. It is a slash, or an LF before a line that begins like `PART`.
-abbrev pub was_heading : ℕ → List ℕ → Bool
-was_heading byte bytes = byte == 47 || byte == 10 && is_part_line bytes
-
--- The bytes from the first heading after the first line on. `None` if there is no such heading, or if a damaged heading
--- may stand before it.
+-- The bytes from the first heading after the first line on. `None` if there is no such heading, or if a line before it
+-- may belong to a part.
 abbrev pub later_heading : List ℕ → Option (List ℕ)
 later_heading [] = None
 later_heading (byte ∷ bytes) =
     if byte == 10 && is_heading_line bytes then Some bytes
-    else if was_heading byte bytes then None else later_heading bytes
+    else if byte == 10 && may_be_part bytes then None else later_heading bytes
 
--- The bytes from the first heading on. All bytes if there is no heading, or if a damaged heading may stand before it.
+-- The bytes from the first heading on. All bytes if there is no heading, or if a line before it may belong to a part.
 abbrev pub from_heading : List ℕ → List ℕ
-from_heading bytes = if is_part_line bytes then bytes else unwrap_or (later_heading bytes) bytes
+from_heading bytes = if may_be_part bytes then bytes else unwrap_or (later_heading bytes) bytes
 
 -- the form, without a byte order mark, and without the lines before its first heading
 abbrev pub tidied : List ℕ → List ℕ

@@ -1,5 +1,6 @@
 //! Which lines of a damaged form are taken for headings.
 ghost use Rattle.std.specs.Prelude.{◌≡◌, ◌<◌, ◌≤◌, length, nat_le, slice_get};
+ghost use Rattle.kd_lost.specs.HeadingLine.{begins_apart, begins_with_five, begins_with_groups, has_five, leading_signs, may_be_part};
 ghost use Rattle.kd_lost.specs.HeadingLine.{after_blanks, after_word, begins_with_part, begins_with_three};
 ghost use Rattle.kd_lost.specs.HeadingLine.{fitting_signs, has_digit_line, has_lost_number, has_short_word, has_three};
 ghost use Rattle.kd_lost.specs.HeadingLine.{is_blank, is_blank_at, is_lost_sign};
@@ -7,7 +8,7 @@ ghost use Rattle.kd_lost.specs.HeadingLine.{heading_sign, heading_signs, is_head
 ghost use Rattle.kd_lost.specs.HeadingLine.{right_signs};
 ghost use Rattle.kd_lost.specs.HeadingLine.{ends_line, has_text_line, is_order, is_part_line, is_text_line};
 
-use crate::received::{is_lost, meant_byte};
+use crate::received::{is_lost, is_received, meant_byte};
 use arrayvec::ArrayString;
 
 /// Whether the first line of `bytes` is taken for a heading.
@@ -72,7 +73,40 @@ pub(crate) fn is_part_line(bytes: &[u8]) -> bool
     ensures { result ≡ is_part_line bytes.now }
 {
     let line = after_blanks(bytes);
-    begins_with_part(line) || begins_with_three(line)
+    begins_with_part(line) || begins_with_three(line) || begins_with_five(line)
+}
+
+/// Whether the first line of `bytes` may belong to a part: it begins like `PART`, or with two groups.
+#[tactic(auto, unfolding(crate::specs::HeadingLine::may_be_part))]
+pub(crate) fn may_be_part(bytes: &[u8]) -> bool
+    ensures { result ≡ may_be_part bytes.now }
+{
+    is_part_line(bytes) || begins_with_groups(bytes)
+}
+
+/// Whether the first line of `bytes` begins with two groups of five letters, some of them perhaps lost.
+fn begins_with_groups(bytes: &[u8]) -> bool
+    ensures { result ≡ begins_with_groups bytes.now }
+{
+    let line = after_blanks(bytes);
+    if leading_signs(line) != 5 {
+        return false;
+    }
+    let (_, rest) = line.split_at(5);
+    leading_signs(after_blanks(rest)) == 5
+}
+
+/// How many letters or lost signs stand at the beginning of `bytes`.
+fn leading_signs(bytes: &[u8]) -> usize
+    ensures signs { result ≡ leading_signs bytes.now }
+    ensures few { result ≤ length bytes.now }
+{
+    if let [byte, rest @ ..] = bytes
+        && is_received(byte)
+    {
+        return 1 + leading_signs(rest);
+    }
+    0
 }
 
 /// Whether `byte` is a space or a tab.
@@ -121,6 +155,34 @@ fn has_three(bytes: &[u8]) -> bool
         || are_right(3, b"PAR", bytes)
 }
 
+/// Whether `bytes` begin with `PART` with one more letter before its T, and no sixth letter follows.
+fn begins_with_five(bytes: &[u8]) -> bool
+    ensures { result ≡ begins_with_five bytes.now }
+{
+    has_five(bytes) && !is_letter(bytes.get(5).copied())
+}
+
+/// Whether the first five signs of `bytes` are `PART` with one more letter before its T.
+fn has_five(bytes: &[u8]) -> bool
+    ensures { result ≡ has_five bytes.now }
+{
+    begins_apart(b"", b"PART", bytes)
+        || begins_apart(b"P", b"ART", bytes)
+        || begins_apart(b"PA", b"RT", bytes)
+        || begins_apart(b"PAR", b"T", bytes)
+}
+
+/// Whether `bytes` begin with `front`, then any letter, then `back`.
+fn begins_apart(front: &[u8], back: &[u8], bytes: &[u8]) -> bool
+    ensures { result ≡ begins_apart front.now back.now bytes.now }
+{
+    if !is_letter(bytes.get(front.len()).copied()) {
+        return false;
+    }
+    let (_, rest) = bytes.split_at(front.len() + 1);
+    right_signs(front, bytes) == front.len() && right_signs(back, rest) == back.len()
+}
+
 /// Whether at least `least` signs of `bytes` equal the sign of `word` at the same place.
 fn are_right(least: usize, word: &[u8], bytes: &[u8]) -> bool
     ensures { result ≡ nat_le least (right_signs word.now bytes.now) }
@@ -135,13 +197,14 @@ fn are_fitting(least: usize, word: &[u8], bytes: &[u8]) -> bool
     fitting_signs(word, bytes) >= least
 }
 
-/// How many signs of `bytes` equal the sign of `word` at the same place.
+/// How many signs of the first line of `bytes` equal the sign of `word` at the same place.
 fn right_signs(word: &[u8], bytes: &[u8]) -> usize
     ensures signs { result ≡ right_signs word.now bytes.now }
     ensures few { result ≤ length word.now }
 {
     if let [letter, word @ ..] = word
         && let [byte, bytes @ ..] = bytes
+        && *byte != b'\n'
     {
         let right = usize::from(meant_byte(*byte) == *letter);
         return right + right_signs(word, bytes);
@@ -149,13 +212,14 @@ fn right_signs(word: &[u8], bytes: &[u8]) -> usize
     0
 }
 
-/// How many signs of `bytes` equal the sign of `word` at the same place, or are lost.
+/// How many signs of the first line of `bytes` equal the sign of `word` at the same place, or are lost.
 fn fitting_signs(word: &[u8], bytes: &[u8]) -> usize
     ensures signs { result ≡ fitting_signs word.now bytes.now }
     ensures few { result ≤ length word.now }
 {
     if let [letter, word @ ..] = word
         && let [byte, bytes @ ..] = bytes
+        && *byte != b'\n'
     {
         let fitting = usize::from(meant_byte(*byte) == *letter || is_lost(*byte));
         return fitting + fitting_signs(word, bytes);

@@ -2,19 +2,19 @@
 ghost use Rattle.std.specs.Prelude.{◌≡◌, ◌++◌, None, Some, MatchOption, MatchResult};
 ghost use Rattle.kd_lost.specs.DamagedPart.{first_line};
 ghost use Rattle.kd_lost.specs.Tidy.{as_space, ends_word, from_line_end, is_gap, later_heading, respaced};
-ghost use Rattle.kd_lost.specs.Tidy.{single_spaced, spaced_byte, tidied, was_heading, without_mark};
+ghost use Rattle.kd_lost.specs.Tidy.{single_spaced, spaced_byte, tidied, without_mark};
 
 use crate::form::{DamagedFormFault, ends_part};
-use crate::heading_line::{after_blanks, is_blank, is_part_line};
+use crate::heading_line::{after_blanks, is_blank, may_be_part};
 use std::alloc::Global;
 
-/// `form` without a byte order mark, and without the lines before its first heading. The lines stay if one may be a
-/// damaged heading.
+/// `form` without a byte order mark, and without the lines before its first heading. The lines stay if one may belong to
+/// a part.
 pub(crate) fn tidied(form: &[u8]) -> &[u8]
     ensures { result.now ≡ tidied form.now }
 {
     let bytes = without_mark(form);
-    if is_part_line(bytes) {
+    if may_be_part(bytes) {
         return bytes;
     }
     match later_heading(bytes) {
@@ -39,10 +39,8 @@ fn without_mark(form: &[u8]) -> &[u8]
     }
 }
 
-/// The bytes from the first heading after the first line on. `None` if there is no such heading, or if a damaged
-/// heading may stand before it.
-///
-/// The part under a damaged heading mustn't be dropped in silence.
+/// The bytes from the first heading after the first line on. `None` if there is no such heading, or if a line before it
+/// may belong to a part: a part with a damaged heading mustn't be dropped in silence.
 fn later_heading(bytes: &[u8]) -> Option<&[u8]>
     ensures { MatchOption result
         (later_heading bytes.now ≡ None)
@@ -53,18 +51,11 @@ fn later_heading(bytes: &[u8]) -> Option<&[u8]>
         if ends_part(*byte, rest) {
             return Some(rest);
         }
-        if was_heading(*byte, rest) {
+        if *byte == b'\n' && may_be_part(rest) {
             return None;
         }
     }
     None
-}
-
-/// Whether `byte` may belong to a damaged heading. It is a slash, or an LF before a line that begins like `PART`.
-fn was_heading(byte: u8, rest: &[u8]) -> bool
-    ensures { result ≡ was_heading byte rest.now }
-{
-    byte == b'/' || byte == b'\n' && is_part_line(rest)
 }
 
 /// `part` with single spaces between the words of its first line.

@@ -10,12 +10,12 @@ use Rattle.kd_state.specs.SameParts.{numbered_item}
 abbrev pub is_spare : Option ℕ × Option ℕ → Bool
 is_spare cable = is_none cable.0 && is_none cable.1
 
--- The cable with this number is spare. There may be no such cable.
+-- The cable with this number is spare, or there is no cable with this number.
 abbrev pub IsSpareCable : List (Option ℕ × Option ℕ) → ℕ → Type 0
 IsSpareCable cables number = IfSome (numbered_item cables number) (λ cable. IsTrue (is_spare cable))
 
 -- Letters are put only into cables in use, and into the first spare cables. If the day has `p` pairs, and `c` cables
--- are in use, at most `p - c` spare cables get letters (none if `c` is above `p`).
+-- are in use, at most `p - c` spare cables get letters. If `c` is above `p`, no spare cable gets letters.
 abbrev pub SparesStayFree : Parts → Day → List Setting → Type 0
 SparesStayFree = by_model (λ settings. ⊥)
     (λ machine day settings. (cable letter : ℕ) → Contains settings (Put cable letter)
@@ -30,12 +30,11 @@ SparesStayFree = by_model (λ settings. ⊥)
 abbrev pub is_spare_at : List (Option ℕ × Option ℕ) → ℕ → Bool
 is_spare_at cables place = is_spare (slice_index_or cables place (None, None))
 
--- whether the cable at `place` gets a pair before the spare cable at `spare`. It does if it is in use, or if `place` is
--- below `spare`.
+-- whether the cable at `place` comes before the spare cable at `spare`: it is in use, or `place` is below `spare`
 abbrev pub comes_before : List (Option ℕ × Option ℕ) → ℕ → ℕ → Bool
 comes_before cables place spare = nat_lt place spare || not (is_spare_at cables place)
 
--- If a spare cable is assigned a pair, so are all cables in use and all cables at lower places.
+-- A spare cable is assigned a pair only if each cable that comes before it is assigned a pair.
 abbrev pub SparesComeLast : List (Option ℕ × Option ℕ) → ℕ → List ℕ → Type 0
 SparesComeLast cables pairs to =
     (spare place : ℕ) → spare < 13 → IsTrue (is_spare_at cables spare) → slice_index to spare < pairs

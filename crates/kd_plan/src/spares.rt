@@ -1,4 +1,4 @@
-//! Assigns pairs to cables in use first. Only the remaining pairs go to spare cables, which have no letter.
+//! Assigns pairs first to cables in use. Only the remaining pairs go to spare cables, which have no letter.
 ghost use Rattle.std.specs.Prelude.{◌≡◌, ℕ, ◌<◌, ◌≤◌, length, slice_index, IsTrue, MatchOption};
 ghost use Rattle.kd_assign.specs.Assignment.{IsOneToOne, assignment_cost};
 ghost use Rattle.kd_plan.specs.Spares.{is_spare, comes_before, SparesComeLast};
@@ -7,7 +7,7 @@ ghost use Rattle.kd_state.specs.Costs.{cable_cost, columns_of, costs_by};
 use kd_state::Cable;
 use kd_tables::Letter;
 
-/// Changes the assignment `to`, so that a spare cable has a pair only if each cable before it has one.
+/// Changes the assignment `to`, so that a spare cable has a pair only if each cable before it has a pair.
 ///
 /// Cables in use come before spare cables, and spare cables are in the order of their numbers. In each step, a spare
 /// cable swaps its pair for the empty column of a cable before it. The spare cable's cost falls from 2 to 0, and the
@@ -29,7 +29,7 @@ pub(crate) fn keep_spares_free(cables: &[Cable; 13], pairs: &[(Letter, Letter)],
     }
 }
 
-/// Finds the first cable that has to get a pair before the spare cable `spare`, but is assigned none.
+/// Finds the first cable that has to get a pair before the spare cable `spare`, but isn't assigned a pair.
 ///
 /// A cable comes before `spare` if it is in use, or has a lower number. Cables are counted from 0. `pairs` is the
 /// number of pairs.

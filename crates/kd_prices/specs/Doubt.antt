@@ -1,5 +1,5 @@
--- Why a card doesn't prove itself: the first doubt, in a fixed order. The numbers of settings, rows and columns in a
--- doubt count from 1.
+-- Why a card doesn't prove itself: the first doubt, in a fixed order. The settings, rows and columns that a doubt names
+-- are counted from 1.
 use Rattle.std.specs.Prelude.{◌≡◌, ◌⊎◌, ℕ, ◌+◌, ◌<◌, List, ◌∷◌, ◌++◌, length, ℤ, pos, Ok, Err}
 use Rattle.kd_state.specs.{AnswerRules.{AnswerRule, Demands, Finds, ◌>>=◌}, Setting.{IsFirstIllegal, Leads}}
 use Rattle.kd_state.specs.declared.{machine.parts.Parts.{Parts, TheVariants.{Pin, Rotor}}, setting.Setting.Setting}
@@ -10,7 +10,8 @@ use Rattle.kd_card.specs.Proving.{AreSettingsNeeded, Expands, IsSettingNeeded, p
 use Rattle.kd_prices.specs.declared.doubt.Doubt.TheVariants.{NeedlessLine, NotTheSheet, PriceMissing, PriceTooHigh}
 use Rattle.kd_prices.specs.declared.doubt.Doubt.{Doubt, TheVariants.{IllegalAt, OtherModel, SumDiffers}}
 
--- The prices suit the machine: a rotor machine's are for cables and columns, a Converter's for bars and rows.
+-- The prices suit the machine: a rotor machine has prices of cables and columns, and a Converter has prices of bars and
+-- rows.
 abbrev pub PricesSuitMachine : Parts → PriceParts → Type 0
 PricesSuitMachine (Rotor machine) (Cables row col) = Unit {0}
 PricesSuitMachine (Rotor machine) (CableKinds row col) = Unit {0}
@@ -42,13 +43,13 @@ pub record IsFirstNeedless (machine : Parts) (day : Day) (settings : List Settin
   pub needed : AreSettingsNeeded machine day front
   pub needless : ¬ (IsSettingNeeded between day setting)
 
--- The result of carrying out the settings: the machine after them, or the first refused line and the reason.
+-- The result of carrying out the settings: the machine after the settings, or the first refused line and the reason.
 abbrev pub IsCarriedAnswer : Parts → List Setting → AnswerRule Doubt Parts
 IsCarriedAnswer machine settings (Ok after) = Leads machine settings after
 IsCarriedAnswer machine settings (Err (IllegalAt line why)) = IsFirstIllegal machine settings line why
 IsCarriedAnswer machine settings (Err doubt) = ⊥
 
--- The result of comparing the prices with the table of costs: success, or the first cell where they don't fit.
+-- The result of comparing the prices with the table of costs: success, or the first cell where the prices don't fit.
 abbrev pub IsFitsAnswer : List (List ℕ) → PriceParts → AnswerRule Doubt (Unit {0})
 IsFitsAnswer costs prices (Ok fits) = PricesFit costs prices
 IsFitsAnswer costs prices (Err (PriceTooHigh i j)) =
@@ -56,7 +57,7 @@ IsFitsAnswer costs prices (Err (PriceTooHigh i j)) =
     × IsFirstWithout (PricesFitAt costs prices) (table_size prices) row column
 IsFitsAnswer costs prices (Err doubt) = ⊥
 
--- The result of testing whether all settings are needed: success, or the first setting that isn't.
+-- The result of testing whether all settings are needed: success, or the first setting that isn't needed.
 abbrev pub IsNeededAnswer : Parts → Day → List Setting → AnswerRule Doubt (Unit {0})
 IsNeededAnswer machine day settings (Ok all) = AreSettingsNeeded machine day settings
 IsNeededAnswer machine day settings (Err (NeedlessLine line)) = IsFirstNeedless machine day settings line
@@ -87,8 +88,9 @@ IsDoubt machine day settings prices doubt = IsCheckedAnswer machine day settings
 
 -- ---- The steps of finding the first doubt. No public contract cites these definitions.
 
--- The result of checking settings by two lists of `number` prices: `rows` and `columns` of the table of costs. It is
--- success if the settings lead to the day and are proved shortest, otherwise the first doubt.
+-- The result of checking settings by two lists of `number` prices, for the rows and for the columns of the table of
+-- costs. If the settings lead to the day and are proved shortest, the result is success. Otherwise it is the first
+-- doubt.
 abbrev pub IsByPricesAnswer : Parts → Day → List Setting → ℕ → List ℤ → List ℤ → AnswerRule Doubt (Unit {0})
 IsByPricesAnswer machine day settings number rows columns answer =
     (prices : PriceParts) → machine_prices prices ≡ rows → day_prices prices ≡ columns → table_size prices ≡ number

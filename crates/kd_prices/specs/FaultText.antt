@@ -6,7 +6,7 @@ use Rattle.kd_prices.specs.declared.doubt.Doubt.TheVariants.{NeedlessLine, NotTh
 use Rattle.kd_prices.specs.declared.doubt.Doubt.{Doubt, TheVariants.{IllegalAt, OtherModel, SumDiffers}}
 use Rattle.kd_tables.specs.declared.refusal.Refusal.TheVariants as refusals
 
--- the text of a doubt: the refusal's number and name, and its numbers, which count from 1
+-- the text of a doubt: the refusal's number and name, and then the doubt's details, such as the number of a line
 abbrev pub doubt_text : Doubt → List ℕ
 doubt_text OtherModel = refusal_name refusals.OtherModel
 doubt_text PriceMissing = refusal_name refusals.PriceMissing

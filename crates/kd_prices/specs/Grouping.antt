@@ -22,15 +22,15 @@ abbrev pub AreSorted : {K X : Type 0} → KindFormat K X → List (X × ℤ) →
 AreSorted format pairs = IsSorted (λ one other. key_cmp format one.0 other.0) pairs
 
 -- These keys with prices can be grouped into valid kinds. The keys ascend, and equal keys have equal prices. Each key
--- has the form that a card writes, and each price is from -9999 to 9999.
+-- is valid on a card, and each price is from -9999 to 9999.
 pub record CanBeKinds {K X : Type 0} (format : KindFormat K X) (pairs : List (X × ℤ)) : Type 0 where
   pub sorted : AreSorted format pairs
   pub one_price : HaveOnePriceEach pairs
   pub fine : All (IsValidKeyAndPrice format) pairs
 
--- `new` is `old` followed by added kinds. Together, these count what `kind` counts, and each key of `pairs` with its
--- price. Suppose that these keys can be grouped into valid kinds. Then the added kinds are valid and strictly
--- ascending. If the key of `kind` comes after a kind `last`, so do all added kinds.
+-- The list `new` is the list `old`, followed by added kinds. Together, the added kinds count what `kind` counts, and
+-- each key of `pairs` with its price. Suppose that these keys can be grouped into valid kinds. Then the added kinds are
+-- valid and strictly ascending. If the key of `kind` comes after a kind `last`, so do all added kinds.
 pub record AppendsKinds {K X : Type 0} (format : KindFormat K X) (kind : KindOf X) (pairs : List (X × ℤ))
     (old new : List K) : Type 0 where
   pub made : List K
@@ -42,10 +42,10 @@ pub record AppendsKinds {K X : Type 0} (format : KindFormat K X) (kind : KindOf 
 
 -- ---- the price of each key of a kind
 
--- None of the kinds has this key and a count above 0.
+-- No kind has both this key and a count above 0.
 abbrev pub HasNoneLeft : {X : Type 0} → List (KindOf X) → X → Type 0
 HasNoneLeft kinds key = All (λ pair. pair.0 ≢ key) (expansion kinds)
 
--- `kinds` count what `left` counts, and one more `key` with the price `price`.
+-- The kinds `kinds` count the key `key` with the price `price`, and all that the kinds `left` count.
 abbrev pub TakesOne : {X : Type 0} → List (KindOf X) → X → ℤ → List (KindOf X) → Type 0
 TakesOne kinds key price left = IsPermutation (expansion kinds) ((key, price) ∷ expansion left)

@@ -24,7 +24,7 @@ OneDoubt =
     → IsDoubt machine day settings prices doubt → IsDoubt machine day settings prices other
     → doubt ≡ other
 
--- There are `number` settings, they lead the machine to the day, and no shorter list does.
+-- The list `settings` has `number` settings, and leads the machine to the day. No shorter list leads to the day.
 pub record AreShortest (machine : Parts) (day : Day) (settings : List Setting) (number : ℕ) : Type 0 where
   pub leads : LeadsToTheDay machine day settings
   pub shortest : IsShortest machine day settings
@@ -49,8 +49,8 @@ pub record AreEqualWhereAlike (machine : Parts) (day : Day) (prices : PriceParts
       (place other : ℕ) → place < table_size prices → other < table_size prices → ReadAlike day place other
       → price_at (day_prices prices) place ≡ price_at (day_prices prices) other
 
--- If a card with prices by number proves itself, equal cables, columns, bars or rows have equal prices. By number
--- means that each cable and column, or each bar and row, has its own price.
+-- If a card with prices by number proves itself, equal cables, columns, bars or rows have equal prices. Prices are *by
+-- number* if each cable and column, or each bar and row, has its own price.
 abbrev pub AlikePricesAreEqual : Type 0
 AlikePricesAreEqual =
     (machine : Parts) (day : Day) (settings : List Setting) (prices : PriceParts) → IsMachine machine → IsLegalDay day

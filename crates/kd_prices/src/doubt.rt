@@ -16,7 +16,7 @@ pub enum Doubt {
     OtherModel,
     /// The card has prices by kind, but its kinds or their counts differ from the machine's or the day's.
     PriceMissing,
-    /// The machine refuses this line, for this reason, after the lines before it are carried out.
+    /// After the earlier lines are carried out, the machine refuses this line for this reason.
     IllegalAt(usize, Why),
     /// After the card's settings, the machine isn't set as the day says, or shows other letters than the day's.
     NotTheSheet,

@@ -7,8 +7,8 @@ use super::kind_keys::is_same_key;
 use arrayvec::ArrayVec;
 use kd_card::{Kind, KindOf};
 
-/// Groups keys with prices into kinds. Equal keys share one kind, if they have equal prices, and all keys and prices
-/// are valid.
+/// Groups keys with prices into kinds. If equal keys have equal prices, and all keys and prices are valid, equal keys
+/// share one kind.
 ///
 /// `pairs` are keys (the letters of a cable or column, a standing or a reading) with their prices. If equal keys have
 /// different prices, several kinds have this key, and `Prices` refuses the kinds.
@@ -40,7 +40,7 @@ fn kind_of_one<T: Copy>(pair: &(T, i16)) -> KindOf<T>
 
 /// Appends `kind` to `kinds`, and then the kinds of `pairs`, which are keys with prices.
 ///
-/// If the first `pairs` have the key and the price of `kind`, they are counted in `kind`.
+/// The pairs at the start of `pairs` that have the key and the price of `kind` are counted in `kind`.
 fn push_kinds<K: Kind, const N: usize>(
     kind: KindOf<K::Key>,
     pairs: &[(K::Key, i16)],

@@ -1,5 +1,5 @@
-//! Converts a card with prices by number to a card with prices by kind. By number, each cable, pair, bar or row has its
-//! own price.
+//! Converts a card with prices by number to a card with prices by kind. Prices are *by number* if each cable, pair, bar
+//! or row has its own price.
 ghost use Rattle.std.specs.Prelude.{◌≡◌, ◌↔◌, IfSome, IsSome};
 ghost use Rattle.kd_card.specs.{Prices.version_of, Proving.Expands, declared.prices.Version.TheVariants.ByKind};
 ghost use Rattle.kd_prices.specs.KindCards.{CanBeByKind, IsByKind};
@@ -13,8 +13,8 @@ use kd_state::{Machine, OneModel, SheetDay};
 /// Converts `card` to a card where each kind has the price that its members have on `card`. The settings stay.
 ///
 /// `None` if machine and day are of different models. Also `None` if the prices aren't for this machine, or are by kind
-/// already. Also `None` if two equal cables, columns, bars or rows have different prices. On a card that proves itself,
-/// this never happens.
+/// already. Also `None` if two equal cables, columns, bars or rows have different prices, which never happens on a card
+/// that proves itself.
 pub fn by_kind(machine: &Machine, day: &SheetDay, card: &Card) -> Option<Card>
     ensures some { IsSome result ↔ CanBeByKind machine.now day.now card.now.prices }
     ensures card { IfSome result (λ other. IsByKind machine.now day.now card.now other) }

@@ -1,4 +1,4 @@
-//! Compares keys of kinds, lists the keys of a day's columns, and pairs keys with prices.
+//! Compares keys of kinds, lists the keys of a day's columns, and joins each key to its price.
 ghost use Rattle.std.specs.Prelude.{◌≡◌, ◌↔◌, ◌≤◌, length, zip, IsTrue};
 ghost use Rattle.kd_state.specs.OnKey.{columns_in_order};
 
@@ -28,7 +28,7 @@ pub(crate) fn columns_of(pairs: &[(Letter, Letter)]) -> ArrayVec<Option<(Letter,
     columns
 }
 
-/// Pairs each key in `keys` with the price at the same place in `prices`.
+/// Joins each key in `keys` to the price at the same place in `prices`.
 pub(crate) fn with_prices<T: Copy + Default, const N: usize>(
     keys: &[T],
     prices: &[i16; N],

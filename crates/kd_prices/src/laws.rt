@@ -14,9 +14,9 @@ pub fn rest_of_a_card_is_shortest()
 
 /// If a card with prices by number proves itself, equal cables, columns, bars or rows have equal prices.
 ///
-/// By number means that each of them has its own price. Cables are equal if they have the same letters. Bars are equal
-/// if their lugs are at the same places. Rows of the sheet are equal if they have the same reading. All empty columns
-/// (those without a pair) are equal.
+/// Prices are *by number* if each cable, column, bar or row has its own price. Cables are equal if they have the same
+/// letters. Bars are equal if their lugs are at the same places. Rows of the sheet are equal if they have the same
+/// reading. All empty columns (those without a pair) are equal.
 #[tactic(auto, using(crate::proofs::AlikePrices::alike_prices_are_equal))]
 pub fn alike_prices_are_equal()
     ensures { AlikePricesAreEqual }

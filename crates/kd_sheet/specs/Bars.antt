@@ -1,5 +1,5 @@
 -- How standings are read from a machine file, and readings from a key sheet. A bar's standing has the places of its two
--- lugs. Its reading has the numbers of the wheels at these places, 0 without a wheel.
+-- lugs. A bar's reading has the numbers of the wheels at these places; the number is 0 at a place without a wheel.
 -- Test: tests/cases/desk-files.toml
 use Rattle.std.specs.Prelude.{ℕ, nat_eq, ◌+◌, ◌-◌, ◌==◌, ◌&&◌, ◌||◌, nat_le, not, List, [], ◌∷◌, length, Option}
 use Rattle.std.specs.Prelude.{Some, None, Result, ok_or, if◌then◌else◌}
@@ -21,8 +21,8 @@ unfoldable pub bars_in : Members → Result (List (Place × Place)) SheetFault
 bars_in table =
     value_at keys.Bars table >>= read_array keys.Bars (nat_eq 27) (or_bad_row (find_by_text standing_text standings))
 
--- the two digits of a row's text, the lower first: `3-0` gives 0 and 3. Each is from 0 to 6. They differ, or both are
--- 0.
+-- the two digits of a row's text, the smaller first: `3-0` gives 0 and 3. Both digits are from 0 to 6, and they differ
+-- or both are 0.
 unfoldable pub reading_of_text : List ℕ → Option (ℕ × ℕ)
 reading_of_text (one ∷ dash ∷ other ∷ []) =
     if list_all (λ x. nat_le 48 x && nat_le x 54) (one ∷ other ∷ []) && dash == 45 && (not (one == other) || one == 48)

@@ -30,7 +30,8 @@ document_of bytes = if is_utf8 bytes then ok_or (parse_document bytes) NotToml e
 abbrev pub value_at : Key → Members → Result Data SheetFault
 value_at key table = ok_or (get_member (key_name key) table) (Missing key)
 
--- the result of `parse` for the value at `key`. `Missing` if the key is absent, `BadValue` if `parse` gives `None`.
+-- the result of `parse` for the value at `key`. It is the fault `Missing` if the key is absent, and the fault
+-- `BadValue` if `parse` gives `None`.
 abbrev pub read_at : {A : Type 0} → Key → (Data → Option A) → Members → Result A SheetFault
 read_at key parse table = value_at key table >>= (λ value. ok_or (parse value) (BadValue key))
 
@@ -44,7 +45,7 @@ items_list (item first rest) = first ∷ items_list rest
 abbrev pub as_items : Data → Option (List Data)
 as_items value = option_map items_list (as_array value)
 
--- the values that `parse` gives for the items of the array `value`; their number must pass the test `fits`
+-- the values that `parse` gives for the items of the array `value`; the number of items must pass the test `fits`
 abbrev pub read_array : {A : Type 0} → Key → (ℕ → Bool) → (List A → Data → Result A SheetFault) → Data
     → Result (List A) SheetFault
 read_array key fits parse value = do
@@ -54,6 +55,6 @@ read_array key fits parse value = do
 
 -- ---- What inner functions answer. No public contract cites this definition.
 
--- `answer` with `view` applied to its value; a fault stays as it is
+-- the result `answer`, with the function `view` applied to its value; a fault stays as it is
 abbrev pub result_map : {A B : Type 0} → (A → B) → Result A SheetFault → Result B SheetFault
 result_map view answer = result_map_both view (λ fault. fault) answer

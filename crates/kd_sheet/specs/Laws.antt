@@ -1,5 +1,5 @@
 -- The laws of machine files and key sheets. A written machine is read back. A day is legal exactly if some entry of a
--- key sheet describes it.
+-- key sheet describes the day.
 use Rattle.std.specs.Prelude.{◌≡◌, ◌↔◌, ℕ, List, [], ◌∷◌, Contains, Some, Ok}
 use Rattle.toml.specs.Data.{Data}
 use Rattle.kd_state.specs.declared.machine.parts.Parts.{Parts}

@@ -41,7 +41,7 @@ file_version _ = 1
 abbrev pub slot_text : Option Wheel → List ℕ
 slot_text slot = option_map_or wheel_text slot []
 
--- the letters in a cable, as a text of no, one or two letters
+-- the letters in a cable, as a text of at most two letters
 abbrev pub cable_text : Option ℕ × Option ℕ → List ℕ
 cable_text cable = letters_text (cable_letters cable)
 

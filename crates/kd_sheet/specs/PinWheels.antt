@@ -16,21 +16,21 @@ use Rattle.kd_sheet.specs.declared.key.Key.TheVariants as keys
 use Rattle.kd_sheet.specs.declared.fault.SheetFault.{SheetFault}
 use Rattle.kd_sheet.specs.declared.fault.SheetFault.TheVariants.{BadValue}
 
--- the letters that the six wheels show, from wheel 1 to wheel 6, as the text at `key` has them
+-- the letters that the six wheels show, from wheel 1 to wheel 6: the letters of the text at `key`
 unfoldable pub shown_letters_in : Key → Members → Result (List ℕ) SheetFault
 shown_letters_in key table = do
   letters ← letters_at key 6 table
   demand (list_all (λ numbered. has_letter (ring_of numbered.0) numbered.1) (enumerate_from 1 letters)) (BadValue key)
   Ok letters
 
--- The pins of a wheel, in the order of the wheel's letters `ring`. A pin is effective if `text` has its letter. The
--- result is `None` if a byte of `text` isn't a capital letter of the wheel, or comes twice.
+-- The pins of a wheel, in the order of the wheel's letters `ring`. A pin is effective if `text` has the pin's letter.
+-- The result is `None` if a byte of `text` isn't a capital letter of the wheel, or comes twice.
 unfoldable pub pins_of_text : List ℕ → List ℕ → Option (List Bool)
 pins_of_text ring text =
     if list_all (has_letter (letters_text ring)) text && are_new_and_distinct text []
     then Some (map (has_letter text) (letters_text ring)) else None
 
--- the pins that an item describes; `earlier` has the pins of the wheels before the item's wheel
+-- the pins that an item describes; the list `earlier` has the pins of the wheels before the item's wheel
 abbrev pub pins_for : List (List Bool) → Data → Result (List Bool) SheetFault
 pins_for earlier item = ok_or (from_text (pins_of_text (ring_of (length earlier + 1))) item) (BadValue keys.Pins)
 
@@ -40,6 +40,6 @@ pins_in table = value_at keys.Pins table >>= read_array keys.Pins (nat_eq 6) pin
 
 -- ---- Reading items one by one. No public contract cites this definition.
 
--- the pins of the six wheels, from one item for each wheel, wheel 1 first
+-- the pins of the six wheels, from a list with an item for each wheel, from wheel 1 to wheel 6
 abbrev pub pins_of_items : List Data → Result PinSet SheetFault
 pins_of_items items = read_items pins_for items >>= (λ pins. Ok (pin_set pins))

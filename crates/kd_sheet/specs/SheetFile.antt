@@ -68,7 +68,7 @@ unfoldable pub day_in : ℕ → Model → Members → Result Day SheetFault
 day_in number M209 table = pin_day_in number table
 day_in number model table = rotor_day_in number model table
 
--- the day that `item` describes, or its first fault; `days` are the days of the items before `item`
+-- the day that `item` describes, or the item's first fault; `days` are the days of the items before `item`
 unfoldable pub day_for : List Day → Data → Result Day SheetFault
 day_for days item = do
   table ← ok_or (as_table item) (BadValue keys.Day)

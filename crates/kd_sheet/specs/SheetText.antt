@@ -11,7 +11,7 @@ use Rattle.kd_state.specs.SheetDay.{Day, Rotor, Pin, RotorDay, PinDay, IsLegalDa
 use Rattle.kd_sheet.specs.MachineText.{quoted_text, array_text, key_line, pin_texts}
 use Rattle.kd_sheet.specs.declared.key.Key.TheVariants as keys
 
--- an empty line if a section comes before (`started`), otherwise nothing
+-- an empty line if there is an earlier section (`started`), otherwise nothing
 abbrev pub section_gap : Bool → List ℕ
 section_gap started = if started then codes "\n" else []
 
@@ -19,7 +19,7 @@ section_gap started = if started then codes "\n" else []
 abbrev pub section_text : Bool → List (List ℕ) → List ℕ
 section_text started lines = section_gap started ++ codes "[[day]]\n" ++ concat lines
 
--- the sections of several days, each given by its lines
+-- the sections of several days; each day is given by its lines
 abbrev pub sections_text : Bool → List (List (List ℕ)) → List ℕ
 sections_text started [] = []
 sections_text started (lines ∷ days) = section_text started lines ++ sections_text true days
@@ -64,11 +64,12 @@ abbrev pub day_lines : Day → List (List ℕ)
 day_lines (Rotor s) = rotor_day_lines s
 day_lines (Pin s) = pin_day_lines s
 
--- the text of a key sheet for `days`, at least one day
+-- the text of a key sheet for the list `days`, which has at least one day
 unfoldable pub sheet_text : List Day → List ℕ
 sheet_text days = sections_text false (map day_lines days)
 
--- Each day in the second list is legal. Its number differs from the numbers of all days before it, in both lists.
+-- Each day in the second list is legal, and its number differs from the numbers of all days before it. The days of the
+-- first list come before the days of the second list.
 abbrev pub AreSheetDays : List Day → List Day → Type 0
 AreSheetDays earlier [] = ⊤
 AreSheetDays earlier (day ∷ days) =

@@ -12,7 +12,7 @@ use thiserror::Error;
 pub enum SheetFault {
     /// The bytes aren't a TOML document.
     NotToml,
-    /// The text at `model` names no model, or the M4 in a machine file of version 1.
+    /// The text at `model` names no model, or it names the M4 in a machine file of version 1.
     UnknownModel,
     /// A required key is absent.
     Missing(Key),

@@ -1,4 +1,4 @@
-//! Reads machine files and key sheets; writes machine files, and single lines of both.
+//! Reads and writes machine files, reads key sheets, and writes single lines of machine files and key sheets.
 #![tactic(auto)]
 
 pub mod by_key;

@@ -35,7 +35,7 @@ impl Sheet {
         }
     }
 
-    /// Day `number`, if the sheet has it.
+    /// Day `number`, if the sheet has this day.
     pub fn day(&self, number: u8) -> Option<&SheetDay>
         ensures value { option_copied result ≡ day_of self.now number }
         ensures number { IfSome result (λ day. day_number day.now ≡ number) }
@@ -44,7 +44,7 @@ impl Sheet {
         self.days.get(index)?.as_ref()
     }
 
-    /// Takes day `number` out of the sheet, if the sheet has it.
+    /// Takes day `number` out of the sheet, if the sheet has this day.
     pub fn into_day(self, number: u8) -> Option<SheetDay>
         ensures value { result ≡ day_of self number }
         ensures number { IfSome result (λ day. day_number day ≡ number) }

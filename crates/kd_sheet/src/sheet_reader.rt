@@ -18,7 +18,7 @@ use kd_state::SheetDay;
 use std::alloc::Global;
 use toml::Value;
 
-/// Reads the day that `item` describes, or returns its first fault. `sheet` has the days of earlier items.
+/// Reads the day that `item` describes, or returns the item's first fault. `sheet` has the days of earlier items.
 #[tactic(auto, using(crate::proofs::ReadBack::Described::day_of_is_some), unfolding(crate::specs::SheetFile::day_for))]
 fn day_for(sheet: &Sheet, item: &Value) -> Result<SheetDay, SheetFault>
     ensures { (days : List Day) → sheet.now ≡ month_of days → result ≡ day_for days (view item.now) }

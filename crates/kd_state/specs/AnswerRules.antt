@@ -23,7 +23,7 @@ says >>= next = ThenNext says next
 abbrev pub Yields : {F X : Type 0} → X → AnswerRule F X
 Yields x answer = answer ≡ Ok x
 
--- the rule of a search: any value with the property is right. If no value has it, the fault is right.
+-- the rule of a search: any value with the property is right. If no value has the property, the fault is right.
 abbrev pub Finds : {F X : Type 0} → (X → Type 0) → F → AnswerRule F X
 Finds Holds due (Ok x) = Holds x
 Finds {X} Holds due (Err fault) = ((x : X) → ¬ (Holds x)) × (fault ≡ due)
@@ -32,7 +32,7 @@ Finds {X} Holds due (Err fault) = ((x : X) → ¬ (Holds x)) × (fault ≡ due)
 abbrev pub Demands : {F : Type 0} → Type 0 → F → AnswerRule F (Unit {0})
 Demands Holds due = Finds (λ _. Holds) due
 
--- The rule for a step that always finds a value: any value with the property is right, a fault never.
+-- The rule for a step that always finds a value: any value with the property is right, and no fault is right.
 abbrev pub FindsAlways : {F X : Type 0} → (X → Type 0) → AnswerRule F X
 FindsAlways Holds (Ok x) = Holds x
 FindsAlways Holds (Err fault) = ⊥

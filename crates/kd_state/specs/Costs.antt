@@ -26,11 +26,11 @@ exactly_one a b = if a then not b else b
 abbrev pub one_unless : Bool → ℕ
 one_unless same = if same then 0 else 1
 
--- the letters of a column's pair; none without a pair
+-- the letters of a column's pair; no letters if the column has no pair
 abbrev pub column_letters : Option (ℕ × ℕ) → List ℕ
 column_letters column = option_map_or (λ pair. pair.0 ∷ pair.1 ∷ []) column []
 
--- the cost of a cable and a column: the number of letters that only one of them has
+-- the cost of a cable and a column: the number of letters that only the cable or only the column's pair has
 abbrev pub cable_cost : Option ℕ × Option ℕ → Option (ℕ × ℕ) → ℕ
 cable_cost cable column =
     count_by (λ l. exactly_one (has_letter (cable_letters cable) l) (has_letter (column_letters column) l)) alphabet
@@ -44,11 +44,12 @@ unfoldable pub standings_as : ℕ × ℕ → List (Place × Place)
 standings_as row =
     filter (λ bar. let reading = reading_of bar in nat_eq reading.0 row.0 && nat_eq reading.1 row.1) standings
 
--- The cost of making a bar read as this row: the least number of lugs to move, at most 2.
+-- The cost of giving a bar the reading of this row: the least number of lugs to move, at most 2.
 abbrev pub bar_cost : Place × Place → ℕ × ℕ → ℕ
 bar_cost standing row = fold min 2 (map (lugs_moved standing) (standings_as row))
 
--- the standing that reads as the row with the fewest lugs to move; of two, the first in `standings`
+-- the standing that reads as the row after the fewest moves of lugs. Of two equally near standings, it is the first in
+-- `standings`.
 abbrev pub nearest_standing : Place × Place → ℕ × ℕ → Option (Place × Place)
 nearest_standing bar row = find (λ other. nat_eq (lugs_moved bar other) (bar_cost bar row)) (standings_as row)
 
@@ -70,8 +71,8 @@ cost_table = by_model [] (λ machine day. costs_by cable_cost machine.cables (co
 
 -- ---- Loose things: all things that differ from the day, except cables and bars.
 
--- the number of loose things: slots, reflector, rings and letters of the day's wheels. On a Converter: pins and shown
--- letters.
+-- the number of loose things, which aren't as the day says. On a rotor machine, these are slots, the reflector, and
+-- rings and letters of the day's wheels. On a Converter, these are pins and shown letters.
 abbrev pub loose_count : Parts → Day → ℕ
 loose_count = by_model 0
     (λ machine day.

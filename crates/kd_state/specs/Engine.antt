@@ -4,7 +4,7 @@ use Rattle.kd_state.specs.declared.engine.Mechanism.{Mechanism}
 use Rattle.kd_state.specs.declared.engine.Mechanism.TheVariants.{ThreeWheels, FourWheels, Drum}
 use Rattle.kd_state.specs.EngineKey.{EngineKey, Rotor, Pin}
 
--- the key of the Enigma or of the Converter that is in an engine
+-- the key of the Enigma or of the Converter in the engine
 abbrev pub mechanism_key : Mechanism → EngineKey
 mechanism_key (ThreeWheels key) = Rotor key
 mechanism_key (FourWheels key) = Rotor key

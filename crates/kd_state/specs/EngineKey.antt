@@ -10,7 +10,7 @@ pub data EngineKey : Type 0 where
   Rotor : RotorKey → EngineKey
   Pin : PinKey → EngineKey
 
--- the ciphertext of a text by an engine with this key, for letters below 26
+-- the ciphertext that an engine with this key makes of a text; the text's letters are below 26
 abbrev pub cipher : EngineKey → List ℕ → List ℕ
 cipher (Rotor key) text = enigma_cipher key text
 cipher (Pin key) text = converter_cipher key text

@@ -1,15 +1,15 @@
--- How a definition tests step by step. Each step gives a value or a fault. The steps of a `do` run in order, and the
+-- Definitions that test step by step: each step gives a value or a fault. The steps of a `do` run in order, and the
 -- first fault is the result of the whole `do`.
 -- Code: `?` returns the first fault.
 use Rattle.std.specs.Prelude.{Bool, Result, Ok, Err, if◌then◌else◌}
 
--- Applies `next` to the left operand if this is a value; a fault stays as it is.
+-- Applies the function `next` to the left operand if this is a value; a fault stays as it is.
 infixl 10 ◌>>=◌
 abbrev pub ◌>>=◌ : {A B F : Type 0} → Result A F → (A → Result B F) → Result B F
 (Ok x) >>= next = next x
 (Err fault) >>= next = Err fault
 
--- `next` if `test` is `Ok`; otherwise the fault of `test`.
+-- The right operand if the left operand `test` is `Ok`, otherwise the fault of `test`.
 infixl 10 ◌>>◌
 abbrev pub ◌>>◌ : {B F : Type 0} → Result (Unit {0}) F → Result B F → Result B F
 test >> next = test >>= (λ _. next)

@@ -103,7 +103,7 @@ OnKeyEnciphersByDaysKey =
     (machine : Parts) (day : Day) (text : List ℕ) → IsMachine machine → IsLegalDay day → OnKey machine day
     → physical_cipher machine text ≡ cipher (key_with_window (sheet_key day) (window_of machine)) text
 
--- A machine on the day's key that is turned to other letters enciphers by the day's key, starting from these letters.
+-- If a machine on the day's key is turned to other letters, it enciphers by the day's key, starting from these letters.
 abbrev pub TurnedEnciphersByDaysKey : Type 0
 TurnedEnciphersByDaysKey =
     (machine turned : Parts) (day : Day) (window text : List ℕ) → IsMachine machine → IsLegalDay day → OnKey machine day

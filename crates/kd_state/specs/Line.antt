@@ -13,7 +13,7 @@ use Rattle.kd_state.specs.declared.setting.Setting.TheVariants.{LugTo}
 use Rattle.kd_state.specs.declared.setting.list.ListFault.{ListFault}
 use Rattle.kd_state.specs.declared.setting.list.ListFault.TheVariants.{BadLine, TooMany}
 
--- the word for a pin in a line: `ON` if it is effective, otherwise `OFF`
+-- the word for a pin in a line: `ON` for an effective pin, otherwise `OFF`
 abbrev pub on_off_text : Bool → List ℕ
 on_off_text effective = if effective then codes "ON" else codes "OFF"
 
@@ -67,8 +67,8 @@ pub record BeginsWithAllSettings (bytes : List ℕ) (settings : List Setting) (r
   pub none_more : BeginsWithNoSetting rest
 
 -- Why the bytes aren't the text of a list. `BadLine` has the number, counted from 1, of the first line that has no LF
--- or isn't a setting's. At most 192 settings come before this line. `TooMany`: the bytes begin with the lines of 193
--- settings.
+-- or isn't the line of a setting. At most 192 settings come before this line. `TooMany` means that the bytes begin with
+-- the lines of 193 settings.
 abbrev pub IsListFault : List ℕ → ListFault → Type 0
 IsListFault bytes (BadLine line) =
     (settings : List Setting) × (rest : List ℕ)

@@ -24,7 +24,8 @@ abbrev pub cables_of : List (ℕ × ℕ) → List (Option ℕ × Option ℕ)
 cables_of pairs =
     map (λ pair. cable_in_order (Some pair.0) (Some pair.1)) pairs ++ replicate (13 - length pairs) (None, None)
 
--- The machine has the day's model, its reflector, its wheels with their rings, and the day's cables in any order.
+-- The machine has the day's model, the day's reflector, the day's wheels with their rings, and the day's cables in any
+-- order.
 pub record IsRotorOnKey (machine : RotorParts) (day : RotorDay) : Type 0 where
   pub model : machine.model ≡ day.model
   pub slots : machine.slots ≡ seats_of_wheels day.wheels
@@ -50,6 +51,7 @@ pub record ReadsAs (machine : Parts) (day : Day) : Type 0 where
 
 -- ---- The cables by columns. No public contract cites this definition.
 
--- the cable for a column: with the letters of the column's pair in alphabetical order, or empty without a pair
+-- the cable for a column, with the letters of the column's pair in alphabetical order; empty for a column without a
+-- pair
 abbrev pub cable_of_column : Option (ℕ × ℕ) → Option ℕ × Option ℕ
 cable_of_column column = option_map_or (λ pair. (Some pair.0, Some pair.1)) (pair_in_order column) (None, None)

@@ -1,4 +1,4 @@
--- When a machine allows a setting, and which one thing the setting changes, part by part.
+-- When a machine allows a setting, and which one thing the setting changes.
 -- Source: this desk's own rules; `outcome` in Setting.antt has the same rules as steps, with the reasons for refusals.
 -- Code: `carry` changes the machine in place.
 use Rattle.std.specs.Prelude.{◌≡◌, ◌≢◌, ◌↔◌, ℕ, ◌+◌, IsTrue, Bool, List, length, map, Contains}
@@ -17,14 +17,15 @@ use Rattle.kd_state.specs.{SameParts.{place_in_box, numbered_item}, Pins.{pin_se
 use Rattle.kd_state.specs.Machine.{IsMachine, cable_letters, letters_in_cables}
 use Rattle.kd_state.specs.Setting.{Carries, has_loose_end, with_lug, cable_without, cable_with, seat_without}
 
--- Item `number`, counted from 1, of `after` is `value`. All other items are those of `before`.
+-- The list `after` is the list `before`, but its item `number`, counted from 1, is `value`.
 pub record IsItemChanged {X : Type 0} (before : List X) (number : ℕ) (value : X) (after : List X) : Type 0 where
   pub size : length after ≡ length before
   pub item : numbered_item after number ≡ Some value
   pub others : (other : ℕ) → other ≢ number → numbered_item after other ≡ numbered_item before other
 
--- The machine has no reason to refuse the setting. `after` is the machine with one item of one part changed. Everything
--- else stays, also the rings and letters of the wheels in the box. `Seat` also empties the wheel's old slot.
+-- The machine has no reason to refuse the setting. The machine `after` is this machine with one item of one part
+-- changed. Everything else stays, also the rings and letters of the wheels in the box. `Seat` also empties the wheel's
+-- old slot.
 abbrev pub MakesOneChange : Parts → Setting → Parts → Type 0
 MakesOneChange (Rotor m) (Pull cable letter) after =
     (held : Option ℕ × Option ℕ) × (numbered_item m.cables cable ≡ Some held) × Contains (cable_letters held) letter

@@ -6,7 +6,7 @@ use Rattle.kd_pins.specs.declared.pin_set.PinSet.{PinSet}
 use Rattle.kd_pins.specs.PinWheels.{pins_of}
 use Rattle.kd_state.specs.SameParts.{numbered_item}
 
--- the pins of the pin wheel with this number, in the wheel's order; none without such a wheel
+-- the pins of the pin wheel with this number, in the wheel's order; no pins if no wheel has this number
 abbrev pub wheel_pins : PinSet → ℕ → List Bool
 wheel_pins pins wheel = unwrap_or (numbered_item (pins_of pins) wheel) []
 

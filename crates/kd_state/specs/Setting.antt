@@ -42,7 +42,7 @@ with_lug Right place bar = (bar.0, place)
 abbrev pub cable_without : ℕ → Option ℕ × Option ℕ → Option ℕ × Option ℕ
 cable_without letter cable = if option_map_or (nat_eq letter) cable.0 false then (cable.1, None) else (cable.0, None)
 
--- the cable with this letter added, its letters in alphabetical order; an end of the cable must be empty
+-- the cable with this letter added, and with its letters in alphabetical order; an end of the cable must be empty
 abbrev pub cable_with : ℕ → Option ℕ × Option ℕ → Option ℕ × Option ℕ
 cable_with letter cable = cable_in_order (option_or cable.0 cable.1) (Some letter)
 
@@ -97,7 +97,7 @@ outcome (Pin machine) (LugTo bar lug place) = do
   Ok (Pin (record machine { bars = slice_set machine.bars (bar - 1) moved }))
 outcome _ _ = Err OtherModel
 
--- The machine carries the setting out, and then is `after`.
+-- The machine carries the setting out, and becomes the machine `after`.
 abbrev pub Carries : Parts → Setting → Parts → Type 0
 Carries machine setting after = outcome machine setting ≡ Ok after
 
@@ -128,8 +128,8 @@ pub record IsFirstIllegal (machine : Parts) (settings : List Setting) (line : �
 
 -- ---- What `carry` answers for machines of one sort. No public contract cites this definition.
 
--- The answer to a setting is right. With success, the machine has carried the setting out. With a reason, it is the
--- first reason to refuse, and the machine is unchanged.
+-- The answer to a setting is right. If the answer is success, the machine has carried the setting out. If the answer is
+-- a reason, it is the first reason to refuse, and the machine is unchanged.
 abbrev pub IsCarryAnswer : Parts → Setting → Parts → Result ⊤ Why → Type 0
 IsCarryAnswer machine setting after answer =
     MatchResult answer (λ _. Carries machine setting after) (λ why. Refuses machine setting why × (after ≡ machine))

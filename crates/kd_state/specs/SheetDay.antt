@@ -128,7 +128,7 @@ abbrev pub day_wheel : Day → ℕ → Option SheetWheel
 day_wheel (Rotor values) slot = numbered_item values.wheels slot
 day_wheel (Pin values) slot = None
 
--- the day's letter for a slot's window or for a pin wheel; `None` if the model lacks it
+-- the day's letter for a slot's window or for a pin wheel; `None` if the model lacks the slot or the wheel
 abbrev pub day_window_letter : Day → ℕ → Option ℕ
 day_window_letter (Rotor values) slot = option_map (λ w. w.letter) (numbered_item values.wheels slot)
 day_window_letter (Pin values) wheel = numbered_item values.window wheel

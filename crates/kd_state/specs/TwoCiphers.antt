@@ -52,7 +52,8 @@ key_of_rotor_parts machine = record {
 abbrev pub key_of_pin_day : PinDay → PinKey
 key_of_pin_day day = record { pins = pins_of day.pins; letters = day.window; bars = day.rows }
 
--- the ciphertext of a ready machine: a rotor machine's by its key, a Converter's by its pins, letters and lugs
+-- the ciphertext that a ready machine makes of a text. A rotor machine enciphers by its key, and a Converter by its
+-- pins, letters and lugs.
 abbrev pub physical_cipher : Parts → List ℕ → List ℕ
 physical_cipher (Rotor machine) text = enigma_cipher (key_of_rotor_parts machine) text
 physical_cipher (Pin machine) text =

@@ -1,4 +1,4 @@
-//! Costs: the fewest settings that give a cable a day's pair, or make a bar read as a row.
+//! Costs: the fewest settings that give a cable a day's pair, or give a bar the reading of a row.
 
 pub(crate) mod tables;
 
@@ -39,7 +39,7 @@ pub fn lies_in_column(column: Option<(Letter, Letter)>, letter: Letter) -> bool
     }
 }
 
-/// The cost of making a bar at `standing` read as `row`: the least number of lugs to move.
+/// The cost of giving a bar at `standing` the reading `row`: the least number of lugs to move.
 pub fn bar_cost(standing: Standing, row: Reading) -> u8
     ensures cost { result ≡ costs.bar_cost standing row }
     ensures bound { result ≤ 2 }
@@ -110,7 +110,7 @@ fn place_of_pin_wheel(number: u8) -> Place
     }
 }
 
-/// How many of the two lugs are at different places in `standing` and in `other`.
+/// The number of lugs, 0 to 2, whose places differ between the standings `standing` and `other`.
 fn lugs_moved(standing: Standing, other: Standing) -> u8
     ensures value { result ≡ costs.lugs_moved standing other }
     ensures bound { result ≤ 2 }

@@ -75,7 +75,7 @@ impl Machine {
 
     /// Carries `setting` out.
     ///
-    /// If the machine refuses the setting, it stays as it was, and the error has the first reason.
+    /// If the machine refuses the setting, the machine stays as it was, and the error has the first reason.
     pub fn carry(&mut self, setting: Setting) -> Result<(), Illegal>
         ensures carried { OnOk result (Carries self.old setting self.new) }
         ensures refused { IfErr result (λ illegal. Refuses self.old setting illegal.why) }

@@ -98,7 +98,7 @@ pub(crate) fn learn_pins(pins: PinSet)
     prove!(pins.w1.len() == 26);
 }
 
-/// Shows the prover that a setting's number (if any) is below 256, and its letter (if any) below 26.
+/// Shows the prover that a setting's number (if any) is below 256, and its letter (if any) is below 26.
 pub(crate) fn learn_setting_range(setting: &Setting)
     ensures { IsSettingInRange setting.now }
 {

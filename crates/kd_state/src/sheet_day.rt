@@ -41,8 +41,8 @@ impl SheetDay {
     /// Creates a day of a rotor machine, or `None` if no key sheet can have these values.
     ///
     /// `day` must be from 1 to 31, and the model must have `reflector`. `wheels` must have a wheel for each slot, from
-    /// the left. Each must be allowed in its slot, and none may be in two slots. There may be at most 13 pairs and at
-    /// most 4 groups. All letters in the pairs must be different.
+    /// the left. Each wheel must be allowed in its slot, and no wheel may be in two slots. There may be at most 13
+    /// pairs and at most 4 groups. All letters in the pairs must be different.
     pub fn rotor(
         day: u8,
         model: Model,
@@ -75,9 +75,9 @@ impl SheetDay {
 
     /// Creates a day of the Converter M-209.
     ///
-    /// `rows` are the readings that the bars must have, and `pins` the effective pins. `window` has the letter
-    /// that each wheel shows, and `list` the two letters that name the key list. `None` if `day` isn't from 1
-    /// to 31, or a letter of `window` isn't on its wheel.
+    /// `rows` are the readings that the bars must have, and `pins` are the effective pins. `window` has the letter that
+    /// each wheel shows, and `list` has the two letters that name the key list. `None` if `day` isn't from 1 to 31, or
+    /// a letter of `window` isn't on its wheel.
     pub fn pin(
         day: u8,
         rows: [Reading; 27],
@@ -239,7 +239,7 @@ impl SheetDay {
         }
     }
 
-    /// The day's values: a `RotorEntry` for a rotor machine, a `PinEntry` for a Converter M-209.
+    /// The day's values: a `RotorEntry` for a rotor machine, or a `PinEntry` for a Converter M-209.
     pub fn entry(&self) -> &Entry
         ensures value { values_of result.now ≡ self.now }
         ensures legal { IsLegalDay self.now }

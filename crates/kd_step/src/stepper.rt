@@ -11,9 +11,9 @@ use std::marker::Model;
 pub struct Stepper<const S: usize> {
     wheels: [Wheel; S],
     window: [Letter; S],
-    /// Whether the middle wheel is at a notch, for each letter that it can show.
+    /// Whether the middle wheel is at a notch, for each letter that the wheel can show.
     middle: [bool; 26],
-    /// Whether the right wheel is at a notch, for each letter that it can show.
+    /// Whether the right wheel is at a notch, for each letter that the wheel can show.
     right: [bool; 26],
 }
 
@@ -82,7 +82,7 @@ impl<const S: usize> Stepper<S> {
     }
 }
 
-/// Replaces each of the last `count` letters by the next letter, and Z by A.
+/// Moves each of the last `count` letters on by one place in the alphabet, with A after Z.
 fn move_last(window: &mut [Letter], count: usize)
     requires { count ≤ length window.old }
     ensures { window.new ≡ with_last_moved count window.old }
@@ -91,7 +91,7 @@ fn move_last(window: &mut [Letter], count: usize)
     advance(&mut window[first..]);
 }
 
-/// Replaces each letter by the next letter, and Z by A.
+/// Moves each letter on by one place in the alphabet, with A after Z.
 fn advance(letters: &mut [Letter])
     ensures { letters.new ≡ map next_letter letters.old }
 {

@@ -1,4 +1,4 @@
--- Letters that must all differ, such as the letters of the pairs that a plugboard's cables exchange.
+-- Letters that must all differ, such as all letters in a plugboard's pairs.
 -- Test: no_letter_is_plugged_twice
 use Rattle.std.specs.Prelude.{ℕ, nat_eq, Bool, true, not, ◌&&◌, List, [], ◌∷◌, ◌++◌}
 use Rattle.std.specs.List.{flat_map, list_any, IsDistinct}

@@ -7,7 +7,7 @@ use Rattle.kd_tables.specs.declared.place.Place.TheVariants.{One, ZeroLeft, Two,
 use Rattle.kd_tables.specs.declared.lug.Lug.{Lug}
 use Rattle.kd_tables.specs.declared.lug.Lug.TheVariants as lugs
 
--- for each place: its name, the number of places to its left, and its pin wheel's number (0 without a wheel)
+-- for each place: its name, the number of places to its left, and its pin wheel's number (0 if no wheel acts there)
 abbrev pub place_table : Place → List ℕ × ℕ × ℕ
 place_table One = (codes "1", 0, 1)
 place_table ZeroLeft = (codes "0L", 1, 0)
@@ -60,7 +60,8 @@ standing_text standing = place_text standing.0 ++ codes "-" ++ place_text standi
 abbrev pub smaller_first : ℕ → ℕ → ℕ × ℕ
 smaller_first a b = (min a b, max a b)
 
--- The two numbers are a reading. Both are from 0 to 6, and the smaller one comes first. They differ, or both are 0.
+-- The two numbers are a reading. Both are from 0 to 6, and the smaller one comes first. The numbers differ, or both are
+-- 0.
 pub record IsReading (numbers : ℕ × ℕ) : Type 0 where
   pub ordered : numbers.0 ≤ numbers.1
   pub within : numbers.1 ≤ 6

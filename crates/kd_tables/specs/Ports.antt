@@ -19,8 +19,8 @@ pub record Puts (old new : Option (List ℕ)) (bytes : List ℕ) (answer : Resul
   pub taken : IfOk answer (λ count. Appends old new (take count bytes))
   pub refused : OnErr answer (Keeps old new)
 
--- A `get` fills a prefix of the buffer with the source's next bytes, and returns the prefix's length. It returns
--- 0 only at the source's end, or for an empty buffer. A `get` that fails takes no byte.
+-- A `get` fills a prefix of the buffer with the source's next bytes, and returns the prefix's length. A `get` returns 0
+-- only at the source's end, or for an empty buffer. A `get` that fails takes no byte.
 pub record Gets (old new : Option (List ℕ)) (buffer : List ℕ) (answer : Result ℕ Failed) : Type 0 where
   pub within : IfOk answer (λ count. count ≤ length buffer)
   pub given : IfOk answer (λ count. Consumes old new (take count buffer))
@@ -46,15 +46,16 @@ pub record MemorySinkState : Type 0 where
 -- Code: a source or a sink that can fail keeps a flag, which a failed `get` or `put` sets.
 -- Test: tests/refusals
 
--- A port (a source or a sink) before and after a call. `had` and `has`: the bytes before and after, `None` if they
--- aren't known. A source has the bytes that it can still give, a sink the bytes that it has taken.
+-- A port (a source or a sink) before and after a call. The fields `had` and `has` are the port's bytes before and after
+-- the call, or `None` if these bytes aren't known. A source's bytes are those that it can still give, and a sink's
+-- bytes are those that it has taken.
 pub record Port : Type 0 where
   pub had : Option (List ℕ)
   pub has : Option (List ℕ)
   pub had_failed : Bool
   pub has_failed : Bool
 
--- The `Port` of a source or a sink that is `old` before a call and `new` after it.
+-- The `Port` of a source or a sink. The state of the source or sink is `old` before a call, and `new` after the call.
 abbrev pub port : {P : Type 0} → (P → Option (List ℕ)) → (P → Bool) → P → P → Port
 port bytes failed old new =
     record { had = bytes old; has = bytes new; had_failed = failed old; has_failed = failed new }
@@ -63,19 +64,19 @@ port bytes failed old new =
 abbrev pub KeepsFailureFlag : Port → Type 0
 KeepsFailureFlag p = p.has_failed ≡ p.had_failed
 
--- After the call, port `p` has failed. The call doesn't change whether port `other` has failed.
+-- After the call, the port `p` has failed. The call doesn't change whether the port `other` has failed.
 pub record FailsAlone (p other : Port) : Type 0 where
   pub failed : IsTrue p.has_failed
   pub well : KeepsFailureFlag other
 
--- The flag tells whether a call returned the error `Device`. If it is true, the source or the sink has failed, and the
--- call didn't make the other one fail. If it is false, the call made neither of them fail.
+-- The flag tells whether a call returned the error `Device`. If the flag is true, the source or the sink has failed,
+-- and the call didn't make the other port fail. If the flag is false, the call made neither port fail.
 abbrev pub FailureAgrees : Port → Port → Bool → Type 0
 FailureAgrees source sink false = KeepsFailureFlag source × KeepsFailureFlag sink
 FailureAgrees source sink true = FailsAlone source sink ⊎ FailsAlone sink source
 
--- The result of `is_at_end` agrees with what the source did. With `true`, the source is at its end. With `false`,
--- the source gave one byte. With an error, the source gave no byte.
+-- The result of `is_at_end` is right. If the result is `true`, the source is at its end. If it is `false`, the source
+-- gave one byte. If it is an error, the source gave no byte.
 abbrev pub EndAgrees : Option (List ℕ) → Option (List ℕ) → Result Bool Device → Type 0
 EndAgrees had has (Ok true) = Consumes had has [] × IsAtEnd has
 EndAgrees had has (Ok false) = (byte : ℕ) × Consumes had has (byte ∷ [])

@@ -11,7 +11,7 @@ use Rattle.kd_tables.specs.declared.reflector.Reflector.TheVariants as reflector
 use Rattle.kd_tables.specs.declared.model.Model.{Model}
 use Rattle.kd_tables.specs.declared.model.Model.TheVariants.{EnigmaI, M3, M4, M209}
 
--- the letters of a text of capital letters, as numbers: A is 0, Z is 25
+-- the letters of a text of capital letters, as numbers: A is 0, and Z is 25
 abbrev pub letters_of : List ℕ → List ℕ
 letters_of text = map (λ byte. byte - 65) text
 
@@ -86,8 +86,8 @@ slots_of model = (model_table model).1
 abbrev pub reflectors_of : Model → List Reflector
 reflectors_of model = (model_table model).2
 
--- the wheels that may be in a slot of a model; none if the model lacks the slot. Slots are counted from 1, from the
--- left.
+-- the wheels that may be in a slot of a model; no wheels if the model lacks the slot. Slots are counted from 1, from
+-- the left.
 abbrev pub wheels_for : Model → ℕ → List Wheel
 wheels_for EnigmaI slot = if nat_le 1 slot && nat_le slot 3 then I ∷ II ∷ III ∷ IV ∷ V ∷ [] else []
 wheels_for M3 slot = if nat_le 1 slot && nat_le slot 3 then I ∷ II ∷ III ∷ IV ∷ V ∷ VI ∷ VII ∷ VIII ∷ [] else []

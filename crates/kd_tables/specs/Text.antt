@@ -2,7 +2,7 @@
 -- Test: tests/cases/desk-messages.toml
 use Rattle.std.specs.Prelude.{ℕ, ◌+◌, nat_le, ◌==◌, Bool, ◌&&◌, ◌||◌, List, map}
 
--- the ASCII codes of letters, as capital letters
+-- the text of a list of letters: the ASCII code of each letter, as a capital letter
 abbrev pub letters_text : List ℕ → List ℕ
 letters_text letters = map (λ letter. letter + 65) letters
 

@@ -1,4 +1,4 @@
--- Tests of the published text of a wiring or a pin wheel. The prover, not the program, computes these tests. No public
+-- Tests of the published text of a wiring or a pin wheel. The prover, not the program, runs these tests. No public
 -- contract cites this file.
 use Rattle.std.specs.Prelude.{ℕ, ◌==◌, nat_eq, nat_le, nat_lt, Bool, not, ◌&&◌, List, length, slice_index}
 use Rattle.std.specs.List.{list_all}

@@ -50,7 +50,8 @@ pub fn inverse_undoes()
     ensures shifts { InversesOfShifts }
 {}
 
-/// `place_on` gives the place of each letter on a pin wheel. At a place that it gives, the wheel has that letter.
+/// `place_on` gives the place of each letter on a pin wheel. If `place_on` gives a place for a letter, the wheel has
+/// this letter at this place.
 pub fn letters_and_places_undo()
     ensures places { LettersLeadToPlaces }
     ensures letters { PlacesLeadToLetters }

@@ -20,7 +20,8 @@ pub enum Refusal {
     Illegal,
     /// A slot is empty, or a cable has exactly one letter.
     NotReady,
-    /// Machine and day have different models. Or a card has prices of bars for an Enigma, or of cables for a Converter.
+    /// Machine and day have different models, or a card's prices are for the other sort of machine. Prices of cables
+    /// are for Enigmas, and prices of bars are for the Converter.
     OtherModel,
     /// A file, a source or a sink failed.
     Device,
@@ -76,7 +77,7 @@ pub enum Refusal {
     PartKeys,
     /// A letter that a message gives for a pin wheel (an external letter) isn't on this wheel.
     KeyNotOnWheel,
-    /// A part's group is none of the day's groups. On the Converter: the part's two list letters aren't the day's.
+    /// A part's group is none of the day's groups; or, on the Converter, a part's two list letters aren't the day's.
     WrongGroup,
     /// The twelve letters enciphered for a part's internal key don't give each pin wheel a letter.
     IndicatorSpent,
@@ -84,7 +85,7 @@ pub enum Refusal {
     BadHeading,
     /// A part has more or fewer letters than its heading says.
     PartCountWrong,
-    /// A part's last ten letters aren't its first ten, or the first two letters differ from each other.
+    /// A part's last ten letters differ from its first ten, or the first two letters differ from each other.
     IndicatorsDiffer,
     /// A part is missing or out of order, or two headings give different numbers of parts.
     PartOrder,

@@ -65,7 +65,7 @@ impl Standing {
         self.left
     }
 
-    /// The place of the right lug. It is always further right than the place of the left lug.
+    /// The place of the right lug, which is always to the right of the left lug's place.
     pub fn right(self) -> Place
         ensures value { result ≡ self.1 }
         ensures after { IsBefore self.0 result }
@@ -73,7 +73,7 @@ impl Standing {
         self.right
     }
 
-    /// The bar's reading: the numbers of the pin wheels at its two lugs, 0 at a place without a wheel.
+    /// The bar's reading: the numbers of the pin wheels at its two lugs. The number is 0 at a place without a wheel.
     pub fn reading(self) -> Reading
         ensures { result ≡ reading_of self }
     {

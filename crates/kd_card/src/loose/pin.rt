@@ -24,7 +24,7 @@ pub fn pin_settings(parts: &PinParts, entry: &PinEntry) -> Settings
     settings
 }
 
-/// Appends the setting PIN for each pin that differs in `present` and `wanted`, wheel by wheel.
+/// Appends the setting PIN for each pin that differs between the sets `present` and `wanted`, wheel by wheel.
 fn push_pins(settings: &mut Settings, present: &PinSet, wanted: &PinSet)
     requires { array_vec_len settings.old + 131 ≤ 192 }
     ensures items { settings.new.items ≡ settings.old.items

@@ -15,7 +15,7 @@ use arrayvec::ArrayVec;
 use kd_state::SheetDay;
 use kd_tables::Letter;
 
-/// Tests the group of a rotor machine's part, and deciphers the letters after it.
+/// Tests the group of a rotor machine's part, and deciphers the letters after the group.
 #[tactic(auto, using(crate::proofs::MadeParts::key_is_window))]
 fn decipher_rotor_body(
     day: &SheetDay,
@@ -62,7 +62,7 @@ fn keys_of_body(letters: &[Letter]) -> PinKeys
     PinKeys { chosen, external }
 }
 
-/// Tests the indicators of a Converter M-209's part, and deciphers the letters between them.
+/// Tests the indicators of a Converter M-209's part, and deciphers the letters between the indicators.
 fn decipher_pin_body(
     day: &SheetDay,
     part: u8,

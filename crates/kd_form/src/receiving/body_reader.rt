@@ -19,14 +19,14 @@ use kd_tables::Letter;
 
 /// The number of a body's letters that are kept.
 ///
-/// A body has at most 520 letters. One letter more shows that it is too long. Four letters more may be the `PART` of
-/// the next heading.
+/// A body has at most 520 letters. One letter more shows that the body is too long. Four letters more may be the `PART`
+/// of the next heading.
 const KEPT_LETTERS: usize = 525;
 
-/// The number of letters of the next heading line that are kept with a body's letters: those of `PART`.
+/// The number of letters of the next heading line that are kept with a body's letters: the four letters of `PART`.
 pub(crate) const HEADING_LETTERS: usize = 4;
 
-/// The number of bytes of a line that are kept: enough to see whether it is a heading line.
+/// The number of bytes of a line that are kept: enough to see whether the line is a heading line.
 const LINE_START: usize = 6;
 
 /// The body of a part of a form, as far as it has been read.
@@ -72,7 +72,7 @@ impl PartBody {
         keep_byte(&mut self.line, byte);
     }
 
-    /// Deciphers the body, without its last `others` letters, into `output`.
+    /// Deciphers the body into `output`, but leaves out the body's last letters; `others` is their number.
     ///
     /// These last letters belong to the next heading. Not inlined: otherwise every byte read would pay for this
     /// function's stack frame.

@@ -14,7 +14,7 @@ use crate::text_bytes::is_text_byte;
 use arrayvec::ArrayVec;
 use kd_state::SheetDay;
 
-/// The number of bytes of a heading line that are kept. A valid heading line, with its line end, has fewer.
+/// The number of bytes of a heading line that are kept. A valid heading line, with its line end, has fewer bytes.
 const KEPT_LINE: usize = 64;
 
 /// A reader of a form, which holds only the current part.

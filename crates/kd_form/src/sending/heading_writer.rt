@@ -28,7 +28,8 @@ pub(crate) fn push_heading<const N: usize>(text: &mut ArrayString<N>, heading: &
     text.push_str("\n");
 }
 
-/// Appends the ground setting and the enciphered message key, each after a space; nothing for `None`.
+/// Appends the ground setting and the enciphered message key, with a space before each. Appends nothing if `indicator`
+/// is `None`.
 fn push_indicator<const N: usize>(text: &mut ArrayString<N>, indicator: &Option<Indicator>)
     requires { array_string_len text.old + 10 ≤ N }
     ensures bytes { text.new.bytes

@@ -11,7 +11,7 @@ use crate::keys::Keys;
 use arrayvec::ArrayVec;
 use kd_state::SheetDay;
 
-/// Enough bytes for any line of a head, its line end included.
+/// A number of bytes that is enough for any line of a head, its line end included.
 const LONGEST_LINE: usize = 25;
 
 /// A reader of an order's head: the lines of keys and the line TEXT.
@@ -77,7 +77,7 @@ impl HeadReader {
     }
 }
 
-/// Reads the line after `count` lines of keys: returns its keys, or `None` for the line TEXT.
+/// Reads the line after `count` lines of keys: returns the line's keys, or `None` for the line TEXT.
 ///
 /// The first byte decides whether the line is read as keys or as TEXT. After 99 lines of keys, only TEXT is allowed.
 #[tactic(auto, using(crate::proofs::OrderSteps::next_text))]

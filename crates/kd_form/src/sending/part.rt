@@ -1,4 +1,4 @@
-//! Makes one part of a form from the part's keys and its piece of the text.
+//! Makes one part of a form from the part's keys and the part's piece of the text.
 ghost use Rattle.std.specs.Prelude.{◌≡◌, ◌≤◌, ℕ, List, length, Ok};
 ghost use Rattle.kd_state.specs.EngineKey.{IsWindow};
 ghost use Rattle.kd_state.specs.OwnKeys.{sheet_key};
@@ -20,10 +20,10 @@ use arrayvec::{ArrayString, ArrayVec};
 use kd_state::{PerSlot, SheetDay};
 use kd_tables::Letter;
 
-/// Enough bytes for any part: a heading line, and 520 letters in groups of five.
+/// A number of bytes that is enough for any part: a heading line, and 520 letters in groups of five.
 pub(crate) const LONGEST_PART: usize = 1100;
 
-/// How many letters of text a part can have.
+/// The greatest number of letters of text that a part can have.
 pub fn part_size(day: &SheetDay) -> usize
     ensures value { result ≡ part_size day.now }
     ensures some { 245 ≤ result }

@@ -1,4 +1,4 @@
-//! Collects the letters of an order's text, and makes the parts of the order's form from them.
+//! Collects the letters of an order's text, and makes the parts of the order's form from these letters.
 ghost use Rattle.std.specs.Prelude.{◌≡◌, ◌<◌, ◌≤◌, ◌+◌, ◌^◌, List, ℕ, [], ◌∷◌, ◌++◌, length, Some, slice_get};
 ghost use Rattle.kd_form.specs.declared.keys.Keys.{Keys};
 ghost use Rattle.kd_form.specs.PartMaking.{IsPartTextMade, part_size};
@@ -14,7 +14,7 @@ use arrayvec::ArrayVec;
 use kd_state::SheetDay;
 use kd_tables::Letter;
 
-/// A writer that collects the letters of an order's text, and makes the form's parts from them.
+/// A writer that collects the letters of an order's text, and makes the form's parts from these letters.
 #[derive(Drop)]
 pub(crate) struct PartWriter {
     /// The letters collected for the next part, at most `part_size`.
@@ -51,10 +51,10 @@ impl PartWriter {
         }
     }
 
-    /// Takes the next letter of the text. If the letters collected fill a part, first writes this part to `output`.
+    /// Takes the next letter of the text. If the collected letters fill a part, first writes this part to `output`.
     ///
-    /// The last part, made with the last line of keys, is left to `end`. Once this part is full, letters are only
-    /// counted.
+    /// The last part, made with the last line of keys, is left to the function `end`. Once this part is full, letters
+    /// are only counted.
     fn take_letter(&mut self, day: &SheetDay, keys: &[Keys], letter: Letter, output: &mut Output)
         requires taken { (letters sent : List ℕ) × AreLettersTaken day.now keys.now self.old letters sent
             × (length letters < 2 ^ 63) }
@@ -98,7 +98,7 @@ impl PartWriter {
         Ok(())
     }
 
-    /// Writes the next part to `output`. Its text is the letters collected so far.
+    /// Writes the next part to `output`. The part's text is the letters collected so far.
     #[tactic(auto, using(crate::proofs::Rules::suited_at))]
     fn write_part(&mut self, day: &SheetDay, keys: &[Keys], output: &mut Output)
         requires keys { AreSuitedKeys day.now keys.now }

@@ -1,4 +1,4 @@
-//! Reads a line by its pattern, in which `_` stands for any letter and each other byte for itself.
+//! Reads a line by its pattern, in which `_` stands for any letter and each other byte stands for itself.
 ghost use Rattle.std.specs.Prelude.{◌≡◌, ◌≤◌, ◌<◌, [], ◌+◌, ◌++◌, MatchResult};
 ghost use Rattle.std.specs.Bool.{OnTrue, OnFalse};
 ghost use Rattle.arrayvec.specs.ArrayVec.{array_vec_len};
@@ -21,7 +21,7 @@ pub(crate) enum PatternFault {
     Mismatch,
 }
 
-/// Reads `bytes` as a line that fits `pattern`, and its line end; returns the letter at each `_`.
+/// Reads `bytes` as a line that fits `pattern`, followed by a line end; returns the letter at each `_`.
 pub(crate) fn read_pattern(
     pattern: &[u8],
     bytes: &[u8],
@@ -36,7 +36,7 @@ pub(crate) fn read_pattern(
     Ok(letters)
 }
 
-/// Reads `bytes` as a line that fits `pattern`, and its line end; appends the letter at each `_`.
+/// Reads `bytes` as a line that fits `pattern`, followed by a line end; appends the letter at each `_`.
 #[tactic(auto, using(crate::proofs::Lines::pattern_marks))]
 fn read_pattern_letters(
     pattern: &[u8],

@@ -1,4 +1,4 @@
-//! Two traits of message readers: `ChunkReader` takes many bytes at once, `MessageReader` one byte.
+//! Two traits of message readers: `ChunkReader` takes many bytes at once, and `MessageReader` takes one byte.
 ghost use Rattle.std.specs.Prelude.{◌≡◌, ◌≤◌, ◌||◌, List, ℕ, [], length};
 ghost use Rattle.kd_state.specs.SheetDay.{Day};
 ghost use Rattle.kd_tables.specs.Ports.{port};

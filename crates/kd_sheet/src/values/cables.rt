@@ -16,7 +16,7 @@ use toml::{Table, Value};
 /// The number of cables of a plugboard.
 const CABLES: usize = 13;
 
-/// Reads a cable from a text of its letters, at most two.
+/// Reads a cable from a text of at most two letters.
 fn cable_of_item(item: &Value) -> Option<Cable>
     ensures value { result ≡ option_map (λ letters. (slice_get letters 0, slice_get letters 1))
         (from_text (capital_letters (λ n. nat_le n 2)) (view item.now)) }
@@ -56,7 +56,7 @@ fn fill_up_cables(cables: &[Cable]) -> [Cable; CABLES]
     all
 }
 
-/// Reads the machine's cables. Without the key `cables`, all 13 are empty.
+/// Reads the machine's cables. Without the key `cables`, all 13 cables are empty.
 #[tactic(auto, unfolding(crate::specs::Cables::cables_in))]
 pub fn cables_in(table: &Table) -> Result<[Cable; CABLES], SheetFault>
     ensures { result ≡ cables_in (table_view table.now) }

@@ -21,7 +21,7 @@ impl FromItem<()> for [Letter; 3] {
     }
 }
 
-/// Reads the day's groups, at most four. Without the key `groups`, the day has none.
+/// Reads the day's groups, at most four. Without the key `groups`, the day has no groups.
 #[tactic(auto, unfolding(crate::specs::SheetFile::groups_in))]
 pub fn groups_in(table: &Table) -> Result<ArrayVec<[Letter; 3], 4>, SheetFault>
     ensures { result_map (λ groups. groups.items) result ≡ groups_in (table_view table.now) }

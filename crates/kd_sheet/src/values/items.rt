@@ -16,7 +16,7 @@ pub trait FromItem<Given> {
     /// The rule for reading an item. It gives a value or a fault for `Given`, the earlier items' values, and the item.
     ghost parse: { Given → List Self → Data → Result Self SheetFault };
 
-    /// Reads `item`. `earlier` has the values of the items before it.
+    /// Reads `item`. The slice `earlier` has the values of the earlier items.
     fn read_item(given: &Given, earlier: &[Self], item: &Value) -> Result<Self, SheetFault>
         requires { length earlier.now < 27 }
         ensures { result ≡ parse given.now earlier.now (view item.now) };
@@ -40,7 +40,7 @@ fn read_items<T: FromItem<G> + Copy + Default, G, const N: usize>(
     Ok(values)
 }
 
-/// Reads the items of the array at `key`. The fault is `BadValue(key)` if there aren't exactly `count`.
+/// Reads the items of the array at `key`. The fault is `BadValue(key)` if there aren't exactly `count` items.
 pub fn read_exactly<T: FromItem<G> + Copy + Default, G, const N: usize>(
     table: &Table,
     key: Key,
@@ -60,7 +60,7 @@ pub fn read_exactly<T: FromItem<G> + Copy + Default, G, const N: usize>(
     read_items(given, items)
 }
 
-/// Reads the items of the array `value`. The fault is `BadValue(key)` if there are more than `N`.
+/// Reads the items of the array `value`. The fault is `BadValue(key)` if there are more than `N` items.
 pub fn read_up_to<T: FromItem<()> + Copy + Default, const N: usize>(
     value: &Value,
     key: Key,

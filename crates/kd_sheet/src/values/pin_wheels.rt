@@ -16,7 +16,8 @@ use kd_pins::PinSet;
 use kd_tables::{Letter, Ring, place_on_wheel, ring1, ring2, ring3, ring4, ring5, ring6};
 use toml::{Table, Value};
 
-/// Whether each of `letters` is on its wheel: the first on wheel `wheel`, the second on the next, and so on.
+/// Whether each of `letters` is on its wheel: the first letter on wheel `wheel`, the second letter on the next wheel,
+/// and so on.
 #[tactic(auto, using(kd_state::proofs::Slots::on_wheels))]
 fn are_on_wheels(wheel: u8, letters: &[Letter]) -> bool
     requires { wheel + length letters.now < 256 }
@@ -85,7 +86,8 @@ pub fn pins_in(table: &Table) -> Result<PinSet, SheetFault>
     pins_of_items([one, two, three, four, five, six]).ok_or(SheetFault::BadValue(Key::Pins))
 }
 
-/// Reads the effective pins of the six wheels. Each of `items` is a text of one wheel's pins, wheel 1 first.
+/// Reads the effective pins of the six wheels. Each of `items` is a text of one wheel's pins, in the order of the
+/// wheels' numbers.
 fn pins_of_items(items: [&Value; 6]) -> Option<PinSet>
     ensures { ok_or result (faults.BadValue keys.Pins)
         ≡ pins_of_items (map (λ item. view item.now) items.entry) }

@@ -17,7 +17,8 @@ fn wheel_by_name(name: &str) -> Option<Wheel>
     Wheel::from_text(name.as_bytes())
 }
 
-/// The wheel named `name`, if it may be in the next slot after `slots`. Otherwise the fault that says why not.
+/// The wheel named `name`, if it may be in the next slot after `slots`. Otherwise the result is the fault that says why
+/// not.
 #[tactic(auto, using(crate::proofs::ReadBack::Described::KeyValues::seating), unfolding(crate::specs::Slots::wheel_for))]
 fn wheel_for(
     key: Key,

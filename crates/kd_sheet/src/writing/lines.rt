@@ -32,7 +32,7 @@ fn push_quoted(text: &mut FileString, value: &str)
     text.push_str("\"");
 }
 
-/// Appends the line of `key` with `value`, without quotes. The value is a digit, for example.
+/// Appends the line of `key` with `value`, such as a digit, without quotes.
 pub(crate) fn push_digit_line(text: &mut FileString, key: Key, value: &str)
     requires { array_string_len text.old + length value.now + 13 ≤ 2048 }
     ensures bytes { text.new.bytes ≡ text.old.bytes ++ key_line key value.now }

@@ -59,7 +59,7 @@ pub(crate) fn lies_in_any(cables: &[Cable], letter: Letter) -> bool
     false
 }
 
-/// `one` and `other` in alphabetical order.
+/// The letters `one` and `other` in alphabetical order.
 pub fn letters_in_order(one: Letter, other: Letter) -> (Letter, Letter)
     ensures { result ≡ smaller_first one other }
 {

@@ -140,7 +140,7 @@ fn cables_of(pairs: &[(Letter, Letter)]) -> [Cable; 13]
     cables
 }
 
-/// The cable with the letters of `column` in alphabetical order. Without a pair, the cable is empty.
+/// The cable with the letters of `column` in alphabetical order. If `column` is `None`, the cable is empty.
 fn cable_of_column(column: Option<(Letter, Letter)>) -> Cable
     ensures { result ≡ cable_of_column column }
 {

@@ -68,7 +68,7 @@ fn are_seated_once(slots: &[Option<Wheel>]) -> bool
     true
 }
 
-/// Whether no slot but the one at `place` holds the wheel `seated`. True if `seated` is `None`.
+/// Whether no slot other than the slot at `place` holds the wheel `seated`. True if `seated` is `None`.
 fn is_alone(slots: &[Option<Wheel>], place: usize, seated: Option<Wheel>) -> bool
     ensures { IsTrue result ↔ IfSome seated
         (λ wheel. (other : ℕ) → IsSeatedAt slots.now other wheel → other ≡ place) }
@@ -81,7 +81,7 @@ fn is_alone(slots: &[Option<Wheel>], place: usize, seated: Option<Wheel>) -> boo
     true
 }
 
-/// The content of a slot with `seated` once `wheel` is taken out: nothing if `seated` is `wheel`, else `seated`.
+/// The content of a slot after `wheel` is taken out: nothing if the old content `seated` is `wheel`, else `seated`.
 pub(crate) fn seat_without(seated: Option<Wheel>, wheel: Wheel) -> Option<Wheel>
     ensures { result ≡ seat_without wheel seated }
 {

@@ -1,6 +1,6 @@
 //! Carries settings out on a Converter M-209.
 //!
-//! A setting that is refused changes nothing. The error is the first reason to refuse it.
+//! A setting that is refused changes nothing. The error is the first reason to refuse the setting.
 ghost use Rattle.kd_state.specs.Setting.{IsCarryAnswer, is_same_place, with_lug};
 ghost use Rattle.kd_tables.specs.Places.{IsBefore};
 ghost use Rattle.std.specs.Prelude.{◌≡◌, ◌↔◌, IsSome, IfSome};

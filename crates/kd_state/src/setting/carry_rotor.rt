@@ -1,6 +1,6 @@
 //! Carries settings out on a rotor machine.
 //!
-//! A setting that is refused changes nothing. The error is the first reason to refuse it.
+//! A setting that is refused changes nothing. The error is the first reason to refuse the setting.
 ghost use Rattle.kd_state.specs.Machine.{AreLegalRotorParts};
 ghost use Rattle.kd_state.specs.Setting.{IsCarryAnswer};
 
@@ -63,7 +63,7 @@ impl RotorParts {
 
     /// Puts `wheel` into slot `slot`.
     ///
-    /// The wheel leaves the slot that it was in, and the wheel that was in `slot` goes to the box.
+    /// `wheel` leaves its old slot, and the wheel that was in slot `slot` goes to the box.
     #[tactic(auto, using(crate::proofs::Wheels::lacks_wheel, std::proofs::lemmas::Bool::iff_false))]
     fn seat(&mut self, slot: u8, wheel: Wheel) -> Result<(), Why>
         requires { AreLegalRotorParts self.old }

@@ -17,7 +17,7 @@ pub type Settings = ArrayVec<Setting, 192>;
 /// Why bytes aren't a list of settings.
 #[derive(Clone, Copy, Debug, PartialEq, Eq, Error)]
 pub enum ListFault {
-    /// The line with this number, counted from 1, is the first that isn't a setting or has no LF.
+    /// This line, counted from 1, is the first line that has no LF or isn't the line of a setting.
     BadLine(usize),
     /// There are more than 192 settings.
     TooMany,

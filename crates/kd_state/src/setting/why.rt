@@ -1,4 +1,4 @@
-//! Why a machine refuses a setting; for a list, also which setting it refuses first.
+//! Why a machine refuses a setting, and which setting of a list it refuses first.
 ghost use Rattle.std.specs.Prelude.{◌≡◌, ◌≤◌, length};
 ghost use Rattle.kd_state.specs.FaultText.{illegal_text, illegal_at_text, why_name};
 
@@ -8,7 +8,7 @@ use thiserror::Error;
 /// Why a machine refuses a setting.
 #[derive(Clone, Copy, Debug, PartialEq, Eq)]
 pub enum Why {
-    /// The setting is for another kind of machine.
+    /// The setting is for Enigmas but the machine is a Converter, or the other way round.
     OtherModel,
     /// There is no cable with this number.
     NoSuchCable,

@@ -1,4 +1,4 @@
-//! `is_at_end`, which tests whether a source is at its end.
+//! The function `is_at_end`: it tells whether a source is at its end.
 ghost use Rattle.std.specs.Prelude.{◌≡◌, ◌||◌, is_err};
 ghost use Rattle.kd_tables.specs.Ports.{EndAgrees};
 

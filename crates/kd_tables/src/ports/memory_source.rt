@@ -38,8 +38,8 @@ impl<'a> Model for MemorySource<'a> {
 impl<'a> MemorySource<'a> {
     /// Makes a source that gives `bytes`, at most `piece` bytes at each `get`.
     ///
-    /// If `fail_at` is `Some(n)`, the first `n` calls of `get` succeed, and all later calls fail. With `None`, no call
-    /// fails.
+    /// If `fail_at` is `Some(n)`, the first `n` calls of `get` succeed, and all later calls fail. If `fail_at` is
+    /// `None`, no call fails.
     pub fn new(bytes: &'a [u8], piece: usize, fail_at: Option<usize>) -> Self
         requires { 1 ≤ piece }
         ensures { result ≡ record {

@@ -14,8 +14,8 @@ pub trait Source {
 
     /// Puts the next bytes into a prefix of `buffer`, and returns the length of this prefix.
     ///
-    /// The length is 0 only at the end of the source, or if `buffer` is empty. The rest of `buffer` may change, too. A
-    /// `get` that returns `Failed` gives no byte, and loses none, but any byte of `buffer` may change.
+    /// The length is 0 only at the end of the source, or if `buffer` is empty. The call may also change the rest of
+    /// `buffer`. A `get` that returns `Failed` neither gives nor loses a byte, but it may change any byte of `buffer`.
     fn get(&mut self, buffer: &mut [u8]) -> Result<usize, Failed>
         ensures bytes { Gets (remaining self.old) (remaining self.new) buffer.new result }
         ensures failed { has_failed self.new ≡ (has_failed self.old || is_err result) };

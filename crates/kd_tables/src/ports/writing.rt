@@ -1,4 +1,4 @@
-//! `put_all`, which writes all bytes to a sink, and its error `Device`.
+//! The function `put_all`, which writes all bytes to a sink, and the error `Device`.
 ghost use Rattle.std.specs.Prelude.{◌≡◌, ◌||◌, is_err};
 ghost use Rattle.kd_tables.specs.Refusals.{refusal_name};
 ghost use Rattle.kd_tables.specs.Writing.{Writes};
