@@ -43,7 +43,7 @@ cut_at_heading_lines (byte ∷ bytes) =
 abbrev pub parts_cut : List ℕ → List (List ℕ)
 parts_cut bytes = (cut_at_heading_lines bytes).0 ∷ (cut_at_heading_lines bytes).1
 
--- all parts of a damaged form, cut after `tidied` has dropped the lines before its first heading
+-- all parts of a damaged form, without the lines that `tidied` drops
 abbrev pub form_parts : List ℕ → List (List ℕ)
 form_parts form = parts_cut (tidied form)
 
