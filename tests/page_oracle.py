@@ -2,6 +2,7 @@
 another hand, from the rules for the page's looks, and shares no code with it. The built desk makes the cards, carries them out, and
 types the tests. What draws with words takes the function `say` of page_words.py, for its language.
 """
+import os
 import tempfile
 import tomllib
 
@@ -52,8 +53,9 @@ def ticks(items):
 def step(say, title, settings, name, inside):
     """A step's heading, with its number of settings; `name` is for print alone, where sheets come apart."""
     small = '' if settings is None else ' <small>%s</small>' % count(say, settings)
-    return '<section>\n<h2%s>%s%s<span>%s</span></h2>\n%s</section>\n' % (
-        '' if inside else ' class=idle', title, small, name, inside)
+    if not inside:
+        return '<section>\n<h2 class=idle>%s%s</h2>\n</section>\n' % (title, small)
+    return '<section>\n<h2>%s%s<span>%s</span></h2>\n%s</section>\n' % (title, small, name, inside)
 
 
 def svg(width, height, title, inside):
@@ -191,6 +193,12 @@ def plug_step(say, title, cables, moves, kind, caption, name):
 
 # The page of an Enigma.
 
+def from_box(say, before, after, told, m):
+    """These words, and the rings on machine `m` of the wheels that come from the box, from the left; nothing if none comes."""
+    wheels = ['<b>%s</b> (%s)' % (w, named(m['ring'][w])) for w in after['slots'] if w and w not in before['slots']]
+    return '<p>%s %s</p>\n' % (say(told), ' '.join(wheels)) if wheels else ''
+
+
 def enigma(say, before, after, settings, name):
     of = lambda word: [s for s in settings if s[0] == word]
     sides = SIDES[len(after['slots'])]
@@ -207,8 +215,10 @@ def enigma(say, before, after, settings, name):
     turns = {int(s[1]) - 1: ' '.join(s) for s in of('TURN')}
     windows = [tick(say('slot %d: turn the wheel until <b>%s</b> shows', slot + 1, named(after['letter'][w])), turns.get(slot))
                for slot, w in enumerate(after['slots'])]
+    ringed = from_box(say, before, after, 'Rings of the wheels from the box, after this step:', after)
     return '<figure class=wheels>%s</figure>\n' % wheels_picture(say, before, after, settings) \
-        + step(say, say('1 Rings: wheels out, and back in' if rings else '1 Rings'), len(rings), name, ticks(rings) if rings else '') \
+        + from_box(say, before, after, 'Compare these rings in the box, too:', before) \
+        + step(say, say('1 Rings: wheels out, and back in' if rings else '1 Rings'), len(rings), name, ringed + ticks(rings) if rings else '') \
         + step(say, say('2 Wheels and reflector'), len(seats), name, boxed + ticks(seats) if seats else '') \
         + plug_step(say, say('3 Plugs out'), before['cables'], of('PULL'), 'out',
                     'Before. Square: take out. Circle: stays. Number: the cable’s.', name) \
@@ -275,6 +285,11 @@ def converter(say, before, after, settings, name):
 
 # A day, and a file of days.
 
+def sheet_name(sheet):
+    """The name of a sheet's file without folder and ending, and without signs that a page could take for its own."""
+    return ''.join(sign for sign in os.path.splitext(os.path.basename(sheet))[0] if sign not in '<>&')
+
+
 def article(say, desk, machine_file, sheet, day, folder):
     """The day's article, its number of settings, and the file of the machine after it."""
     card = answer_of(desk, 'card', machine_file, sheet, day)
@@ -285,7 +300,7 @@ def article(say, desk, machine_file, sheet, day, folder):
     is_converter = after['model'] == CONVERTER
     keys = 'A' * 26 if is_converter else ALPHABET
     lamps = answer_of(desk, 'type', after_file, given=keys).strip()
-    name = say('%s, day %s', NAMES[after['model']], day)
+    name = say('%s, day %s, %s', NAMES[after['model']], day, sheet_name(sheet))
     first = say('First compare. Framed pins still stand the other way, all others as drawn; the lugs are at ▪ and ×.' if is_converter else
                 'First compare the machine with <i>before</i>; only windows may differ. Thick frames: to set.' if settings else
                 'The machine has to stand as shown; only windows may differ.')
@@ -311,8 +326,9 @@ def page(desk, machine, sheet, days, style, language):
             drawn, settings, machine, model = article(say, desk, machine, sheet, day, folder)
             out += drawn
             nav += '<li><a href="#day-%s">%s</a>, %s\n' % (day, say('Day %s', day), count(say, settings))
+    title = say('%s, day %s, %s', model, days[0], sheet_name(sheet))
     if len(days) > 1:
-        out = '<nav class=days aria-label="%s">\n<ul>\n%s</ul>\n</nav>\n' % (say('Days'), nav) + out
-    title = say('%s, day %s', model, days[0]) if len(days) == 1 else say('%s, days %s to %s', model, days[0], days[-1])
+        title = say('%s, days %s to %s, %s', model, days[0], days[-1], sheet_name(sheet))
+        out = '<nav class=days aria-label="%s">\n<p>%s</p>\n<ul>\n%s</ul>\n</nav>\n' % (say('Days'), title, nav) + out
     return '<!DOCTYPE html>\n<html lang=%s>\n<meta charset=utf-8>\n<meta name=viewport content="width=device-width,initial-scale=1">\n<title>%s</title>\n<style>\n%s</style>\n<body>\n<main>\n%s</main>\n' % (
         language, title, style, out)

@@ -3,8 +3,8 @@ languages. They are the design's, and typed apart from the program's.
 """
 
 DAY_PAGE = {
-    '%s, day %s': '%s, Tag %s',
-    '%s, days %s to %s': '%s, Tage %s bis %s',
+    '%s, day %s, %s': '%s, Tag %s, %s',
+    '%s, days %s to %s, %s': '%s, Tage %s bis %s, %s',
     'Days': 'Tage',
     'Day %s': 'Tag %s',
     'nothing to change': 'nichts zu ändern',
@@ -48,6 +48,8 @@ DAY_PAGE = {
     'the box, with its ring at <b>%s</b>': 'dem Kasten, Ring auf <b>%s</b>',
     'put in reflector <b>%s</b>': 'Umkehrwalze <b>%s</b> einsetzen',
     'Take out, into the box:': 'Herausnehmen, in den Kasten:',
+    'Compare these rings in the box, too:': 'Auch diese Ringe im Kasten vergleichen:',
+    'Rings of the wheels from the box, after this step:': 'Ringe der Walzen aus dem Kasten nach diesem Schritt:',
     'reflector <b>%s</b>': 'Umkehrwalze <b>%s</b>',
     'slot %d: turn the wheel until <b>%s</b> shows': 'Platz %d: Walze drehen, bis <b>%s</b> erscheint',
     'Set all of them: typing may have turned the wheels.': 'Alle einstellen: Beim Tippen können sich die Walzen gedreht haben.',

@@ -167,12 +167,13 @@ cat s11 s11 >day-twice
 ### Hostile files
 
 # judge_said STATUS TEXT WORDS..: whether the command that wrote `said` and `told`, and ended with this status, gave this answer in
-# one line; `fine` where it wasn't refused.
+# one line, perhaps with words about the file `cut`; `fine` where it wasn't refused.
 judge_said() {
     got=$1 due=$2 told='' more=''
     shift 2
     { IFS= read -r told && IFS= read -r more; } <told
     [ "$got" -eq 0 ] && told=${told:-fine}
+    told=${told%: * cut}
     if [ "$got" -lt 2 ] && [ "$told$more" = "$due" ]; then
         pass
     else

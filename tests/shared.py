@@ -25,6 +25,7 @@ DAYS = [
     ("enigma-i-loose-ends", "tests/machines/loose-ends.toml", "tests/machines/ten-cables-sheet.toml", "10", 2),
     ("m3-day-5", "examples/m3.toml", "examples/key-sheet.toml", "5", 2),
     ("m4-day-8", "examples/m4.toml", "examples/key-sheet.toml", "8", 2),
+    ("m4-inner-stays", "examples/m4.toml", "tests/machines/m4-inner-stays.toml", "7", 1),
     ("m4-all-new", "tests/machines/m4-six-cables.toml", "tests/machines/m4-sheet.toml", "20", 2),
     ("m209-day-7", "examples/m209.toml", "examples/key-sheet.toml", "7", 2),
     ("m209-new-list", "examples/m209.toml", "tests/machines/m209-new-list.toml", "8", 2),

@@ -7,8 +7,8 @@
    The first run has nothing refused: what it writes and answers is the command's own answer. Then holds of each run:
    - memory refused: `refused 26 NoMemory`, perhaps behind lines of the own text on standard error, and nothing written; or
      the command's own answer;
-   - an open refused: `refused 6 Device`, and nothing written;
-   - a read refused: `refused 6 Device`, and as much of the own answer as KEEPS allows: `letters` is the letters that
+   - an open refused: `refused 6 Device`, perhaps with words that end in a file's name, and nothing written;
+   - a read refused: `refused 6 Device`, likewise, and as much of the own answer as KEEPS allows: `letters` is the letters that
      standard input had given before, else it is a list of lengths;
    - a write refused: `refused 6 Device`, and exactly the bytes of the own answer that were taken before;
    - the line on standard error refused: the same status and the same answer;
@@ -136,6 +136,24 @@ static int refuses(const struct run *r, const char *line)
     return answers(r, 1, line, strlen(line));
 }
 
+static char **words;
+
+/* Whether the run was refused with `6 Device`. If the line says more, it ends with a word of the command line. */
+static int blames_file(const struct run *r)
+{
+    const char *device = "refused 6 Device: ";
+    if (refuses(r, "refused 6 Device\n")) return 1;
+    if (!WIFEXITED(r->status) || WEXITSTATUS(r->status) != 1 || r->err < strlen(device) + 2
+        || memcmp(r->err_bytes, device, strlen(device)) != 0
+        || (char *)memchr(r->err_bytes, '\n', r->err) != r->err_bytes + r->err - 1) return 0;
+    for (char **word = words + 1; *word != NULL; word++) {
+        size_t size = strlen(*word);
+        const char *at = r->err_bytes + r->err - 1 - size;
+        if (size > 0 && size + strlen(device) < r->err && at[-1] == ' ' && memcmp(at, *word, size) == 0) return 1;
+    }
+    return 0;
+}
+
 /* Whether the run was refused for want of memory, perhaps after some lines of the own text on standard error. */
 static int lacks_memory(const struct run *r)
 {
@@ -209,8 +227,8 @@ static int is_right(const struct run *r)
     const char *device = "refused 6 Device\n";
     switch (r->kind) {
     case MEMORY: return is_own(r) || lacks_memory(r);
-    case OPEN: return refuses(r, device) && r->out == 0;
-    case READ: return refuses(r, device) && is_prefix(r) && keeps(r);
+    case OPEN: return blames_file(r) && r->out == 0;
+    case READ: return blames_file(r) && is_prefix(r) && keeps(r);
     case WRITE: return refuses_behind_notes(r, device) && is_prefix(r) && stops(r);
     case ERROR_LINE:
         return is_own_out(r) && (lacks_notes(r) ||
@@ -302,9 +320,11 @@ static void *shared(void)
     return place;
 }
 
-__attribute__((constructor)) static void run_all(void)
+__attribute__((constructor)) static void run_all(int count, char **arguments)
 {
     char line[100];
+    words = arguments;
+    (void)count;
     run = shared(), own = shared();
     if (go_through()) return;
     syscall(SYS_write, 1, line, snprintf(line, sizeof line, "%ld passed, %ld failed\n", passed, failed));

@@ -12,7 +12,7 @@ fn main(rt: HostRuntime) -> ExitCode {
     let mut errors = WriterSink::new(rt.stderr());
     let status = match words_and_language(&rt) {
         Ok((words, language)) => run_on_host(&rt, language, words.as_slice(), &mut errors),
-        Err(stop) => end_program(&Err(stop), &mut errors),
+        Err(stop) => end_program(&Err(stop), &[], &mut errors),
     };
     ExitCode::from(status)
 }

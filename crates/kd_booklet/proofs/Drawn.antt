@@ -33,10 +33,10 @@ pub drawn_first : (m : Parts) (plan : DayPlan) (rest all : List DayPlan) → all
 drawn_first m plan rest all is drawable = let these = subst (AreDrawable m) is drawable in (these.0, these.1)
 
 -- a day's page, and then the pages of the days after it, are the pages of all
-pub pages_next : (l : Language) (m n : Parts) (plan : DayPlan) (rest all : List DayPlan) (more : List ℕ) → all ≡ plan ∷ rest
-    → Leads m plan.settings.items n → ArePages l n rest more
-    → ArePages l m all (day_text (page_of l plan.day m n plan.settings.items) ++ more)
-pages_next l m n plan rest all more is leads are = rw is (n, more, leads, refl, are)
+pub pages_next : (l : Language) (sheet : List ℕ) (m n : Parts) (plan : DayPlan) (rest all : List DayPlan) (more : List ℕ)
+    → all ≡ plan ∷ rest → Leads m plan.settings.items n → ArePages l sheet n rest more
+    → ArePages l sheet m all (day_text (page_of l sheet plan.day m n plan.settings.items) ++ more)
+pages_next l sheet m n plan rest all more is leads are = rw is (n, more, leads, refl, are)
 
 -- settings that lead to a machine can be carried out
 pub carries_all : (m n : Parts) (xs : List Setting) (answer : Result Parts IllegalAt) → Leads m xs n

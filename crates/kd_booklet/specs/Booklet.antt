@@ -12,24 +12,23 @@ use Rattle.kd_state.specs.Setting.{Leads}
 use Rattle.kd_state.specs.TwoCiphers.{IsReady}
 use Rattle.kd_booklet.specs.declared.day_plan.DayPlan.{DayPlan}
 
--- The text has the pages of the planned days, and nothing else. The first page is for machine `m`. Each later page is
--- for the machine to which the settings of the previous page lead.
-abbrev pub ArePages : Language → Parts → List DayPlan → List ℕ → Type 0
-ArePages l m [] text = text ≡ []
-ArePages l m (plan ∷ plans) text = (n : Parts) × (more : List ℕ) × Leads m plan.settings.items n
-    × (text ≡ day_text (page_of l plan.day m n plan.settings.items) ++ more) × ArePages l n plans more
+-- The text is the pages of the days that are planned, of the key sheet in the file `sheet`. The first page is for machine
+-- `m`; each later page is for the machine that the settings of the page before it lead to.
+abbrev pub ArePages : Language → List ℕ → Parts → List DayPlan → List ℕ → Type 0
+ArePages l sheet m [] text = text ≡ []
+ArePages l sheet m (plan ∷ plans) text = (n : Parts) × (more : List ℕ) × Leads m plan.settings.items n
+    × (text ≡ day_text (page_of l sheet plan.day m n plan.settings.items) ++ more) × ArePages l sheet n plans more
 
 -- a planned day in the list of days, with the number of settings on this day
 abbrev pub listed_day : DayPlan → ListedDay
 listed_day plan = record { day = plan.day; settings = length plan.settings.items }
 
--- The text is the file with the pages of these days in language `l`: the list of the days, then the pages. The first
--- page is for machine `m`.
-pub record IsBooklet (l : Language) (m : Parts) (first : DayPlan) (others : List DayPlan) (text : List ℕ)
-    : Type 0 where
+-- The text is the file with the pages of these days in language `l`: the list of the days, and then their pages.
+pub record IsBooklet (l : Language) (sheet : List ℕ) (m : Parts) (first : DayPlan) (others : List DayPlan)
+    (text : List ℕ) : Type 0 where
   pub pages : List ℕ
-  pub are_pages : ArePages l m (first ∷ others) pages
-  pub whole : text ≡ file_text l (model_of m) (listed_day first) (map listed_day others) pages
+  pub are_pages : ArePages l sheet m (first ∷ others) pages
+  pub whole : text ≡ file_text l (model_of m) sheet (listed_day first) (map listed_day others) pages
 
 -- The settings of the plan lead from machine `m` to machine `n`. Machine `n` is ready, and the settings are few enough
 -- for a page.

@@ -16,21 +16,24 @@ use kd_page::{Language, ListedDay, Page, draw, draw_day, draw_foot, draw_head};
 use kd_state::{Machine, Parts, carry_all};
 use kd_tables::{Device, Sink};
 
-/// Writes a file with the pages of the planned days `first` and `others`, in `language`.
+/// Writes the pages of the days that are planned, in this language: first `first`, and then `others`.
+///
+/// The days are of the key sheet in the file `sheet`.
 pub fn write_pages<W: Sink>(
     sink: &mut W,
     language: Language,
+    sheet: &str,
     machine: &Machine,
     first: &DayPlan,
     others: &[DayPlan],
 ) -> Result<(), Device>
     requires days { AreDrawable machine.now (first.now ∷ others.now) }
     requires few { length others.now ≤ 31 }
-    ensures pages { (text : List ℕ) × IsBooklet language machine.now first.now others.now text
+    ensures pages { (text : List ℕ) × IsBooklet language sheet.now machine.now first.now others.now text
         × Writes (W.taken sink.old) (W.taken sink.new) text result }
     ensures failed { W.has_failed sink.new ≡ (W.has_failed sink.old || is_err result) }
 {
-    draw_pages(sink, language, machine, first, others);
+    draw_pages(sink, language, sheet, machine, first, others);
     if sink.failed() { Err(Device) } else { Ok(()) }
 }
 
@@ -38,18 +41,19 @@ pub fn write_pages<W: Sink>(
 fn draw_pages<W: Sink>(
     sink: &mut W,
     language: Language,
+    sheet: &str,
     machine: &Machine,
     first: &DayPlan,
     others: &[DayPlan],
 )
     requires days { AreDrawable machine.now (first.now ∷ others.now) }
     requires few { length others.now ≤ 31 }
-    ensures { (text : List ℕ) × IsBooklet language machine.now first.now others.now text
+    ensures { (text : List ℕ) × IsBooklet language sheet.now machine.now first.now others.now text
         × Draws W.taken W.has_failed sink.old sink.new text }
 {
-    draw_listed(sink, language, machine, first, others);
-    let after = draw_plan(sink, language, machine, first);
-    draw_plans(sink, language, &after, others);
+    draw_listed(sink, language, sheet, machine, first, others);
+    let after = draw_plan(sink, language, sheet, machine, first);
+    draw_plans(sink, language, sheet, &after, others);
     draw_foot(sink);
 }
 
@@ -57,13 +61,15 @@ fn draw_pages<W: Sink>(
 fn draw_listed<W: Sink>(
     sink: &mut W,
     language: Language,
+    sheet: &str,
     machine: &Machine,
     first: &DayPlan,
     others: &[DayPlan],
 )
     requires { length others.now ≤ 31 }
     ensures { Draws W.taken W.has_failed sink.old sink.new
-        (head_text language (model_of machine.now) (listed_day first.now) (map listed_day others.now)) }
+        (head_text language (model_of machine.now) sheet.now (listed_day first.now)
+        (map listed_day others.now)) }
 {
     let mut listed = ArrayVec::new();
     list_days(&mut listed, others);
@@ -71,6 +77,7 @@ fn draw_listed<W: Sink>(
         sink,
         language,
         machine.model(),
+        sheet,
         listed_day(first),
         listed.as_slice(),
     );
@@ -101,30 +108,37 @@ fn listed_day(plan: &DayPlan) -> ListedDay
 fn draw_plan<W: Sink>(
     sink: &mut W,
     language: Language,
+    sheet: &str,
     machine: &Machine,
     plan: &DayPlan,
 ) -> Machine
     requires { (n : Parts) × IsDrawable machine.now plan.now n }
     ensures leads { Leads machine.now plan.now.settings.items result }
     ensures draws { Draws W.taken W.has_failed sink.old sink.new
-        (day_text (page_of language plan.now.day machine.now result plan.now.settings.items)) }
+        (day_text (page_of language sheet.now plan.now.day machine.now result plan.now.settings.items)) }
 {
     let settings = plan.settings.as_slice();
     let after = carry_all(machine, settings).unwrap();
-    let page = Page::new(language, plan.day, machine, &after, settings);
+    let page = Page::new(language, sheet, plan.day, machine, &after, settings);
     draw_day(sink, &page);
     after
 }
 
-/// Draws the pages of planned days. The first page is for `machine`.
-fn draw_plans<W: Sink>(sink: &mut W, language: Language, machine: &Machine, plans: &[DayPlan])
+/// Draws the pages of days that are planned, of which the first is for `machine`.
+fn draw_plans<W: Sink>(
+    sink: &mut W,
+    language: Language,
+    sheet: &str,
+    machine: &Machine,
+    plans: &[DayPlan],
+)
     requires { AreDrawable machine.now plans.now }
-    ensures { (text : List ℕ) × ArePages language machine.now plans.now text
+    ensures { (text : List ℕ) × ArePages language sheet.now machine.now plans.now text
         × Draws W.taken W.has_failed sink.old sink.new text }
 {
     if let Some((plan, rest)) = plans.split_first() {
-        let after = draw_plan(sink, language, machine, plan);
-        draw_plans(sink, language, &after, rest);
+        let after = draw_plan(sink, language, sheet, machine, plan);
+        draw_plans(sink, language, sheet, &after, rest);
     } else {
         draw(sink, "");
     }

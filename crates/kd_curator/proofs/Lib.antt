@@ -1,12 +1,11 @@
 pub mod Answers
 pub mod DayRefusals
-pub mod LookFiles
 pub mod OutputFiles
 pub mod Passing
 pub mod Runs
+pub mod Reading
 pub mod ReceiveAnswers
 pub mod SendAnswers
 pub mod SheetAnswers
-pub mod TableAnswers
 pub mod TypingAnswers
 pub mod Writings

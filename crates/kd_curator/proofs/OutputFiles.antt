@@ -50,17 +50,16 @@ flushed false left first answer is same whole =
 usage_not_whole : (answer : Result (Unit {0}) Stop) → IsTrue (is_usage answer) → is_whole answer ≡ true → ⊥
 usage_not_whole (Ok done) usage whole = cc
 usage_not_whole (Err (stops.Usage text)) usage whole = cc
-usage_not_whole (Err (stops.Unread fault)) usage whole = cc
 usage_not_whole (Err (stops.Refused refused)) usage whole = cc
 
 pub none_left : (l : Language) (words : List (List ℕ)) (known : Option (List ℕ → Option (List ℕ)))
     (asked : List AskedName) (sink : Port) (left : List ℕ) (answer : Result (Unit {0}) Stop)
     → CarriesOut l words known asked sink left answer → is_whole answer ≡ true → left ≡ []
-none_left l words known asked sink left answer (Carried command says read alike knows asks told) whole =
+none_left l words known asked sink left answer (Carried command says texts many knows asks told) whole =
     flushed (is_whole (stop_after told.told)) left (stop_after told.told) answer refl told.answers whole
 none_left l words known asked sink left answer (Shown text kind among help none told) whole =
     flushed (is_whole (stop_after told.told)) left (stop_after told.told) answer refl told.answers whole
-none_left l words known asked sink left answer (FileUnread command says fault knows asks is) whole =
+none_left l words known asked sink left answer (FileUnread command says fault place why knows asks last is) whole =
     let wrong : false ≡ true = sym (ap is_whole is) ∙ whole in cc
 none_left l words known asked sink left answer (OtherWords none no_help nothing usage) whole =
     absurd (usage_not_whole answer usage whole)
@@ -68,8 +67,8 @@ none_left l words known asked sink left answer (NoMemory nothing is) whole =
     let wrong : false ≡ true = sym (ap is_whole is) ∙ whole in cc
 
 module _ (l : Language) (words : List (List ℕ)) (known : Option (List ℕ → Option (List ℕ))) (asked : List AskedName)
-    (before after : Option FilesByName) (name : List ℕ) (errors : Port) (status : ℕ) (told : Option (List ℕ))
-    (failed : Bool) (answer : Result (Unit {0}) Stop) (had has : Option (List ℕ)) (had_failed has_failed : Bool)
+    (before after : Option FilesByName) (name : List ℕ) (names : List (List ℕ)) (errors : Port) (status : ℕ)
+    (told : Option (List ℕ)) (failed : Bool) (answer : Result (Unit {0}) Stop) (had has : Option (List ℕ)) (had_failed has_failed : Bool)
     (empty : had ≡ option_map (λ files. []) before) (fresh : had_failed ≡ false) (Untouched : Type 0) where
   -- the new file before and after, with bytes that it didn't take
   abbrev file : List ℕ → Port
@@ -87,8 +86,8 @@ module _ (l : Language) (words : List (List ℕ)) (known : Option (List ℕ → 
   }
 
   well : (whole : Bool) → is_whole answer ≡ whole → EndsFile before after name has has_failed whole (Ok tt)
-      → (left : List ℕ) → Runs left → EndsAs answer (at_last errors told failed) status
-      → EndsWithFile l words known asked before after name errors status
+      → (left : List ℕ) → Runs left → EndsAs names answer (at_last errors told failed) status
+      → EndsWithFile l words known asked before after name names errors status
   well true whole adds left run ends =
       let none = none_left l words known asked (file left) left answer run.carried whole in
       Published (file []) answer told failed (run_so [] (subst Runs none run)) whole
@@ -99,18 +98,18 @@ module _ (l : Language) (words : List (List ℕ)) (known : Option (List ℕ → 
   badly : (whole : Bool) → is_whole answer ≡ whole → (fault : NewFileFault)
       → EndsFile before after name has has_failed whole (Err fault) → (left : List ℕ) → Runs left
       → EndsWithLine (unwritten_line name fault) 1 (at_last errors told failed) status
-      → EndsWithFile l words known asked before after name errors status
+      → EndsWithFile l words known asked before after name names errors status
   badly true whole fault same left run ends =
       Unwritten (file left) left answer told failed (run_so left run) (inl whole) same fault ends
   badly false whole fault (same, bad) left run ends =
       Unwritten (file left) left answer told failed (run_so left run) (inr bad) same fault ends
 
   pub ends_well : EndsFile before after name has has_failed (is_whole answer) (Ok tt) → (left : List ℕ) → Runs left
-      → EndsAs answer (at_last errors told failed) status
-      → EndsWithFile l words known asked before after name errors status
+      → EndsAs names answer (at_last errors told failed) status
+      → EndsWithFile l words known asked before after name names errors status
   ends_well ended left run ends = well (is_whole answer) refl ended left run ends
 
   pub ends_badly : (fault : NewFileFault) → EndsFile before after name has has_failed (is_whole answer) (Err fault)
       → (left : List ℕ) → Runs left → EndsWithLine (unwritten_line name fault) 1 (at_last errors told failed) status
-      → EndsWithFile l words known asked before after name errors status
+      → EndsWithFile l words known asked before after name names errors status
   ends_badly fault ended left run ends = badly (is_whole answer) refl fault ended left run ends

@@ -1,7 +1,7 @@
 -- What was written to a sink that gathers bytes is written to the sink to which it passes them on.
 use Rattle.std.proofs.Common.{◌≡◌, ◌∙◌, ◌||◌, ℕ, Bool, true, false, not, List, [], Option, Result, Ok, Err}
 use Rattle.std.proofs.Common.{IsTrue}
-use Rattle.std.proofs.Common.{MatchResult, inl, inr, refl, sym, subst, arith, ap, None, Some}
+use Rattle.std.proofs.Common.{inl, inr, refl, sym, subst, arith, ap, None, Some}
 use Rattle.std.proofs.Common.{append-nil}
 use Rattle.std.proofs.KnownBytes.{Appends-kept}
 use Rattle.std.specs.Io.KnownBytes.{Appends, Keeps, append_known}
@@ -11,12 +11,13 @@ use Rattle.kd_host.specs.Writing.{WritesText}
 use Rattle.kd_state.specs.declared.machine.parts.Parts.{Parts}
 use Rattle.kd_state.specs.SheetDay.{Day}
 use Rattle.kd_curator.specs.Ending.{stop_after}
-use Rattle.kd_curator.specs.MachineAndSheet.{IsAnswerOnMachine, IsAnswerOnSheet, or_refused}
+use Rattle.kd_curator.specs.Files.{text_at}
+use Rattle.kd_curator.specs.MachineAndSheet.{IsAnswerOn, machine_and_month, machine_in, month_in}
 use Rattle.kd_curator.specs.Program.{CarriesOut, DoesCommand, DoesTask, IsTold, IsAnswerAfterFlush, is_stopped_before_writing}
 use Rattle.kd_curator.specs.Program.{AnswersAfter, IsFlushed, is_whole}
 use Rattle.kd_curator.specs.Program.{Carried, FileUnread, Shown, OtherWords, NoMemory, is_stopped_by_device, is_usage}
 use Rattle.kd_curator.specs.Looks.{Looks, named_texts}
-use Rattle.kd_curator.specs.Refusals.{comes_after_writing, is_after_all, refused_device, refused_whole}
+use Rattle.kd_curator.specs.Refusals.{comes_after_writing, is_after_all, refused_device}
 use Rattle.kd_curator.specs.declared.fault.PageFault.{PageFault}
 use Rattle.kd_curator.specs.declared.fault.PageFault.TheVariants as faults
 use Rattle.kd_look.specs.Look.{IsLookAnswer, NamedText}
@@ -24,16 +25,11 @@ use Rattle.kd_look.specs.declared.looking.LookFault.{LookFault}
 use Rattle.kd_look.specs.declared.outcome.Outcome.{Outcome}
 use Rattle.kd_tables.specs.Writing.{Writes}
 use Rattle.kd_curator.specs.Sheets.{MakesSheet, Sheet, Faulty, NoMemory as NoSheetMemory}
-use Rattle.kd_curator.specs.Tables.{WritesTables}
 use Rattle.kd_table.specs.Options.{OptionTexts}
-use Rattle.kd_sheet.specs.SheetFile.{sheet_of}
-use Rattle.kd_sheet.specs.declared.fault.SheetFault.{SheetFault}
 use Rattle.kd_pictures.specs.declared.language.Language.{Language}
-use Rattle.kd_key_table.specs.TableFile.{file_text}
-use Rattle.kd_key_table.specs.declared.table_file.TableForm.{TableForm}
-use Rattle.kd_curator_command.specs.CommandLine.{ReadCommand}
+use Rattle.kd_curator_command.specs.CommandLine.{NamedCommand}
+use Rattle.kd_curator_command.specs.UpToThree.{list_of_three}
 use Rattle.kd_curator_command.specs.declared.command.Command.TheVariants as commands
-use Rattle.kd_curator.specs.declared.fault.PageFault.TheVariants.{File}
 use Rattle.kd_curator.specs.RunList.{WritesList, NoList, Settings}
 use Rattle.std.specs.Prelude.{unwrap_or}
 use Rattle.kd_curator.specs.Program.{WritesMessage}
@@ -44,7 +40,6 @@ use Rattle.kd_curator.specs.RunSend.{WritesSendPage}
 use Rattle.kd_curator.specs.RunSend as sends
 use Rattle.kd_curator.specs.RunType.{WritesTypingPage}
 use Rattle.kd_curator.specs.RunType as types
-use Rattle.kd_sheet.specs.MachineFile.{machine_of}
 use Rattle.kd_curator_command.specs.declared.command.MessageKind.{MessageKind}
 use Rattle.kd_curator_command.specs.declared.command.MessageKind.TheVariants as kinds
 use Rattle.kd_curator_command.specs.declared.command.Task.{Task}
@@ -78,47 +73,27 @@ module _ (one other : Port) (before : one.had ≡ other.had) (after : Keeps one.
   list_kept month m number answer (Settings plan n of is_list writes) =
       Settings plan n of is_list (text_kept _ _ answer writes)
 
-  pages_kept : (l : Language) (month : List (Option Day)) (m : Parts) (numbers : List ℕ) (answer : Result (Unit {0}) Refused)
-      → WritesPages l month m numbers one answer → WritesPages l month m numbers other answer
-  pages_kept l month m numbers answer (NoDays none told) = NoDays none told
-  pages_kept l month m numbers answer (NoPage refused is told) = NoPage refused is told
-  pages_kept l month m numbers answer (Pages first others planned text booklet writes) =
+  pages_kept : (l : Language) (name : List ℕ) (month : List (Option Day)) (m : Parts) (numbers : List ℕ)
+      (answer : Result (Unit {0}) Refused)
+      → WritesPages l name month m numbers one answer → WritesPages l name month m numbers other answer
+  pages_kept l name month m numbers answer (NoDays none told) = NoDays none told
+  pages_kept l name month m numbers answer (NoPage refused is told) = NoPage refused is told
+  pages_kept l name month m numbers answer (Pages first others planned text booklet writes) =
       Pages first others planned text booklet (text_kept _ _ answer writes)
 
-  found_kept : (Holds Other : Parts → List (Option Day) → Type 0) (answer : Result (Unit {0}) Refused)
-      → ((m : Parts) (month : List (Option Day)) → Holds m month → Other m month)
-      → (found : Result (Parts × List (Option Day)) Refused)
-      → MatchResult found (λ both. Holds both.0 both.1) (λ refused. answer ≡ Err refused)
-      → MatchResult found (λ both. Other both.0 both.1) (λ refused. answer ≡ Err refused)
-  found_kept Holds Other answer more (Ok both) holds = more both.0 both.1 holds
-  found_kept Holds Other answer more (Err refused) holds = holds
+  on_kept : {A : Type 0} (found : Result A Refused) (Holds Other : A → Type 0) (answer : Result (Unit {0}) Refused)
+      → ((value : A) → Holds value → Other value) → IsAnswerOn found Holds answer → IsAnswerOn found Other answer
+  on_kept (Ok value) Holds Other answer more (inl holds) = inl (more value holds)
+  on_kept (Err refused) Holds Other answer more (inl is) = inl is
+  on_kept found Holds Other answer more (inr lacks) = inr lacks
 
-  on_sheet_kept : (machine sheet : List ℕ) (Holds Other : Parts → List (Option Day) → Type 0)
-      (answer : Result (Unit {0}) Refused)
-      → ((m : Parts) (month : List (Option Day)) → Holds m month → Other m month)
-      → IsAnswerOnSheet machine sheet Holds answer → IsAnswerOnSheet machine sheet Other answer
-  on_sheet_kept machine sheet Holds Other answer more (inl found) = inl (found_kept Holds Other answer more _ found)
-  on_sheet_kept machine sheet Holds Other answer more (inr lacks) = inr lacks
-
-  month_kept : (l : Language) (form : TableForm) (told : Result (Unit {0}) Refused) (found : Result (List (Option Day)) SheetFault)
-      → MatchResult found (λ month. WritesText refused_device (file_text l form month) one told)
-      (λ fault. told ≡ Err (refused_whole (File fault)))
-      → MatchResult found (λ month. WritesText refused_device (file_text l form month) other told)
-      (λ fault. told ≡ Err (refused_whole (File fault)))
-  month_kept l form told (Ok month) writes = text_kept refused_device _ told writes
-  month_kept l form told (Err fault) is = is
-
-  task_kept : (l : Language) (task : Task) (machine sheet : List ℕ) (told : Result (Unit {0}) Refused)
-      → DoesTask l task machine sheet one told → DoesTask l task machine sheet other told
-  task_kept l (tasks.Page days chosen) machine sheet told does =
-      on_sheet_kept machine sheet _ _ told (λ m month. pages_kept (unwrap_or chosen l) month m _ told) does
-  task_kept l (tasks.List day) machine sheet told does =
-      on_sheet_kept machine sheet _ _ told (λ m month. list_kept month m day told) does
-
-  tables_kept : (l : Language) (form : TableForm) (sheet : List ℕ) (told : Result (Unit {0}) Refused)
-      → WritesTables l form sheet one told → WritesTables l form sheet other told
-  tables_kept l form sheet told (inl found) = inl (month_kept l form told (sheet_of sheet) found)
-  tables_kept l form sheet told (inr lacks) = inr lacks
+  task_kept : (l : Language) (task : Task) (name machine sheet : List ℕ) (told : Result (Unit {0}) Refused)
+      → DoesTask l task name machine sheet one told → DoesTask l task name machine sheet other told
+  task_kept l (tasks.Page days chosen) name machine sheet told does =
+      on_kept (machine_and_month machine sheet) _ _ told
+      (λ both. pages_kept (unwrap_or chosen l) name both.1 both.0 _ told) does
+  task_kept l (tasks.List day) name machine sheet told does =
+      on_kept (machine_and_month machine sheet) _ _ told (λ both. list_kept both.1 both.0 day told) does
 
   sheet_kept : (options : OptionTexts) (table : List ℕ) (told : Result (Unit {0}) Refused)
       → MakesSheet options table one told → MakesSheet options table other told
@@ -181,32 +156,21 @@ module _ (one other : Port) (before : one.had ≡ other.had) (after : Keeps one.
   typing_page_kept l m told (types.Page ready types_so writes) =
       types.Page ready types_so (text_kept refused_device _ told writes)
 
-  machine_kept : (Holds Other : Parts → Type 0) (answer : Result (Unit {0}) Refused)
-      → ((m : Parts) → Holds m → Other m) → (found : Result Parts Refused)
-      → MatchResult found Holds (λ refused. answer ≡ Err refused)
-      → MatchResult found Other (λ refused. answer ≡ Err refused)
-  machine_kept Holds Other answer more (Ok m) holds = more m holds
-  machine_kept Holds Other answer more (Err refused) holds = holds
-
-  on_machine_kept : (machine : List ℕ) (Holds Other : Parts → Type 0) (answer : Result (Unit {0}) Refused)
-      → ((m : Parts) → Holds m → Other m) → IsAnswerOnMachine machine Holds answer
-      → IsAnswerOnMachine machine Other answer
-  on_machine_kept machine Holds Other answer more (inl found) =
-      inl (machine_kept Holds Other answer more (or_refused (machine_of machine)) found)
-  on_machine_kept machine Holds Other answer more (inr lacks) = inr lacks
-
-  command_kept : (l : Language) (command : ReadCommand) (told : Result (Unit {0}) Refused) → DoesCommand l command one told
-      → DoesCommand l command other told
-  command_kept l (commands.OnMachine machine sheet task) told does = task_kept l task machine sheet told does
-  command_kept l (commands.Message machine sheet message task) told does =
-      on_sheet_kept machine sheet _ _ told
-      (λ m month. message_kept task.kind (unwrap_or task.language l) month m task.day message told) does
-  command_kept l (commands.TypingPage machine chosen) told does =
-      on_machine_kept machine _ _ told (λ m. typing_page_kept (unwrap_or chosen l) m told) does
-  command_kept l (commands.Table sheet form chosen) told does = tables_kept (unwrap_or chosen l) form sheet told does
-  command_kept l (commands.Sheet table options) told does = sheet_kept options table told does
-  command_kept l (commands.Look names files) told does = look_kept (named_texts names files) told does
-  command_kept l (commands.EmptySheet model days) told does = text_kept refused_device _ told does
+  command_kept : (l : Language) (command : NamedCommand) (texts : List (List ℕ)) (told : Result (Unit {0}) Refused)
+      → DoesCommand l command texts one told → DoesCommand l command texts other told
+  command_kept l (commands.OnMachine machine sheet task) texts told does =
+      task_kept l task sheet (text_at texts 0) (text_at texts 1) told does
+  command_kept l (commands.Message machine sheet message task) texts told does =
+      on_kept (machine_and_month (text_at texts 0) (text_at texts 1)) _ _ told
+      (λ both. message_kept task.kind (unwrap_or task.language l) both.1 both.0 task.day (text_at texts 2) told) does
+  command_kept l (commands.TypingPage machine chosen) texts told does =
+      on_kept (machine_in (text_at texts 0)) _ _ told (λ m. typing_page_kept (unwrap_or chosen l) m told) does
+  command_kept l (commands.Table sheet form chosen) texts told does =
+      on_kept (month_in 0 (text_at texts 0)) _ _ told (λ month. text_kept refused_device _ told) does
+  command_kept l (commands.Sheet table options) texts told does = sheet_kept options (text_at texts 0) told does
+  command_kept l (commands.Look files) texts told does =
+      look_kept (named_texts (list_of_three files) texts) told does
+  command_kept l (commands.EmptySheet model days) texts told does = text_kept refused_device _ told does
 
 -- ---- the program's answer
 
@@ -242,7 +206,6 @@ usage_on : (left : List ℕ) (done answer : Result (Unit {0}) Stop) → IsAnswer
     → IsTrue (is_usage done) → IsTrue (is_usage answer)
 usage_on left (Ok fine) answer ends usage = absurd (cc)
 usage_on left (Err (stops.Usage text)) answer ends usage = subst (λ a. IsTrue (is_usage a)) (sym ends) usage
-usage_on left (Err (stops.Unread fault)) answer ends usage = absurd (cc)
 usage_on left (Err (stops.Refused refused)) answer ends usage = absurd (cc)
 
 or_again : (a d : Bool) → ((a || d) || d) ≡ (a || d)
@@ -289,7 +252,6 @@ whole_fault _ whole early = cc
 whole_wrote : (done : Result (Unit {0}) Stop) → is_whole done ≡ true → IsTrue (is_stopped_before_writing done) → ⊥
 whole_wrote (Ok fine) whole early = absurd (cc)
 whole_wrote (Err (stops.Usage text)) whole early = cc
-whole_wrote (Err (stops.Unread fault)) whole early = cc
 whole_wrote (Err (stops.Refused refused)) whole early = whole_fault refused.fault whole (search early)
 
 stopped_by : {X : Type 0} (whole : Bool) (left : List ℕ) (done answer : Result (Unit {0}) Stop) → is_whole done ≡ whole
@@ -316,11 +278,11 @@ module _ (l : Language) (words : List (List ℕ)) (known : Option (List ℕ → 
     (one other : Port) (left : List ℕ) (done answer : Result (Unit {0}) Stop) (ends : IsAnswerAfterFlush left done answer)
     (before : one.had ≡ other.had) (after : Keeps one.has other.has) where
   pub carried_on : CarriesOut l words known asked one [] done → CarriesOut l words known asked other left answer
-  carried_on (Carried command says read alike knows asks told) =
-      Carried command says read alike knows asks (told_on left done answer ends _ _
-      (λ t. command_kept one other before after l read t) told)
-  carried_on (FileUnread command says fault knows asks is) =
-      FileUnread command says fault knows asks (stops_on left done answer ends (stops.Unread fault) refl is)
+  carried_on (Carried command says texts many knows asks told) =
+      Carried command says texts many knows asks (told_on left done answer ends _ _
+      (λ t. command_kept one other before after l command texts t) told)
+  carried_on (FileUnread command says fault place why knows asks last is) =
+      FileUnread command says fault place why knows asks last (stops_on left done answer ends _ refl is)
   carried_on (Shown text kind among help none told) =
       Shown text kind among help none (told_on left done answer ends _ _
       (λ t. text_kept one other before after refused_device text t) told)

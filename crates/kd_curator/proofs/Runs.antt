@@ -5,13 +5,14 @@ use Rattle.std.proofs.Common.{◌∷◌, OnErr, inl, refl, arith, ap, subst, sym
 use Rattle.clap.specs.Words.{Row, subcommand_of}
 use Rattle.kd_tables.specs.Ports.{Port}
 use Rattle.kd_tables.specs.declared.model.Model.{Model}
-use Rattle.kd_curator_command.specs.CommandLine.{IsCommandLineOf, IsMeant, NamedCommand, ReadCommand, curator_grammar}
+use Rattle.kd_curator_command.specs.CommandLine.{IsCommandLineOf, IsMeant, NamedCommand, curator_grammar}
 use Rattle.kd_curator_command.specs.declared.command.Command.TheVariants as commands
 use Rattle.kd_curator_command.specs.declared.command.MessageKind.{MessageKind}
 use Rattle.kd_curator_command.specs.declared.command.MessageKind.TheVariants as kinds
 use Rattle.kd_curator_command.specs.declared.command.MessageTask.{MessageTask}
 use Rattle.kd_host.specs.Files.{AreAskedFor, AskedName}
-use Rattle.kd_curator.specs.Program.{AreAlike, HasMonth, HasNotes, HasTold, IsLeftAlone, NoNotes, TableNotes, names_of}
+use Rattle.kd_curator.specs.Files.{names_of}
+use Rattle.kd_curator.specs.Program.{HasMonth, HasNotes, HasTold, IsLeftAlone, NoNotes, TableNotes}
 use Rattle.kd_curator.specs.Ending.{stop_after}
 use Rattle.kd_curator.specs.Program.{IsTold, IsAnswerAfterFlush, is_stopped_before_writing}
 use Rattle.kd_curator.specs.Program.{is_stopped_by_device}
@@ -85,19 +86,17 @@ message_notes_so words asked errors machine sheet message task kinds.Form says i
     FormNotes machine sheet message task says is read told
 
 -- what the command tells, the words allow
-pub notes_so : (words : List (List ℕ)) (asked : List AskedName) (errors : Port) (command : NamedCommand) (read : ReadCommand)
-    → IsCommandLineOf words command → AreAlike command read → AreAskedFor (names_of command) [] asked true
-    → HasTold read errors → HasNotes words asked errors
-notes_so words asked errors (commands.OnMachine a b c) (commands.OnMachine d e f) says alike read told = NoNotes told
-notes_so words asked errors (commands.Message a b c d) (commands.Message e f g h) says alike read told =
-    message_notes_so words asked errors a b c d h.kind says (ap (λ (t : MessageTask). t.kind) alike) read told
-notes_so words asked errors (commands.TypingPage a b) (commands.TypingPage c d) says alike read told = NoNotes told
-notes_so words asked errors (commands.Table a b c) (commands.Table d e f) says alike read told = NoNotes told
-notes_so words asked errors (commands.EmptySheet a b) (commands.EmptySheet c d) says alike read told = NoNotes told
-notes_so words asked errors (commands.Sheet table options) (commands.Sheet bytes same) says alike read told =
-    TableNotes table options says read told
-notes_so words asked errors (commands.Look a b) (commands.Look c d) says alike read told = NoNotes told
-notes_so words asked errors _ _ says alike read told = absurd alike
+pub notes_so : (words : List (List ℕ)) (asked : List AskedName) (errors : Port) (command : NamedCommand)
+    → IsCommandLineOf words command → AreAskedFor (names_of command) [] asked true → HasTold command errors
+    → HasNotes words asked errors
+notes_so words asked errors (commands.OnMachine a b c) says read told = NoNotes told
+notes_so words asked errors (commands.Message a b c d) says read told =
+    message_notes_so words asked errors a b c d d.kind says refl read told
+notes_so words asked errors (commands.TypingPage a b) says read told = NoNotes told
+notes_so words asked errors (commands.Table a b c) says read told = NoNotes told
+notes_so words asked errors (commands.EmptySheet a b) says read told = NoNotes told
+notes_so words asked errors (commands.Sheet table options) says read told = TableNotes table options says read told
+notes_so words asked errors (commands.Look b) says read told = NoNotes told
 
 -- the number of days that the words ask for is that of a month
 meant_month : (said : Option (List ℕ × List Row)) (model : Model) (days : ℕ)
@@ -105,15 +104,12 @@ meant_month : (said : Option (List ℕ × List Row)) (model : Model) (days : ℕ
 meant_month None model days meant = absurd meant
 meant_month (Some said) model days meant = let within = meant.month.within in omega (arith, within.last)
 
-pub months_so : (words : List (List ℕ)) (command : NamedCommand) (read : ReadCommand)
-    → IsCommandLineOf words command → AreAlike command read → HasMonth read
-months_so words (commands.EmptySheet model days) (commands.EmptySheet same many) says alike =
-    let here = meant_month (subcommand_of curator_grammar words) model days says.said in
-    subst (λ d. d ≤ 31) alike.1 here
-months_so words command (commands.OnMachine d e f) says alike = tt
-months_so words command (commands.Message d e f g) says alike = tt
-months_so words command (commands.TypingPage d e) says alike = tt
-months_so words command (commands.Table d e f) says alike = tt
-months_so words command (commands.Sheet d e) says alike = tt
-months_so words command (commands.Look d e) says alike = tt
-months_so words _ (commands.EmptySheet d e) says alike = absurd alike
+pub months_so : (words : List (List ℕ)) (command : NamedCommand) → IsCommandLineOf words command → HasMonth command
+months_so words (commands.EmptySheet model days) says =
+    meant_month (subcommand_of curator_grammar words) model days says.said
+months_so words (commands.OnMachine d e f) says = tt
+months_so words (commands.Message d e f g) says = tt
+months_so words (commands.TypingPage d e) says = tt
+months_so words (commands.Table d e f) says = tt
+months_so words (commands.Sheet d e) says = tt
+months_so words (commands.Look e) says = tt

@@ -1,14 +1,17 @@
--- How the program ends: the text on standard error, and the exit status.
--- Test: tests/cases/curator-pages.toml
+-- How the program ends: what it writes to standard error, and its exit status.
+-- Test: tests/cases/curator-pages.toml, tests/cases/curator-files.toml
 use Rattle.std.specs.Prelude.{codes, decimal, ◌≡◌, ◌⊎◌, ℕ, List, [], ◌∷◌, ◌++◌, Option, Some, None, Result, Ok, Err}
 use Rattle.std.specs.Prelude.{string_bytes}
 use Rattle.std.specs.declared.io.ErrorKind.{ErrorKind}
 use Rattle.std.specs.declared.io.ErrorKind.TheVariants.{OutOfMemory}
 use Rattle.kd_host.specs.declared.file_fault.FileFault.TheVariants.{NoMemory}
 use Rattle.kd_tables.specs.Ports.{Port}
-use Rattle.kd_host.specs.Ending.{EndsWithLine, refused_line}
-use Rattle.kd_host.specs.FileFault.{file_fault_text}
-use Rattle.kd_curator.specs.Refusals.{page_fault_text}
+use Rattle.kd_host.specs.Ending.{EndsWithLine}
+use Rattle.kd_curator.specs.Blame.{remark_words}
+use Rattle.kd_curator.specs.Files.{text_at}
+use Rattle.kd_curator.specs.Refusals.{page_fault_text, refused_whole}
+use Rattle.kd_curator.specs.declared.blame.Blame.{Blame}
+use Rattle.kd_curator.specs.declared.fault.PageFault.TheVariants.{Unread}
 use Rattle.kd_curator.specs.declared.fault.Refused.{Refused}
 use Rattle.kd_curator.specs.declared.stop.Stop.{Stop}
 use Rattle.kd_curator.specs.declared.stop.Stop.TheVariants as stops
@@ -18,32 +21,49 @@ abbrev pub day_prefix : Option ℕ → List ℕ
 day_prefix None = []
 day_prefix (Some day) = codes "day " ++ decimal day ++ codes ": "
 
--- the line on standard error for a refusal
-abbrev pub refusal_line : Refused → List ℕ
-refusal_line refused = day_prefix refused.day ++ refused_line (page_fault_text refused.fault)
+-- a refusal, without what it says of a file
+abbrev pub refusal_text : Refused → List ℕ
+refusal_text refused = day_prefix refused.day ++ (codes "refused " ++ page_fault_text refused.fault)
 
--- the text on standard error: why the program stops; empty if all went well
-abbrev pub error_text : Result (Unit {0}) Stop → List ℕ
-error_text (Ok done) = []
-error_text (Err (stops.Usage text)) = string_bytes text
-error_text (Err (stops.Unread fault)) = refused_line (file_fault_text fault)
-error_text (Err (stops.Refused refused)) = refusal_line refused
+-- the end of a refusal's line: what it says of a file, if of any, with the file's name, from `names`
+abbrev pub refusal_end : List (List ℕ) → Option Blame → List ℕ
+refusal_end names None = 10 ∷ []
+refusal_end names (Some blame) = remark_words blame.remark ++ (text_at names blame.place ++ 10 ∷ [])
+
+-- the line on standard error for a refusal, given the names of the command's files
+unfoldable pub refusal_line : List (List ℕ) → Refused → List ℕ
+refusal_line names refused = refusal_text refused ++ refusal_end names refused.blame
+
+-- what is written to standard error: a text for a `Stop`, or no bytes if all went well
+abbrev pub error_text : List (List ℕ) → Result (Unit {0}) Stop → List ℕ
+error_text names (Ok done) = []
+error_text names (Err (stops.Usage text)) = string_bytes text
+error_text names (Err (stops.Refused refused)) = refusal_line names refused
 
 -- the exit status: 0 if all went well, 2 if the words don't mean a command, 1 for a refusal
 abbrev pub status_of : Result (Unit {0}) Stop → ℕ
 status_of (Ok done) = 0
 status_of (Err (stops.Usage text)) = 2
-status_of (Err _) = 1
+status_of (Err (stops.Refused refused)) = 1
 
--- The program ends with the text and the exit status for `answer`. Standard error took the text or, if standard error
--- failed, a prefix of the text.
-abbrev pub EndsAs : Result (Unit {0}) Stop → Port → ℕ → Type 0
-EndsAs answer errors status = EndsWithLine (error_text answer) (status_of answer) errors status
+-- The program ends with the text and the exit status for `answer`, or with a prefix of the text if standard error
+-- failed. `names` are those of the command's files.
+abbrev pub EndsAs : List (List ℕ) → Result (Unit {0}) Stop → Port → ℕ → Type 0
+EndsAs names answer errors status = EndsWithLine (error_text names answer) (status_of answer) errors status
+
+-- what the answer says of a file, if of any
+abbrev pub blame_of : Result (Unit {0}) Stop → Option Blame
+blame_of (Err (stops.Refused refused)) = refused.blame
+blame_of _ = None
 
 -- the program's answer after a command that gave this answer
 abbrev pub stop_after : Result (Unit {0}) Refused → Result (Unit {0}) Stop
 stop_after (Ok done) = Ok done
 stop_after (Err refused) = Err (stops.Refused refused)
+
+-- Memory ran out before a file was asked for.
+abbrev pub memory_stop : Stop
+memory_stop = stops.Refused (refused_whole (Unread NoMemory))
 
 -- ---- Why the words of the command line can't be read.
 
@@ -56,5 +76,5 @@ IsWordsText _ = ⊥
 -- Why the program stops if the words can't be read. The kind of the error says whether memory ran out, or a word isn't
 -- UTF-8. If a word isn't UTF-8, memory may also run out for the text that says so.
 abbrev pub IsWordsStop : ErrorKind → Stop → Type 0
-IsWordsStop OutOfMemory stop = stop ≡ stops.Unread NoMemory
-IsWordsStop _ stop = (stop ≡ stops.Unread NoMemory) ⊎ IsWordsText stop
+IsWordsStop OutOfMemory stop = stop ≡ memory_stop
+IsWordsStop _ stop = (stop ≡ memory_stop) ⊎ IsWordsText stop

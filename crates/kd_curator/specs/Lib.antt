@@ -1,4 +1,6 @@
+pub mod Blame
 pub mod Ending
+pub mod Files
 pub mod MachineAndSheet
 pub mod OutputFile
 pub mod Program

@@ -1,6 +1,6 @@
 -- What the command `look` writes, and when the command refuses.
 -- Test: tests/cases/curator-look.toml
-use Rattle.std.specs.Prelude.{◌≡◌, ℕ, List, [], ◌∷◌, ◌++◌, Option, Some, Result, Ok, Err}
+use Rattle.std.specs.Prelude.{◌≡◌, ℕ, List, [], ◌∷◌, Result, Ok, Err}
 use Rattle.kd_tables.specs.Ports.{Port}
 use Rattle.kd_look.specs.Look.{IsLookAnswer, NamedText}
 use Rattle.kd_look.specs.declared.looking.LookFault.{LookFault}
@@ -9,18 +9,12 @@ use Rattle.kd_look.specs.declared.outcome.Outcome.TheVariants.{Faultless, Faulty
 use Rattle.kd_curator.specs.Refusals.{refused_look, refused_whole}
 use Rattle.kd_curator.specs.declared.fault.PageFault.TheVariants.{FaultyFile}
 use Rattle.kd_curator.specs.declared.fault.Refused.{Refused}
-use Rattle.kd_curator_command.specs.declared.up_to_three.UpToThree.{UpToThree}
 
--- the list of this file with its name; empty if there is no such file
-abbrev pub other_text : Option (List ℕ) → Option (List ℕ) → List NamedText
-other_text (Some name) (Some bytes) = record { name = name; bytes = bytes } ∷ []
-other_text _ _ = []
-
--- the list of all files, each with its name
-abbrev pub named_texts : UpToThree (List ℕ) → UpToThree (List ℕ) → List NamedText
-named_texts names files =
-    record { name = names.first; bytes = files.first }
-    ∷ (other_text names.second files.second ++ other_text names.third files.third)
+-- the files with these names and bytes
+abbrev pub named_texts : List (List ℕ) → List (List ℕ) → List NamedText
+named_texts (name ∷ names) (bytes ∷ texts) = record { name = name; bytes = bytes } ∷ named_texts names texts
+named_texts [] texts = []
+named_texts (name ∷ names) [] = []
 
 -- The answer of the command `look`. The command is refused if a file has a fault, or if the report wasn't written
 -- completely.

@@ -1,39 +1,77 @@
--- The answers of commands that read a machine file, alone or with a key sheet.
--- Test: tests/cases/curator-pages.toml
-use Rattle.std.specs.Prelude.{◌≡◌, ◌⊎◌, ℕ, List, Option, Result, Ok, Err, MatchResult}
+-- How a machine and a key sheet are found in their files, and what is done with the machine, or with both.
+-- Test: tests/cases/curator-pages.toml, tests/cases/curator-files.toml
+use Rattle.std.specs.Prelude.{◌≡◌, ◌⊎◌, ℕ, Bool, true, false, List, Option, is_some, Result, Ok, Err, MatchResult}
 use Rattle.std.specs.Result.{result_map_both}
+use Rattle.toml.specs.Data.{Members}
 use Rattle.kd_state.specs.declared.machine.parts.Parts.{Parts}
 use Rattle.kd_state.specs.SheetDay.{Day}
 use Rattle.kd_sheet.specs.declared.fault.SheetFault.{SheetFault}
 use Rattle.kd_sheet.specs.declared.fault.SheetFault.TheVariants.{NoMemory}
-use Rattle.kd_sheet.specs.Document.{◌>>=◌}
+use Rattle.kd_sheet.specs.Document.{◌>>=◌, document_of}
 use Rattle.kd_sheet.specs.MachineFile.{machine_of}
 use Rattle.kd_sheet.specs.SheetFile.{sheet_of}
+use Rattle.kd_findings.specs.Kind.{entries_of, is_machine_file}
+use Rattle.kd_curator.specs.declared.blame.Remark.{Remark}
+use Rattle.kd_curator.specs.declared.blame.Remark.TheVariants.{KeySheet, MachineFile, MachineForSheet, SheetForMachine}
 use Rattle.kd_curator.specs.declared.fault.PageFault.TheVariants.{File}
 use Rattle.kd_curator.specs.declared.fault.Refused.{Refused}
-use Rattle.kd_curator.specs.Refusals.{refused_whole}
+use Rattle.kd_curator.specs.declared.machine_and_sheet.Needed.{Needed}
+use Rattle.kd_curator.specs.declared.machine_and_sheet.Needed.TheVariants as needs
+use Rattle.kd_curator.specs.Refusals.{refused_in, refused_whole}
+
+abbrev pub refused_memory : Refused
+refused_memory = refused_whole (File NoMemory)
 
 -- The answer is that memory ran out. This answer is allowed for all files.
 abbrev pub LacksMemory : {A : Type 0} → Result A Refused → Type 0
-LacksMemory answer = answer ≡ Err (refused_whole (File NoMemory))
+LacksMemory answer = answer ≡ Err refused_memory
 
-abbrev pub or_refused : {A : Type 0} → Result A SheetFault → Result A Refused
-or_refused read = result_map_both (λ value. value) (λ fault. refused_whole (File fault)) read
+-- whether a document is a key sheet, where a machine file is needed, or the other way around
+abbrev pub is_other_document : Needed → Members → Bool
+is_other_document needs.Machine document = is_some (entries_of document)
+is_other_document needs.Sheet document = is_machine_file document
+
+-- whether the test holds of a document, if there is one
+abbrev pub holds_of : (Members → Bool) → Result Members SheetFault → Bool
+holds_of test (Ok document) = test document
+holds_of test (Err fault) = false
+
+-- whether a file's bytes are a document of the other kind than is needed
+unfoldable pub is_other_file : Needed → List ℕ → Bool
+is_other_file needed bytes = holds_of (is_other_document needed) (document_of bytes)
+
+-- what is said of a file, given what is needed in it, and whether it is of the other kind
+abbrev pub file_remark : Needed → Bool → Remark
+file_remark needs.Machine false = MachineFile
+file_remark needs.Machine true = SheetForMachine
+file_remark needs.Sheet false = KeySheet
+file_remark needs.Sheet true = MachineForSheet
+
+-- the refusal of the file at this place, for its first fault
+abbrev pub refused_file : Needed → ℕ → List ℕ → SheetFault → Refused
+refused_file needed place bytes fault = refused_in place (file_remark needed (is_other_file needed bytes)) (File fault)
+
+abbrev pub or_refused : {A : Type 0} → (SheetFault → Refused) → Result A SheetFault → Result A Refused
+or_refused refused read = result_map_both (λ value. value) refused read
+
+-- the machine of a machine file, the first of a command's files, or its first fault
+abbrev pub machine_in : List ℕ → Result Parts Refused
+machine_in bytes = or_refused (refused_file needs.Machine 0 bytes) (machine_of bytes)
+
+-- the month of a key sheet at this place among a command's files, or its first fault
+abbrev pub month_in : ℕ → List ℕ → Result (List (Option Day)) Refused
+month_in place bytes = or_refused (refused_file needs.Sheet place bytes) (sheet_of bytes)
 
 -- The machine in a machine file, and the month in a key sheet. If one of the two files can't be read, the first fault.
 unfoldable pub machine_and_month : List ℕ → List ℕ → Result (Parts × List (Option Day)) Refused
 machine_and_month machine sheet = do
-  m ← or_refused (machine_of machine)
-  month ← or_refused (sheet_of sheet)
+  m ← machine_in machine
+  month ← month_in 1 sheet
   Ok (m, month)
 
--- One of these is so:
--- - The machine file has a machine, and `Holds` holds of this machine.
--- - The answer is the first fault of the machine file.
--- - The answer is that memory ran out.
-abbrev pub IsAnswerOnMachine : List ℕ → (Parts → Type 0) → Result (Unit {0}) Refused → Type 0
-IsAnswerOnMachine machine Holds answer =
-    MatchResult (or_refused (machine_of machine)) Holds (λ refused. answer ≡ Err refused) ⊎ LacksMemory answer
+-- What is found in files satisfies `Holds`; or the answer is their first fault. Or memory ran out.
+abbrev pub IsAnswerOn : {A : Type 0} → Result A Refused → (A → Type 0) → Result (Unit {0}) Refused → Type 0
+IsAnswerOn found Holds answer = MatchResult found Holds (λ refused. answer ≡ Err refused) ⊎ LacksMemory answer
 
 -- One of these is so:
 -- - The two files have a machine and a month, and `Holds` holds of both.
@@ -42,5 +80,4 @@ IsAnswerOnMachine machine Holds answer =
 abbrev pub IsAnswerOnSheet : List ℕ → List ℕ → (Parts → List (Option Day) → Type 0) → Result (Unit {0}) Refused
     → Type 0
 IsAnswerOnSheet machine sheet Holds answer =
-    MatchResult (machine_and_month machine sheet) (λ found. Holds found.0 found.1) (λ refused. answer ≡ Err refused)
-    ⊎ LacksMemory answer
+    IsAnswerOn (machine_and_month machine sheet) (λ found. Holds found.0 found.1) answer

@@ -8,16 +8,15 @@ use Rattle.kd_tables.specs.Refusals.{refusal_name}
 use Rattle.kd_tables.specs.declared.refusal.Refusal.TheVariants as refusals
 use Rattle.kd_host.specs.Ending.{EndsWithLine}
 use Rattle.kd_host.specs.Files.{AskedName}
-use Rattle.kd_host.specs.declared.file_fault.FileFault.TheVariants as files
 use Rattle.kd_new_file.specs.NewFiles.{AddsFile, FilesByName}
 use Rattle.kd_new_file.specs.declared.new_file_fault.NewFileFault.{NewFileFault}
 use Rattle.kd_new_file.specs.declared.new_file_fault.NewFileFault.TheVariants as new_files
 use Rattle.kd_pictures.specs.declared.language.Language.{Language}
 use Rattle.kd_curator_command.specs.CommandLine.{IsCommandLineOf, IsNoCommandLine, NamedCommand, output_of}
-use Rattle.kd_curator.specs.Ending.{EndsAs}
+use Rattle.kd_curator.specs.Ending.{EndsAs, memory_stop}
+use Rattle.kd_curator.specs.Files.{names_of}
 use Rattle.kd_curator.specs.Program.{HasEnded, IsRun, at_first, at_last, is_whole}
 use Rattle.kd_curator.specs.declared.stop.Stop.{Stop}
-use Rattle.kd_curator.specs.declared.stop.Stop.TheVariants as stops
 
 -- the words that say why there is no new file; the file's name stands after them
 abbrev pub unwritten_words : NewFileFault → List ℕ
@@ -38,41 +37,37 @@ pub record IsRunToFile (l : Language) (words : List (List ℕ)) (known : Option 
   pub fresh : written.had_failed ≡ false
   pub run : IsRun l words known asked written (Unit {0}) errors left answer
 
--- How the program ends if the command line names the output file `name`. `before` are all files before the call,
--- `after` all files after the call.
--- - `NotBegun`: no new file could be made, and no file was read.
--- - `Published`: the whole output was written, and is in the new file `name`.
--- - `Discarded`: the command stopped before the whole output was written, and no write failed.
--- - `Unwritten`: a write failed, or the file couldn't get its name.
---
--- In all cases but `Published`, the files are as before.
+-- How the program ends whose command line names the file `name` for its output. The command's files have the names
+-- `names`. `before` and `after` are the files before and after the call. `NotBegun`: no new file could be made, and no file was read. `Published`: all was written
+-- that the answer says, and the new file `name` has it. `Discarded`: the command was refused before all was written.
+-- `Unwritten`: a write failed, or the file couldn't get its name. In all cases but `Published`, the files are as before.
 pub data EndsWithFile (l : Language) (words : List (List ℕ)) (known : Option (List ℕ → Option (List ℕ)))
-    (asked : List AskedName) (before after : Option FilesByName) (name : List ℕ) (errors : Port) (status : ℕ)
-    : Type 0 where
+    (asked : List AskedName) (before after : Option FilesByName) (name : List ℕ) (names : List (List ℕ)) (errors : Port)
+    (status : ℕ) : Type 0 where
   NotBegun : (fault : NewFileFault) → after ≡ before → asked ≡ []
       → EndsWithLine (unwritten_line name fault) 1 errors status
-      → EndsWithFile l words known asked before after name errors status
+      → EndsWithFile l words known asked before after name names errors status
   Published : (written : Port) (answer : Result (Unit {0}) Stop) (told : Option (List ℕ)) (failed : Bool)
       → IsRunToFile l words known asked before written (at_first errors told failed) [] answer
       → is_whole answer ≡ true → AddsFile before after name written.has
-      → EndsAs answer (at_last errors told failed) status
-      → EndsWithFile l words known asked before after name errors status
+      → EndsAs names answer (at_last errors told failed) status
+      → EndsWithFile l words known asked before after name names errors status
   Discarded : (written : Port) (left : List ℕ) (answer : Result (Unit {0}) Stop) (told : Option (List ℕ)) (failed : Bool)
       → IsRunToFile l words known asked before written (at_first errors told failed) left answer
       → is_whole answer ≡ false → written.has_failed ≡ false → after ≡ before
-      → EndsAs answer (at_last errors told failed) status
-      → EndsWithFile l words known asked before after name errors status
+      → EndsAs names answer (at_last errors told failed) status
+      → EndsWithFile l words known asked before after name names errors status
   Unwritten : (written : Port) (left : List ℕ) (answer : Result (Unit {0}) Stop) (told : Option (List ℕ)) (failed : Bool)
       → IsRunToFile l words known asked before written (at_first errors told failed) left answer
       → (is_whole answer ≡ true) ⊎ (written.has_failed ≡ true) → after ≡ before
       → (fault : NewFileFault) → EndsWithLine (unwritten_line name fault) 1 (at_last errors told failed) status
-      → EndsWithFile l words known asked before after name errors status
+      → EndsWithFile l words known asked before after name names errors status
 
 -- The output goes to the sink for one of these reasons: the words name no output file, the words don't mean a command,
 -- or memory ran out.
 abbrev pub GoesToSink : List (List ℕ) → Result (Unit {0}) Stop → Type 0
 GoesToSink words answer =
-    (output_of words ≡ None) ⊎ (IsNoCommandLine words ⊎ (answer ≡ Err (stops.Unread files.NoMemory)))
+    (output_of words ≡ None) ⊎ (IsNoCommandLine words ⊎ (answer ≡ Err memory_stop))
 
 -- How the program ends.
 -- - `ToSink`: the output went to the sink, and no file was made.
@@ -80,11 +75,11 @@ GoesToSink words answer =
 pub data RunsTo (l : Language) (words : List (List ℕ)) (known : Option (List ℕ → Option (List ℕ)))
     (asked : List AskedName) (before after : Option FilesByName) (sink : List ℕ → Port) (Untouched : Type 0)
     (errors : Port) (status : ℕ) : Type 0 where
-  ToSink : HasEnded (λ told left answer. GoesToSink words answer
+  ToSink : HasEnded words (λ told left answer. GoesToSink words answer
       × IsRun l words known asked (sink left) Untouched told left answer) errors status → after ≡ before
       → RunsTo l words known asked before after sink Untouched errors status
-  ToFile : (name : List ℕ) → output_of words ≡ Some name → Untouched
-      → EndsWithFile l words known asked before after name errors status
+  ToFile : (name : List ℕ) → output_of words ≡ Some name → (command : NamedCommand) → IsCommandLineOf words command
+      → Untouched → EndsWithFile l words known asked before after name (names_of command) errors status
       → RunsTo l words known asked before after sink Untouched errors status
 
 -- ---- What inner functions require and answer. No public contract cites these definitions.

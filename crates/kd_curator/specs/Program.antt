@@ -1,32 +1,31 @@
 -- The program: which command the words mean, which files are read, and what is written.
 -- Code: `run_curator` parses the words; `run_command` reads the files, and carries out the command.
 -- Test: tests/cases/curator-pages.toml
-use Rattle.std.specs.Prelude.{◌≡◌, ◌⊎◌, ◌≤◌, ◌||◌, not, ℕ, Bool, true, false, List, [], ◌∷◌, length, Option, Some, None, IfSome}
+use Rattle.std.specs.Prelude.{◌≡◌, ◌⊎◌, ◌+◌, ◌≤◌, ◌||◌, not, ℕ, Bool, true, false, List, [], ◌∷◌, length, Option, None, IfSome}
 use Rattle.std.specs.Prelude.{Result, Ok, Err, IsTrue, unwrap_or}
-use Rattle.std.specs.Borrow.{Bor}
 use Rattle.std.specs.Io.KnownBytes.{append_known}
-use Rattle.std.specs.Result.{result_map_both}
 use Rattle.clap.specs.Words.{IsAmong, fault_of}
 use Rattle.clap.specs.declared.error.kind.ErrorKind.{ErrorKind}
 use Rattle.kd_host.specs.declared.file_fault.FileFault.{FileFault}
 use Rattle.kd_host.specs.declared.file_fault.FileFault.TheVariants as files
 use Rattle.kd_tables.specs.Answers.{AgreesOrNoMemory}
-use Rattle.kd_host.specs.Files.{AreAskedFor, AskedName, content_of}
+use Rattle.kd_host.specs.Files.{AreAskedFor, AskedName}
 use Rattle.kd_host.specs.Writing.{WritesText}
+use Rattle.kd_new_file.specs.declared.why_unread.WhyUnread.{WhyUnread}
 use Rattle.kd_table.specs.EmptySheet.{empty_month_text}
 use Rattle.kd_table.specs.Notes.{Tells}
 use Rattle.kd_table.specs.Options.{OptionTexts}
 use Rattle.kd_state.specs.Machine.{model_of}
 use Rattle.kd_tables.specs.Ports.{Port}
-use Rattle.kd_curator_command.specs.CommandLine.{AsksForHelp, IsCommandLineOf, IsNoCommandLine, NamedCommand, ReadCommand, with_texts}
+use Rattle.kd_curator_command.specs.CommandLine.{AsksForHelp, IsCommandLineOf, IsNoCommandLine, NamedCommand}
 use Rattle.kd_curator_command.specs.CommandLine.{curator_grammar}
 use Rattle.kd_curator_command.specs.CommandLine.{is_help}
-use Rattle.kd_curator.specs.Ending.{EndsAs, stop_after}
-use Rattle.kd_curator.specs.MachineAndSheet.{IsAnswerOnMachine, IsAnswerOnSheet}
+use Rattle.kd_curator.specs.Ending.{EndsAs, blame_of, memory_stop, stop_after}
+use Rattle.kd_curator.specs.Files.{contents_of, names_of, text_at}
+use Rattle.kd_curator.specs.MachineAndSheet.{IsAnswerOn, IsAnswerOnSheet, machine_in}
 use Rattle.kd_curator.specs.Looks.{Looks, named_texts}
-use Rattle.kd_curator_command.specs.UpToThree.{AreAsMany, list_of_three}
-use Rattle.kd_curator_command.specs.declared.up_to_three.UpToThree.{UpToThree}
-use Rattle.kd_curator.specs.Refusals.{comes_after_writing, is_after_all, is_device_fault, refused_device}
+use Rattle.kd_curator_command.specs.UpToThree.{list_of_three}
+use Rattle.kd_curator.specs.Refusals.{comes_after_writing, is_after_all, is_device_fault, refused_device, refused_unread}
 use Rattle.kd_pictures.specs.declared.language.Language.{Language}
 use Rattle.kd_curator.specs.RunList.{WritesList}
 use Rattle.kd_curator.specs.RunPage.{WritesPages, wanted_days}
@@ -40,7 +39,6 @@ use Rattle.kd_curator_command.specs.declared.command.MessageKind.TheVariants as 
 use Rattle.kd_curator_command.specs.declared.command.MessageTask.{MessageTask}
 use Rattle.kd_curator.specs.Sheets.{MakesSheet}
 use Rattle.kd_curator.specs.Tables.{WritesTables}
-use Rattle.kd_curator_command.specs.declared.command.Command.{Command}
 use Rattle.kd_curator_command.specs.declared.command.Command.TheVariants as commands
 use Rattle.kd_curator_command.specs.declared.command.Task.{Task}
 use Rattle.kd_curator_command.specs.declared.command.Task.TheVariants as tasks
@@ -48,68 +46,12 @@ use Rattle.kd_curator.specs.declared.fault.Refused.{Refused}
 use Rattle.kd_curator.specs.declared.stop.Stop.{Stop}
 use Rattle.kd_curator.specs.declared.stop.Stop.TheVariants as stops
 
-abbrev pub with_file : {A X : Type 0} → Result A FileFault → (A → Result X FileFault) → Result X FileFault
-with_file (Ok bytes) made = made bytes
-with_file (Err fault) made = Err fault
-
--- the bytes of the file with this name, or the reason why this file can't be read; `None` if there is no name
-abbrev pub known_other : (List ℕ → Option (List ℕ)) → Option (List ℕ) → Result (Option (List ℕ)) FileFault
-known_other held None = Ok None
-known_other held (Some name) = with_file (content_of (held name)) (λ bytes. Ok (Some bytes))
-
--- the bytes of one, two or three files, or the fault of the first file that can't be read
-abbrev pub known_three : (List ℕ → Option (List ℕ)) → UpToThree (List ℕ) → Result (UpToThree (List ℕ)) FileFault
-known_three held names =
-    with_file (content_of (held names.first)) (λ first. with_file (known_other held names.second)
-    (λ second. with_file (known_other held names.third)
-    (λ third. Ok (record { first = first; second = second; third = third }))))
-
--- the command with the bytes of its files, or the fault of the first file that can't be read
-abbrev pub known_command : (List ℕ → Option (List ℕ)) → NamedCommand → Result ReadCommand FileFault
-known_command held (commands.OnMachine machine sheet task) =
-    with_file (content_of (held machine)) (λ bytes. with_file (content_of (held sheet))
-    (λ more. Ok (commands.OnMachine bytes more task)))
-known_command held (commands.Message machine sheet message task) =
-    with_file (content_of (held machine)) (λ bytes. with_file (content_of (held sheet))
-    (λ more. with_file (content_of (held message)) (λ text. Ok (commands.Message bytes more text task))))
-known_command held (commands.TypingPage machine language) =
-    with_file (content_of (held machine)) (λ bytes. Ok (commands.TypingPage bytes language))
-known_command held (commands.Table sheet form language) =
-    with_file (content_of (held sheet)) (λ bytes. Ok (commands.Table bytes form language))
-known_command held (commands.Sheet table options) =
-    with_file (content_of (held table)) (λ bytes. Ok (commands.Sheet bytes options))
-known_command held (commands.Look names files) =
-    with_file (known_three held files) (λ contents. Ok (commands.Look names contents))
-known_command held (commands.EmptySheet model days) = Ok (commands.EmptySheet model days)
-
--- The two commands differ only in their files: the first command has the names of the files, the second command has
--- their bytes.
-abbrev pub AreAlike : NamedCommand → ReadCommand → Type 0
-AreAlike (commands.OnMachine machine sheet task) (commands.OnMachine bytes more same) = task ≡ same
-AreAlike (commands.Message machine sheet message task) (commands.Message bytes more text same) = task ≡ same
-AreAlike (commands.TypingPage machine language) (commands.TypingPage bytes same) = language ≡ same
-AreAlike (commands.Table sheet form language) (commands.Table bytes same also) = (form ≡ same) × (language ≡ also)
-AreAlike (commands.Sheet table options) (commands.Sheet bytes same) = options ≡ same
-AreAlike (commands.Look names files) (commands.Look same contents) = (names ≡ same) × AreAsMany files contents
-AreAlike (commands.EmptySheet model days) (commands.EmptySheet same many) = (model ≡ same) × (days ≡ many)
-AreAlike _ _ = ⊥
-
--- the names of a command's files, in the order in which they are read
-abbrev pub names_of : NamedCommand → List (List ℕ)
-names_of (commands.OnMachine machine sheet task) = machine ∷ sheet ∷ []
-names_of (commands.Message machine sheet message task) = machine ∷ sheet ∷ message ∷ []
-names_of (commands.TypingPage machine language) = machine ∷ []
-names_of (commands.Table sheet form language) = sheet ∷ []
-names_of (commands.Sheet table options) = table ∷ []
-names_of (commands.Look names files) = list_of_three files
-names_of (commands.EmptySheet model days) = []
-
--- The task writes its output and gives this answer, if the machine file and the key sheet have these bytes. Words are
--- in language `l`, unless the task asks for another language.
-abbrev pub DoesTask : Language → Task → List ℕ → List ℕ → Port → Result (Unit {0}) Refused → Type 0
-DoesTask l (tasks.Page days chosen) machine sheet sink answer = IsAnswerOnSheet machine sheet
-    (λ m month. WritesPages (unwrap_or chosen l) month m (wanted_days days (model_of m) month) sink answer) answer
-DoesTask l (tasks.List day) machine sheet sink answer = IsAnswerOnSheet machine sheet
+-- What a task writes from the bytes of a machine file and of a key sheet, whose file has this name. Its words are in
+-- language `l`, unless the task has another.
+abbrev pub DoesTask : Language → Task → List ℕ → List ℕ → List ℕ → Port → Result (Unit {0}) Refused → Type 0
+DoesTask l (tasks.Page days chosen) name machine sheet sink answer = IsAnswerOnSheet machine sheet
+    (λ m month. WritesPages (unwrap_or chosen l) name month m (wanted_days days (model_of m) month) sink answer) answer
+DoesTask l (tasks.List day) name machine sheet sink answer = IsAnswerOnSheet machine sheet
     (λ m month. WritesList month m day sink answer) answer
 
 -- The output for a message of this kind is written, and `answer` is the command's answer.
@@ -124,18 +66,21 @@ abbrev pub WorksMessage : Language → MessageTask → List ℕ → List ℕ →
 WorksMessage l task machine sheet message sink answer = IsAnswerOnSheet machine sheet
     (λ m month. WritesMessage task.kind (unwrap_or task.language l) month m task.day message sink answer) answer
 
--- The command writes its output and gives this answer. It already has the bytes of its files. Words are in language
--- `l`, unless the command asks for another language.
-abbrev pub DoesCommand : Language → ReadCommand → Port → Result (Unit {0}) Refused → Type 0
-DoesCommand l (commands.OnMachine machine sheet task) sink answer = DoesTask l task machine sheet sink answer
-DoesCommand l (commands.Message machine sheet message task) sink answer =
-    WorksMessage l task machine sheet message sink answer
-DoesCommand l (commands.TypingPage machine chosen) sink answer =
-    IsAnswerOnMachine machine (λ m. WritesTypingPage (unwrap_or chosen l) m sink answer) answer
-DoesCommand l (commands.Table sheet form chosen) sink answer = WritesTables (unwrap_or chosen l) form sheet sink answer
-DoesCommand l (commands.Sheet table options) sink answer = MakesSheet options table sink answer
-DoesCommand l (commands.Look names files) sink answer = Looks (named_texts names files) sink answer
-DoesCommand l (commands.EmptySheet model days) sink answer =
+-- What a command writes from the bytes of its files, in their order. Its words are in language `l`, unless the command
+-- has another.
+abbrev pub DoesCommand : Language → NamedCommand → List (List ℕ) → Port → Result (Unit {0}) Refused → Type 0
+DoesCommand l (commands.OnMachine machine sheet task) texts sink answer =
+    DoesTask l task sheet (text_at texts 0) (text_at texts 1) sink answer
+DoesCommand l (commands.Message machine sheet message task) texts sink answer =
+    WorksMessage l task (text_at texts 0) (text_at texts 1) (text_at texts 2) sink answer
+DoesCommand l (commands.TypingPage machine chosen) texts sink answer =
+    IsAnswerOn (machine_in (text_at texts 0)) (λ m. WritesTypingPage (unwrap_or chosen l) m sink answer) answer
+DoesCommand l (commands.Table sheet form chosen) texts sink answer =
+    WritesTables (unwrap_or chosen l) form (text_at texts 0) sink answer
+DoesCommand l (commands.Sheet table options) texts sink answer = MakesSheet options (text_at texts 0) sink answer
+DoesCommand l (commands.Look files) texts sink answer =
+    Looks (named_texts (list_of_three files) texts) sink answer
+DoesCommand l (commands.EmptySheet model days) texts sink answer =
     WritesText refused_device (empty_month_text model days) sink answer
 
 -- Nothing was written to the port, and the port didn't fail in the meantime.
@@ -150,7 +95,7 @@ pub record IsLeftAlone (p : Port) : Type 0 where
 abbrev pub is_whole : Result (Unit {0}) Stop → Bool
 is_whole (Ok done) = true
 is_whole (Err (stops.Refused refused)) = is_after_all refused.fault
-is_whole (Err _) = false
+is_whole (Err (stops.Usage text)) = false
 
 -- The answer after a flush. If no bytes are left, it is `first`. If the sink didn't take the bytes `left`, it is
 -- `Device`.
@@ -181,29 +126,30 @@ abbrev pub is_usage : Result (Unit {0}) Stop → Bool
 is_usage (Err (stops.Usage text)) = true
 is_usage _ = false
 
--- How a command line is carried out.
--- - `Carried`: the line's command was carried out, with the bytes of its files.
--- - `FileUnread`: a file of the command couldn't be read.
--- - `Shown`: the words ask for help or for the version.
--- - `OtherWords`: the words don't mean a command.
--- - `NoMemory`: memory ran out before a file was asked for.
+-- How a command line is carried out. `Carried`: its command was carried out, with the bytes `texts` of its files.
+-- `FileUnread`: a file of the command couldn't be read, the last that was asked for, and the answer says so of the file at
+-- this place. `Shown`: the words ask for help or for the version. `OtherWords`: the words mean no command.
+-- `NoMemory`: memory ran out before a file was asked for.
 pub data CarriesOut (l : Language) (words : List (List ℕ)) (known : Option (List ℕ → Option (List ℕ))) (asked : List AskedName)
     (sink : Port) (left : List ℕ) (answer : Result (Unit {0}) Stop) : Type 0 where
-  Carried : (command : NamedCommand) → IsCommandLineOf words command → (read : ReadCommand)
-      → AreAlike command read → IfSome known (λ held. AgreesOrNoMemory files.NoMemory (known_command held command) (Ok read))
+  Carried : (command : NamedCommand) → IsCommandLineOf words command → (texts : List (List ℕ))
+      → length texts ≡ length (names_of command)
+      → IfSome known (λ held. AgreesOrNoMemory files.NoMemory (contents_of held (names_of command)) (Ok texts))
       → AreAskedFor (names_of command) [] asked true
-      → IsTold (DoesCommand l read sink) left answer
+      → IsTold (DoesCommand l command texts sink) left answer
       → CarriesOut l words known asked sink left answer
-  FileUnread : (command : NamedCommand) → IsCommandLineOf words command → (fault : FileFault)
-      → IfSome known (λ held. AgreesOrNoMemory files.NoMemory (known_command held command) (Err fault))
-      → AreAskedFor (names_of command) [] asked false → answer ≡ Err (stops.Unread fault)
+  FileUnread : (command : NamedCommand) → IsCommandLineOf words command → (fault : FileFault) (place : ℕ)
+      (why : WhyUnread)
+      → IfSome known (λ held. AgreesOrNoMemory files.NoMemory (contents_of held (names_of command)) (Err fault))
+      → AreAskedFor (names_of command) [] asked false → length asked ≡ place + 1
+      → answer ≡ Err (stops.Refused (refused_unread place fault why))
       → CarriesOut l words known asked sink left answer
   Shown : (text : List ℕ) (kind : ErrorKind) → IsAmong kind (fault_of curator_grammar words) → IsTrue (is_help kind)
       → asked ≡ [] → IsTold (WritesText refused_device text sink) left answer
       → CarriesOut l words known asked sink left answer
   OtherWords : IsNoCommandLine words → ¬ (AsksForHelp words) → asked ≡ [] → IsTrue (is_usage answer)
       → CarriesOut l words known asked sink left answer
-  NoMemory : asked ≡ [] → answer ≡ Err (stops.Unread files.NoMemory) → CarriesOut l words known asked sink left answer
+  NoMemory : asked ≡ [] → answer ≡ Err memory_stop → CarriesOut l words known asked sink left answer
 
 -- whether the program stopped because a write to standard output failed
 abbrev pub is_stopped_by_device : Result (Unit {0}) Stop → Bool
@@ -258,48 +204,40 @@ at_first errors told failed = record errors { has = told; has_failed = failed }
 abbrev pub at_last : Port → Option (List ℕ) → Bool → Port
 at_last errors told failed = record errors { had = told; had_failed = failed }
 
--- `IsSo` holds of the program's answer, and the program ends with the text and the exit status for this answer. The
--- sink didn't take the gathered bytes `left`. When the answer was known, standard error had taken the bytes `told`, and
--- `failed` says whether it had failed.
-pub record HasEnded (IsSo : Port → List ℕ → Result (Unit {0}) Stop → Type 0) (errors : Port) (status : ℕ)
-    : Type 0 where
+-- The files of the command that the words mean have these names; or the answer says nothing of a file.
+abbrev pub AreNamesFor : List (List ℕ) → List (List ℕ) → Result (Unit {0}) Stop → Type 0
+AreNamesFor words names answer =
+    ((command : NamedCommand) × IsCommandLineOf words command × (names ≡ names_of command)) ⊎ (blame_of answer ≡ None)
+
+-- The program's answer satisfies `IsSo`, and the program ended with the text and the exit status for this answer.
+-- `left` are the gathered bytes that the sink didn't take. `told` and `failed` are what standard error had taken when
+-- the answer was known, and whether it had failed. `names` are those of the command's files.
+pub record HasEnded (words : List (List ℕ)) (IsSo : Port → List ℕ → Result (Unit {0}) Stop → Type 0) (errors : Port)
+    (status : ℕ) : Type 0 where
   pub left : List ℕ
   pub answer : Result (Unit {0}) Stop
   pub told : Option (List ℕ)
   pub failed : Bool
+  pub names : List (List ℕ)
   pub is_so : IsSo (at_first errors told failed) left answer
-  pub ends : EndsAs answer (at_last errors told failed) status
+  pub named : AreNamesFor words names answer
+  pub ends : EndsAs names answer (at_last errors told failed) status
 
--- ---- What inner functions read and require. No public contract cites these definitions.
+-- ---- What inner functions require and tell. No public contract cites these definitions.
 
--- A command with the bytes of its files, or the reason why a file can't be read. In the command, plain texts stand in
--- place of borrowed texts.
-abbrev pub read_with_texts : Result (Command (List ℕ) (Bor (List ℕ))) FileFault → Result ReadCommand FileFault
-read_with_texts read = result_map_both with_texts (λ fault. fault) read
-
--- If the command writes a sheet to fill in, the sheet has at most 31 days.
-abbrev pub HasMonth : ReadCommand → Type 0
+-- A sheet to fill in has at most 31 days.
+abbrev pub HasMonth : NamedCommand → Type 0
 HasMonth (commands.EmptySheet model days) = days ≤ 31
-HasMonth (commands.OnMachine machine sheet task) = Unit {0}
-HasMonth (commands.Message machine sheet message task) = Unit {0}
-HasMonth (commands.TypingPage machine language) = Unit {0}
-HasMonth (commands.Table sheet form language) = Unit {0}
-HasMonth (commands.Sheet table options) = Unit {0}
-HasMonth (commands.Look names files) = Unit {0}
+HasMonth _ = Unit {0}
 
 -- For a form, any notes may have been written to standard error. For an order, nothing was written to it.
 abbrev pub TellsOfMessage : MessageKind → Port → Type 0
 TellsOfMessage kinds.Order errors = IsLeftAlone errors
 TellsOfMessage kinds.Form errors = Tells errors
 
--- What was written to standard error before a refusal's text. The command `sheet` may have written notes on a table's
--- unread columns and faults. The command `receive` may have written notes on a form. Any other command has written
--- nothing.
-abbrev pub HasTold : ReadCommand → Port → Type 0
+-- What a command tells on standard error, beside the reason of a refusal: `sheet` tells the columns that it doesn't read,
+-- and a table's faults; `receive` tells what is wrong with a form. Other commands tell nothing.
+abbrev pub HasTold : NamedCommand → Port → Type 0
 HasTold (commands.Sheet table options) errors = Tells errors
-HasTold (commands.OnMachine machine sheet task) errors = IsLeftAlone errors
 HasTold (commands.Message machine sheet message task) errors = TellsOfMessage task.kind errors
-HasTold (commands.TypingPage machine language) errors = IsLeftAlone errors
-HasTold (commands.Table sheet form language) errors = IsLeftAlone errors
-HasTold (commands.Look names files) errors = IsLeftAlone errors
-HasTold (commands.EmptySheet model days) errors = IsLeftAlone errors
+HasTold _ errors = IsLeftAlone errors

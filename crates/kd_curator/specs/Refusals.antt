@@ -1,6 +1,6 @@
 -- The reasons why a command is refused, and the texts of refusals.
 -- Test: tests/cases/curator-pages.toml
-use Rattle.std.specs.Prelude.{codes, ℕ, Bool, true, false, List, Some, None, Result, Ok, Err, if◌then◌else◌}
+use Rattle.std.specs.Prelude.{codes, ℕ, Bool, true, false, List, Option, Some, None, Result, Ok, Err, if◌then◌else◌}
 use Rattle.kd_tables.specs.declared.refusal.Refusal.TheVariants as refusals
 use Rattle.kd_tables.specs.Refusals.{refusal_name}
 use Rattle.kd_booklet.specs.declared.fault.DayFault.{DayFault}
@@ -9,21 +9,29 @@ use Rattle.kd_booklet.specs.declared.fault.NoPlan.TheVariants as plans
 use Rattle.kd_sheet.specs.FaultText.{sheet_fault_text}
 use Rattle.kd_sheet.specs.declared.fault.SheetFault.TheVariants.{NoMemory}
 use Rattle.kd_form.specs.FaultText.{form_fault_text}
+use Rattle.kd_form.specs.declared.fault.FormFault.{FormFault}
+use Rattle.kd_form.specs.declared.fault.FormFault.TheVariants as forms
+use Rattle.kd_host.specs.FileFault.{file_fault_text}
+use Rattle.kd_host.specs.declared.file_fault.FileFault.{FileFault}
+use Rattle.kd_new_file.specs.declared.why_unread.WhyUnread.{WhyUnread}
 use Rattle.kd_message.specs.declared.receiving.ReceivePageFault.{ReceivePageFault}
 use Rattle.kd_message.specs.declared.receiving.ReceivePageFault.TheVariants as receives
 use Rattle.kd_message.specs.declared.sending.SendPageFault.{SendPageFault}
 use Rattle.kd_message.specs.declared.sending.SendPageFault.TheVariants as sends
 use Rattle.kd_table.specs.declared.fault.SpreadsheetFault.{SpreadsheetFault}
 use Rattle.kd_table.specs.declared.fault.SpreadsheetFault.TheVariants as spreadsheets
+use Rattle.kd_curator.specs.Blame.{blame_on, unread_blame}
+use Rattle.kd_curator.specs.declared.blame.Blame.{Blame}
+use Rattle.kd_curator.specs.declared.blame.Remark.{Remark}
+use Rattle.kd_curator.specs.declared.blame.Remark.TheVariants.{MachineFile, Named, Order}
 use Rattle.kd_curator.specs.declared.fault.PageFault.{PageFault}
 use Rattle.kd_curator.specs.declared.fault.PageFault.TheVariants as faults
 use Rattle.kd_curator.specs.declared.fault.Refused.{Refused}
 use Rattle.kd_look.specs.declared.looking.LookFault.{LookFault}
 use Rattle.kd_look.specs.declared.looking.LookFault.TheVariants as looks
-use Rattle.kd_key_table.specs.declared.fault.TableFault.{TableFault}
-use Rattle.kd_key_table.specs.declared.fault.TableFault.TheVariants as tables
 
 abbrev pub page_fault_text : PageFault → List ℕ
+page_fault_text (faults.Unread fault) = file_fault_text fault
 page_fault_text (faults.File fault) = sheet_fault_text fault
 page_fault_text faults.NoSuchDay = refusal_name refusals.NoSuchDay
 page_fault_text faults.OtherModel = refusal_name refusals.OtherModel
@@ -34,9 +42,28 @@ page_fault_text faults.TooManyParts = codes "because the form has more than 255 
 page_fault_text faults.NotWhole = codes "in part: the form isn't read as one whole message of the day"
 page_fault_text faults.Device = refusal_name refusals.Device
 
--- a refusal that names no day
+-- a refusal that is of no day, or of the only one, and says nothing of a file
 abbrev pub refused_whole : PageFault → Refused
-refused_whole fault = record { day = None; fault = fault }
+refused_whole fault = record { day = None; blame = None; fault = fault }
+
+-- a refusal for a fault of the file at this place among the command's files
+abbrev pub refused_in : ℕ → Remark → PageFault → Refused
+refused_in place remark fault = record { day = None; blame = blame_on place remark; fault = fault }
+
+-- the refusal for the file at this place that couldn't be read, given what the folders tell
+abbrev pub refused_unread : ℕ → FileFault → WhyUnread → Refused
+refused_unread place fault why = record { day = None; blame = unread_blame place fault why; fault = faults.Unread fault }
+
+-- the file that has a fault of a message: the machine file, a command's first file, or the order, its third
+abbrev pub message_blame : FormFault → Option Blame
+message_blame forms.NoMemory = None
+message_blame forms.NotReady = blame_on 0 MachineFile
+message_blame forms.NotOnKey = blame_on 0 MachineFile
+message_blame _ = blame_on 2 Order
+
+-- the refusal for a fault of an order, or of the machine on which a message is worked
+abbrev pub refused_message : FormFault → Refused
+refused_message fault = record { day = None; blame = message_blame fault; fault = faults.Message fault }
 
 -- the fault that a refusal names if a day can't be planned, for the reason why it can't
 abbrev pub fault_of_plan : NoPlan → PageFault
@@ -47,6 +74,7 @@ fault_of_plan plans.OtherModel = faults.OtherModel
 abbrev pub day_refusal : Bool → DayFault → Refused
 day_refusal several fault = record {
   day = if several then Some fault.day else None;
+  blame = None;
   fault = fault_of_plan fault.why;
 }
 
@@ -75,25 +103,20 @@ abbrev pub is_device : Result (Unit {0}) Refused → Bool
 is_device (Ok done) = false
 is_device (Err refused) = is_device_fault refused.fault
 
--- the refusal of the command `table` that names this fault
-abbrev pub refused_table : TableFault → Refused
-refused_table (tables.Sheet fault) = refused_whole (faults.File fault)
-refused_table tables.Device = refused_device
-
--- the refusal of the command `send` that names this fault
+-- why no page for sending is written, as a refusal
 abbrev pub refused_send : SendPageFault → Refused
-refused_send (sends.Order fault) = refused_whole (faults.Message fault)
+refused_send (sends.Order fault) = refused_message fault
 refused_send sends.Device = refused_device
 
 -- the refusal of the command `receive` that names this fault
 abbrev pub refused_receive : ReceivePageFault → Refused
 refused_receive receives.NoMemory = refused_whole (faults.File NoMemory)
-refused_receive receives.TooManyParts = refused_whole faults.TooManyParts
+refused_receive receives.TooManyParts = refused_in 2 Named faults.TooManyParts
 refused_receive receives.Device = refused_device
 
 -- the refusal of the command `sheet` that names this fault
 abbrev pub refused_spreadsheet : SpreadsheetFault → Refused
-refused_spreadsheet spreadsheets.Refused = refused_whole faults.FaultyTable
+refused_spreadsheet spreadsheets.Refused = refused_in 0 Named faults.FaultyTable
 refused_spreadsheet spreadsheets.Device = refused_device
 refused_spreadsheet spreadsheets.NoMemory = refused_whole (faults.File NoMemory)
 

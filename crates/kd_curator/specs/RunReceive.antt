@@ -14,8 +14,8 @@ use Rattle.kd_lost.specs.declared.part.DamagedPart.{DamagedPart}
 use Rattle.kd_pictures.specs.declared.language.Language.{Language}
 use Rattle.kd_message.specs.ReceivePage.{page_fault, receive_notes, receive_text}
 use Rattle.kd_lost.specs.ShownParts.{IsWhole}
-use Rattle.kd_curator.specs.Refusals.{has_written, refused_device, refused_receive, refused_whole}
-use Rattle.kd_curator.specs.declared.fault.PageFault.TheVariants.{NotWhole, Message, NoSuchDay}
+use Rattle.kd_curator.specs.Refusals.{has_written, refused_device, refused_message, refused_receive, refused_whole}
+use Rattle.kd_curator.specs.declared.fault.PageFault.TheVariants.{NotWhole, NoSuchDay}
 use Rattle.kd_curator.specs.declared.fault.Refused.{Refused}
 
 -- The machine is ready, and is on the day's key. `parts` are the parts of the form, as they are read.
@@ -41,7 +41,7 @@ pub data WritesReceivePage (l : Language) (month : List (Option Day)) (m : Parts
   NoDay : day_of month number ≡ None → answer ≡ Err (refused_whole NoSuchDay)
       → WritesReceivePage l month m number form sink answer
   OffKey : (s : Day) → day_of month number ≡ Some s → (fault : FormFault) → IsKeyFault m s fault
-      → answer ≡ Err (refused_whole (Message fault)) → WritesReceivePage l month m number form sink answer
+      → answer ≡ Err (refused_message fault) → WritesReceivePage l month m number form sink answer
   NotRead : (s : Day) → day_of month number ≡ Some s → IsReadyOnKey m s → (fault : DamagedFormFault)
       → IsFormFault (damaged_parts_of form) fault → answer ≡ Err (refused_receive (page_fault fault))
       → WritesReceivePage l month m number form sink answer

@@ -10,8 +10,8 @@ use Rattle.kd_form.specs.Sending.{IsFormOf}
 use Rattle.kd_form.specs.declared.fault.FormFault.{FormFault}
 use Rattle.kd_pictures.specs.declared.language.Language.{Language}
 use Rattle.kd_message.specs.SendPage.{IsSendPage, IsSendRefusal}
-use Rattle.kd_curator.specs.Refusals.{refused_device, refused_whole}
-use Rattle.kd_curator.specs.declared.fault.PageFault.TheVariants.{Message, NoSuchDay}
+use Rattle.kd_curator.specs.Refusals.{refused_device, refused_message, refused_whole}
+use Rattle.kd_curator.specs.declared.fault.PageFault.TheVariants.{NoSuchDay}
 use Rattle.kd_curator.specs.declared.fault.Refused.{Refused}
 
 -- The cases of `run_send`, for the day `number`:
@@ -23,7 +23,7 @@ pub data WritesSendPage (l : Language) (month : List (Option Day)) (m : Parts) (
   NoDay : day_of month number ≡ None → answer ≡ Err (refused_whole NoSuchDay)
       → WritesSendPage l month m number order sink answer
   NoPage : (s : Day) → day_of month number ≡ Some s → (fault : FormFault) → IsSendRefusal m s order fault
-      → answer ≡ Err (refused_whole (Message fault)) → WritesSendPage l month m number order sink answer
+      → answer ≡ Err (refused_message fault) → WritesSendPage l month m number order sink answer
   Page : (s : Day) → day_of month number ≡ Some s → (form page : List ℕ)
       → IsReadyOnKey m s → IsFormOf s order form → IsSendPage l s order form page
       → WritesText refused_device page sink answer → WritesSendPage l month m number order sink answer

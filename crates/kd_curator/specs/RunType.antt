@@ -9,8 +9,7 @@ use Rattle.kd_host.specs.Writing.{WritesText}
 use Rattle.kd_pictures.specs.declared.language.Language.{Language}
 use Rattle.kd_typing.specs.MachineTable.{TypesAsMachine}
 use Rattle.kd_typing_page.specs.TypingPage.{typing_page}
-use Rattle.kd_curator.specs.Refusals.{refused_device, refused_whole}
-use Rattle.kd_curator.specs.declared.fault.PageFault.TheVariants.{Message}
+use Rattle.kd_curator.specs.Refusals.{refused_device, refused_message}
 use Rattle.kd_curator.specs.declared.fault.Refused.{Refused}
 
 -- The cases of `run_type`:
@@ -18,7 +17,7 @@ use Rattle.kd_curator.specs.declared.fault.Refused.{Refused}
 -- - `Page`: the machine's page was written. If the sink failed, only a prefix of the page was written. Typing on the
 --   page's table gives the machine's ciphertext.
 pub data WritesTypingPage (l : Language) (m : Parts) (sink : Port) (answer : Result (Unit {0}) Refused) : Type 0 where
-  NoPage : ¬ (IsReady m) → answer ≡ Err (refused_whole (Message NotReady)) → WritesTypingPage l m sink answer
+  NoPage : ¬ (IsReady m) → answer ≡ Err (refused_message NotReady) → WritesTypingPage l m sink answer
   Page : IsReady m → TypesAsMachine m → WritesText refused_device (typing_page l m) sink answer
       → WritesTypingPage l m sink answer
 

@@ -10,7 +10,8 @@ use Rattle.kd_sheet.specs.SheetText.{sheet_text}
 use Rattle.kd_table.specs.Options.{OptionTexts}
 use Rattle.kd_table.specs.Table.{IsRefusedTable, TableMeans}
 use Rattle.kd_curator.specs.MachineAndSheet.{LacksMemory}
-use Rattle.kd_curator.specs.Refusals.{refused_device, refused_whole}
+use Rattle.kd_curator.specs.Refusals.{refused_device, refused_in}
+use Rattle.kd_curator.specs.declared.blame.Remark.TheVariants.{Named}
 use Rattle.kd_curator.specs.declared.fault.PageFault.TheVariants.{FaultyTable}
 use Rattle.kd_curator.specs.declared.fault.Refused.{Refused}
 
@@ -24,6 +25,6 @@ pub data MakesSheet (options : OptionTexts) (table : List ℕ) (sink : Port) (an
   Sheet : (days : List Day) → TableMeans options table days
       → OnOk answer (sheet_of (sheet_text days) ≡ Ok (month_of days))
       → WritesText refused_device (sheet_text days) sink answer → MakesSheet options table sink answer
-  Faulty : IsRefusedTable options table → answer ≡ Err (refused_whole FaultyTable)
+  Faulty : IsRefusedTable options table → answer ≡ Err (refused_in 0 Named FaultyTable)
       → MakesSheet options table sink answer
   NoMemory : LacksMemory answer → MakesSheet options table sink answer

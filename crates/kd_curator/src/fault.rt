@@ -1,10 +1,11 @@
 //! `Refused`: why a command is refused.
 ghost use Rattle.std.specs.Prelude.{◌≡◌, ◌≤◌, length};
-ghost use Rattle.kd_curator.specs.Refusals.{day_refusal, page_fault_text};
+ghost use Rattle.kd_curator.specs.Refusals.{day_refusal, message_blame, page_fault_text, refused_in, refused_message};
 
+use crate::blame::{Blame, Remark};
 use kd_booklet::{DayFault, NoPlan};
 use kd_form::FormFault;
-use kd_key_table::TableFault;
+use kd_host::FileFault;
 use kd_look::LookFault;
 use kd_message::{ReceivePageFault, SendPageFault};
 use kd_sheet::SheetFault;
@@ -14,6 +15,8 @@ use kd_tables::{Device, Refusal, Text};
 /// Why a command is refused. A part of the command's output may be written nevertheless.
 #[derive(Clone, Copy, Debug, PartialEq, Eq)]
 pub enum PageFault {
+    /// A file can't be opened or read, or memory ran out.
+    Unread(FileFault),
     /// The machine file or the key sheet has this fault, or memory ran out.
     File(SheetFault),
     /// The sheet doesn't have the day.
@@ -44,6 +47,7 @@ impl PageFault {
         ensures { result.bytes ≡ page_fault_text self.now }
     {
         match self {
+            PageFault::Unread(fault) => fault.text(),
             PageFault::File(fault) => fault.text(),
             PageFault::NoSuchDay => Refusal::NoSuchDay.text(),
             PageFault::OtherModel => Refusal::OtherModel.text(),
@@ -74,6 +78,8 @@ fn worded_text(words: &str) -> Text
 pub struct Refused {
     /// The day that has the fault, if several days were asked for.
     pub day: Option<u8>,
+    /// The file that the refusal is about, if it is about one.
+    pub blame: Option<Blame>,
     pub fault: PageFault,
 }
 
@@ -84,8 +90,48 @@ impl Refused {
     {
         Refused {
             day: several.then_some(fault.day),
+            blame: None,
             fault: PageFault::from(fault.why),
         }
+    }
+
+    /// The refusal for a fault of the file at this place among the command's files.
+    pub(crate) fn of_file(fault: PageFault, place: usize, remark: Remark) -> Refused
+        ensures { result ≡ refused_in place remark fault }
+    {
+        Refused {
+            day: None,
+            blame: Some(Blame { place, remark }),
+            fault,
+        }
+    }
+
+    /// The refusal for a fault of an order, or of the machine on which a message is worked.
+    pub(crate) fn of_message(fault: FormFault) -> Refused
+        ensures { result ≡ refused_message fault }
+    {
+        Refused {
+            day: None,
+            blame: message_blame(fault),
+            fault: PageFault::Message(fault),
+        }
+    }
+}
+
+/// The file that has this fault: the machine file or the order, a command's first file or its third.
+fn message_blame(fault: FormFault) -> Option<Blame>
+    ensures { result ≡ message_blame fault }
+{
+    match fault {
+        FormFault::NoMemory => None,
+        FormFault::NotReady | FormFault::NotOnKey => Some(Blame {
+            place: 0,
+            remark: Remark::MachineFile,
+        }),
+        _ => Some(Blame {
+            place: 2,
+            remark: Remark::Order,
+        }),
     }
 }
 
@@ -121,7 +167,11 @@ impl From<PageFault> for Refused {
     ghost from_gives = { λ fault refused. refused ≡ refused_whole fault };
 
     fn from(fault: PageFault) -> Refused {
-        Refused { day: None, fault }
+        Refused {
+            day: None,
+            blame: None,
+            fault,
+        }
     }
 }
 
@@ -149,20 +199,6 @@ impl From<Device> for Refused {
     }
 }
 
-impl From<TableFault> for Refused {
-    ghost use Rattle.std.specs.Prelude.{◌≡◌};
-    ghost use Rattle.kd_curator.specs.Refusals.{refused_table};
-
-    ghost from_gives = { λ fault refused. refused ≡ refused_table fault };
-
-    fn from(fault: TableFault) -> Refused {
-        match fault {
-            TableFault::Sheet(fault) => Refused::from(fault),
-            TableFault::Device => Refused::from(PageFault::Device),
-        }
-    }
-}
-
 impl From<SpreadsheetFault> for Refused {
     ghost use Rattle.std.specs.Prelude.{◌≡◌};
     ghost use Rattle.kd_curator.specs.Refusals.{refused_spreadsheet};
@@ -171,7 +207,7 @@ impl From<SpreadsheetFault> for Refused {
 
     fn from(fault: SpreadsheetFault) -> Refused {
         match fault {
-            SpreadsheetFault::Refused => Refused::from(PageFault::FaultyTable),
+            SpreadsheetFault::Refused => Refused::of_file(PageFault::FaultyTable, 0, Remark::Named),
             SpreadsheetFault::Device => Refused::from(PageFault::Device),
             SpreadsheetFault::NoMemory => Refused::from(SheetFault::NoMemory),
         }
@@ -200,7 +236,7 @@ impl From<SendPageFault> for Refused {
 
     fn from(fault: SendPageFault) -> Refused {
         match fault {
-            SendPageFault::Order(fault) => Refused::from(PageFault::Message(fault)),
+            SendPageFault::Order(fault) => Refused::of_message(fault),
             SendPageFault::Device => Refused::from(PageFault::Device),
         }
     }
@@ -215,7 +251,9 @@ impl From<ReceivePageFault> for Refused {
     fn from(fault: ReceivePageFault) -> Refused {
         match fault {
             ReceivePageFault::NoMemory => Refused::from(SheetFault::NoMemory),
-            ReceivePageFault::TooManyParts => Refused::from(PageFault::TooManyParts),
+            ReceivePageFault::TooManyParts => {
+                Refused::of_file(PageFault::TooManyParts, 2, Remark::Named)
+            }
             ReceivePageFault::Device => Refused::from(PageFault::Device),
         }
     }

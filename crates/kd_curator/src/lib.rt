@@ -3,8 +3,11 @@
 //! `run_curator` is the whole program, from its command line to its output.
 #![tactic(auto)]
 
+mod blame;
 mod buffered_sink;
+mod error_line;
 mod fault;
+mod files;
 mod looks;
 mod machine_and_sheet;
 mod output_file;
@@ -18,6 +21,7 @@ mod sheets;
 mod stop;
 mod tables;
 
+pub use blame::{Blame, Remark};
 pub use fault::{PageFault, Refused};
 pub use kd_curator_command::{
     Command, CommandLine, Days, MessageKind, MessageTask, NamedCommand, NoCommand, Task, UpToThree,

@@ -1,72 +1,67 @@
-//! The command `look`: describes files in words, or names their faults.
-ghost use Rattle.std.specs.Prelude.{◌≡◌, ◌∷◌, ◌++◌, ◌||◌, false, option_map, Err, IsErr};
+//! The command `look`: says in words what files say, or what is wrong with them.
+ghost use Rattle.std.specs.Prelude.{◌≡◌, ◌++◌, ◌||◌, false, map, Err, IsErr, OnOk};
 ghost use Rattle.kd_tables.specs.Ports.{port};
 ghost use Rattle.kd_look.specs.Look.{IsLookAnswer, is_device as is_look_device, named_text};
-ghost use Rattle.kd_curator.specs.Looks.{Looks, look_answer, named_texts, other_text};
+ghost use Rattle.kd_curator.specs.Files.{unborrowed_names};
+ghost use Rattle.kd_curator.specs.Looks.{Looks, look_answer, named_texts};
 ghost use Rattle.kd_curator.specs.Refusals.{has_written, is_device};
-ghost use Rattle.kd_curator_command.specs.UpToThree.{list_of_option, unborrowed_three};
 
 use crate::fault::{PageFault, Refused};
-use kd_curator_command::UpToThree;
-use kd_host::Content;
+use crate::files::FileBytes;
 use kd_look::{LookFault, NamedFile, Outcome, look_at};
 use kd_tables::Sink;
-use std::alloc::Global;
+use std::alloc::{AllocError, Global};
 
-/// Describes files in words, or names their faults.
+/// Writes what the files say that have these names and contents, or what is wrong with them.
 pub(crate) fn look_at_files<W: Sink>(
     alloc: Global,
-    names: &UpToThree<&str>,
-    files: &UpToThree<Content>,
+    names: &[&str],
+    contents: &[FileBytes],
     sink: &mut W,
 ) -> Result<(), Refused>
-    ensures looks { Looks (named_texts (unborrowed_three names.now) files.now)
+    ensures looks { Looks (named_texts (unborrowed_names names.now) contents.now)
         (port W.taken W.has_failed sink.old sink.new) result }
     ensures untouched { IsErr result → has_written result ≡ false → sink.new ≡ sink.old }
     ensures failed { W.has_failed sink.new ≡ (W.has_failed sink.old || is_device result) }
 {
-    let first = NamedFile {
-        name: names.first,
-        bytes: files.first.as_slice(),
-    };
-    let second = named(names.second, &files.second);
-    let third = named(names.third, &files.third);
-    answer_of(look_at_all(alloc, first, second, third, sink))
+    answer_of(look_at_all(alloc, names, contents, sink))
 }
 
-/// The file, with its name. `None` if there is no file.
-fn named<'a>(name: Option<&'a str>, file: &'a Option<Content>) -> Option<NamedFile<'a>>
-    ensures { list_of_option (option_map named_text result)
-        ≡ other_text (option_map (λ text. text.now) name.entry) file.entry.now }
-{
-    let content = file.as_ref()?;
-    Some(NamedFile {
-        name: name?,
-        bytes: content.as_slice(),
-    })
-}
-
-/// Describes one, two or three files in words, or names their faults.
+/// Writes what the files say that have these names and contents, or what is wrong with them.
 fn look_at_all<W: Sink>(
     alloc: Global,
-    first: NamedFile<'_>,
-    second: Option<NamedFile<'_>>,
-    third: Option<NamedFile<'_>>,
+    names: &[&str],
+    contents: &[FileBytes],
     sink: &mut W,
 ) -> Result<Outcome, LookFault>
-    ensures looks { IsLookAnswer (named_text first.entry
-        ∷ (list_of_option (option_map named_text second.entry)
-        ++ list_of_option (option_map named_text third.entry)))
+    ensures looks { IsLookAnswer (named_texts (unborrowed_names names.now) contents.now)
         (port W.taken W.has_failed sink.old sink.new) result }
     ensures untouched { result ≡ Err LookFault.NoMemory → sink.new ≡ sink.old }
     ensures failed { W.has_failed sink.new ≡ (W.has_failed sink.old || is_look_device result) }
 {
-    match (second, third) {
-        (None, None) => look_at(alloc, &[first], sink),
-        (Some(second), None) => look_at(alloc, &[first, second], sink),
-        (None, Some(third)) => look_at(alloc, &[first, third], sink),
-        (Some(second), Some(third)) => look_at(alloc, &[first, second, third], sink),
-    }
+    let mut files = Vec::new(alloc);
+    push_files(&mut files, names, contents)?;
+    look_at(alloc, files.as_slice(), sink)
+}
+
+/// Appends the files that have these names and contents.
+fn push_files<'f>(
+    files: &mut Vec<NamedFile<'f>>,
+    names: &[&'f str],
+    contents: &'f [FileBytes],
+) -> Result<(), AllocError>
+    ensures { OnOk result (map named_text files.new.items
+        ≡ map named_text files.old.items ++ named_texts (unborrowed_names names.now) contents.now) }
+{
+    let Some((name, names)) = names.split_first() else {
+        return Ok(());
+    };
+    let Some((content, contents)) = contents.split_first() else {
+        return Ok(());
+    };
+    let bytes = content.as_slice();
+    files.push(NamedFile { name: *name, bytes })?;
+    push_files(files, names, contents)
 }
 
 /// The answer of the command `look`, if `look_at` returned `told`.

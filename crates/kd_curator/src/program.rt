@@ -1,28 +1,26 @@
-//! The program: reads the command line and the files, and carries out the command.
-ghost use Rattle.std.specs.Prelude.{◌≡◌, ◌||◌, ◌+◌, ◌<◌, ◌≤◌, [], ℕ, List, false, true, length, map, IfOk, IfSome, IsErr, IsTrue, is_ok};
-ghost use Rattle.std.specs.Prelude.{Option, Some, is_some, option_map};
+//! The program: reads the command line and the files, and carries the command out.
+ghost use Rattle.std.specs.Prelude.{◌≡◌, ◌||◌, [], ℕ, List, false, true, length, map, IsErr, IsTrue};
+ghost use Rattle.std.specs.Prelude.{Option, None, Some};
 ghost use Rattle.std.specs.Io.KnownBytes.{Keeps, append_known};
-ghost use Rattle.kd_tables.specs.Answers.{AgreesOrNoMemory};
 ghost use Rattle.kd_tables.specs.Ports.{port};
-ghost use Rattle.kd_host.specs.Files.{AreAskedFor};
 ghost use Rattle.kd_host.specs.Writing.{WritesText};
-ghost use Rattle.kd_curator_command.specs.CommandLine.{HasNoCommand, IsCommandLineOf, unborrowed_command, with_texts};
+ghost use Rattle.kd_curator_command.specs.CommandLine.{HasNoCommand, IsCommandLineOf, unborrowed_command};
 ghost use Rattle.kd_pictures.specs.declared.language.Language.{Language};
 ghost use Rattle.kd_new_file.specs.NewFiles.{AddsFile, FilesByName};
 ghost use Rattle.kd_curator.specs.OutputFile.{EndsFile, EndsWithFile, GoesToSink, IsMeantBySome, RunsTo};
-ghost use Rattle.kd_table.specs.Options.{texts_of};
-ghost use Rattle.kd_curator.specs.Ending.{stop_after};
-ghost use Rattle.kd_curator_command.specs.declared.command.Command.TheVariants.{Look, Message, OnMachine, Sheet, Table, TypingPage};
-ghost use Rattle.kd_curator.specs.Program.{AreAlike, CarriesOut, DoesCommand, DoesTask, IsRun};
-ghost use Rattle.kd_curator.specs.Program.{port_with_untaken, known_command};
-ghost use Rattle.kd_curator.specs.Program.{HasMonth, HasNotes, HasTold, names_of, read_with_texts};
+ghost use Rattle.kd_curator.specs.Ending.{blame_of};
+ghost use Rattle.kd_curator.specs.Files.{names_of};
+ghost use Rattle.kd_curator.specs.Program.{CarriesOut, DoesCommand, DoesTask, IsRun, port_with_untaken};
+ghost use Rattle.kd_curator.specs.Program.{HasMonth, HasNotes, HasTold};
 ghost use Rattle.kd_curator.specs.Program.{IsAnswerAfterFlush, is_stopped_before_writing, is_stopped_by_device};
-ghost use Rattle.kd_curator.specs.Program.{TellsOfMessage, WorksMessage, is_whole, known_other};
-ghost use Rattle.kd_curator.specs.Refusals.{has_written, is_device, refused_device};
-ghost use Rattle.kd_curator_command.specs.UpToThree.{list_of_option, list_of_three, unborrowed_three};
+ghost use Rattle.kd_curator.specs.Program.{TellsOfMessage, WorksMessage, is_whole};
+ghost use Rattle.kd_curator.specs.Refusals.{has_written, is_device, refused_device, refused_unread};
+ghost use Rattle.kd_new_file.specs.declared.why_unread.WhyUnread.{WhyUnread};
 
+use crate::blame::Remark;
 use crate::buffered_sink::BufferedSink;
 use crate::fault::{PageFault, Refused};
+use crate::files::{Contents, FileBytes, listed, name_at, names_of, read_contents, text_at};
 use crate::looks::look_at_files;
 use crate::output_file::end_unwritten;
 use crate::run_list::run_list;
@@ -32,16 +30,13 @@ use crate::run_send::run_send;
 use crate::run_type::run_type;
 use crate::sheets::{make_sheet, write_empty_sheet};
 use crate::stop::{Stop, end_program};
-use crate::tables::write_tables;
+use crate::tables::run_table;
 use kd_curator_command::{
-    Command, CommandLine, MessageKind, MessageTask, NamedCommand, NoCommand, Task, UpToThree,
-    parse_words,
+    Command, CommandLine, MessageKind, MessageTask, NamedCommand, NoCommand, Task, parse_words,
 };
-use kd_host::{Content, FileFault, Files};
-use kd_key_table::TableForm;
+use kd_host::{FileFault, Files};
 use kd_new_file::{NewFileFault, NewFiles, begin, publish};
 use kd_page::Language;
-use kd_table::TableOptions;
 use kd_tables::{Failed, Sink, put_all};
 use std::alloc::Global;
 use std::convert::AsStr;
@@ -49,11 +44,11 @@ use std::convert::AsStr;
 /// Carries out the command line `words`, which begins with the program's own name. Pages and tables are in `language`,
 /// unless the words ask for another language.
 ///
-/// Returns the exit status and the sink. The status is 0 for success, 2 if the words don't mean a command, and 1 for a
-/// refusal. With status 1 or 2, a text that says why is written to `errors`. Notes may stand before this text: the
-/// command `sheet` writes notes on a table's faults and unread columns, and the command `receive` on what is wrong with
-/// a form. Each file is read once, in the order of the command line. If a file can't be read, no later file is asked
-/// for, and nothing is written to `sink`.
+/// Returns the exit status and the sink. The status is 0 for success, 2 for other words than a command's, and 1 for a
+/// refusal. With status 1 or 2, a text that says why is written to `errors`; if it is about a file, it ends with the
+/// file's name, as the words have it. The command `sheet` tells there a table's faults, and the columns that it doesn't
+/// read, too, and `receive` what is wrong with a form. Each file is read once, in the order of the command line. If a file
+/// can't be read, `new_files` are asked why, no later file is asked for, and nothing is written to `sink`.
 ///
 /// If the words name an output file, nothing is written to `sink`. The output goes to a new file in `new_files`. The
 /// new file gets the output file's name exactly if the whole output was written.
@@ -79,14 +74,17 @@ pub fn run_curator<'n, S: AsStr, F: Files<'n>, N: NewFiles, W: Sink + Drop, E: S
                 (status, sink)
             }
             None => {
-                let (answer, sink) = run_gathering(alloc, language, command, files, sink, errors);
-                (end_program(&answer, errors), sink)
+                let names = names_of(&command);
+                let (answer, sink) = run_gathering(
+                    alloc, language, command, files, new_files, sink, errors,
+                );
+                (end_program(&answer, names.as_slice(), errors), sink)
             }
         },
         Err(none) => {
             let mut sink = sink;
             let answer = answer_other_words(none, &mut sink);
-            (end_program(&answer, errors), sink)
+            (end_program(&answer, &[], errors), sink)
         }
     }
 }
@@ -105,16 +103,17 @@ fn run_to_file<'n, F: Files<'n>, N: NewFiles, E: Sink>(
     requires asked { F.asked files.old ≡ [] }
     ensures { (words : List (List ℕ)) → IsCommandLineOf words (unborrowed_command command.entry)
         → EndsWithFile language words (F.known files.old) (F.asked files.new)
-        (N.held new_files.old) (N.held new_files.new) name.now
+        (N.held new_files.old) (N.held new_files.new) name.now (names_of (unborrowed_command command.entry))
         (port E.taken E.has_failed errors.old errors.new) result }
 {
+    let names = names_of(&command);
     let (other, file) = match begin(alloc, new_files, name) {
         Ok(begun) => begun,
         Err(fault) => return end_unwritten(name, fault, errors),
     };
-    let (answer, file) = run_gathering(alloc, language, command, files, file, errors);
+    let (answer, file) = run_gathering(alloc, language, command, files, new_files, file, errors);
     match end_file(&answer, new_files, file, other.as_str(), name) {
-        Ok(()) => end_program(&answer, errors),
+        Ok(()) => end_program(&answer, names.as_slice(), errors),
         Err(fault) => end_unwritten(name, fault, errors),
     }
 }
@@ -147,12 +146,13 @@ fn end_file<N: NewFiles>(
     }
 }
 
-/// Carries out `command`. The command's output is gathered before it is passed on to `sink`.
-fn run_gathering<'n, F: Files<'n>, W: Sink + Drop, E: Sink>(
+/// Carries `command` out, and gathers what is written before it is passed on to `sink`.
+fn run_gathering<'n, F: Files<'n>, N: NewFiles, W: Sink + Drop, E: Sink>(
     alloc: Global,
     language: Language,
     command: NamedCommand<'n>,
     files: &mut F,
+    folders: &N,
     sink: W,
     errors: &mut E,
 ) -> (Result<(), Stop>, W)
@@ -164,17 +164,26 @@ fn run_gathering<'n, F: Files<'n>, W: Sink + Drop, E: Sink>(
         (port E.taken E.has_failed errors.old errors.new) left result.0 }
 {
     let mut gathering = BufferedSink::new(sink);
-    let done = run_command(alloc, language, command, files, &mut gathering, errors);
+    let done = run_command(
+        alloc,
+        language,
+        command,
+        files,
+        folders,
+        &mut gathering,
+        errors,
+    );
     let answer = pass_rest_on(done, &mut gathering);
     (answer, gathering.into_sink())
 }
 
-/// Reads the files of `command`, and carries out the command.
-fn run_command<'n, F: Files<'n>, W: Sink, E: Sink>(
+/// Reads the files that `command` names, and carries it out.
+fn run_command<'n, F: Files<'n>, N: NewFiles, W: Sink, E: Sink>(
     alloc: Global,
     language: Language,
     command: NamedCommand<'n>,
     files: &mut F,
+    folders: &N,
     sink: &mut W,
     errors: &mut E,
 ) -> Result<(), Stop>
@@ -188,8 +197,34 @@ fn run_command<'n, F: Files<'n>, W: Sink, E: Sink>(
     ensures noted { (words : List (List ℕ)) → IsCommandLineOf words (unborrowed_command command.entry)
         → HasNotes words (F.asked files.new) (port E.taken E.has_failed errors.old errors.new) }
 {
-    let command = read_files(alloc, command, files)?;
-    Stop::of_answer(carry_out(alloc, language, command, sink, errors))
+    let names = names_of(&command);
+    let mut contents = Contents::new();
+    if let Err(fault) = read_contents(alloc, names.as_slice(), files, &mut contents) {
+        let refused = refused_unread(names.as_slice(), contents.len(), fault, folders);
+        return Err(Stop::Refused(refused));
+    }
+    let answer = carry_out(alloc, language, command, contents.as_slice(), sink, errors);
+    Stop::of_answer(answer)
+}
+
+/// The refusal for the file at this place among `names`, which can't be read.
+fn refused_unread<N: NewFiles>(
+    names: &[&str],
+    place: usize,
+    fault: FileFault,
+    folders: &N,
+) -> Refused
+    ensures { (why : WhyUnread) × (result ≡ refused_unread place fault why) }
+{
+    let fault_is = PageFault::Unread(fault);
+    match fault {
+        FileFault::NoMemory => Refused::from(fault_is),
+        FileFault::ReadTooLong => Refused::of_file(fault_is, place, Remark::TooLong),
+        FileFault::Device => {
+            let why = folders.why_unread(name_at(names, place));
+            Refused::of_file(fault_is, place, Remark::Unread(why))
+        }
+    }
 }
 
 /// Answers words that don't mean a command. If the words ask for help or for the version, shows the text. Otherwise
@@ -199,298 +234,93 @@ fn answer_other_words<W: Sink>(none: NoCommand, sink: &mut W) -> Result<(), Stop
         → HasNoCommand words none
         → CarriesOut l words known [] (port W.taken W.has_failed sink.old sink.new) [] result }
     ensures why { (words : List (List ℕ)) → HasNoCommand words none → GoesToSink words result }
+    ensures nothing { blame_of result ≡ None }
     ensures untouched { IsTrue (is_stopped_before_writing result) → sink.new ≡ sink.old }
     ensures failed { W.has_failed sink.new ≡ (W.has_failed sink.old || is_stopped_by_device result) }
 {
     match none {
         NoCommand::Asked(text) => Stop::of_answer(show(text.as_str(), sink)),
         NoCommand::Usage(text) => Err(Stop::Usage(text)),
-        NoCommand::NoMemory => Err(Stop::Unread(FileFault::NoMemory)),
+        NoCommand::NoMemory => Err(Stop::from(FileFault::NoMemory)),
     }
 }
 
-fn read_files<'n, F: Files<'n>>(
-    alloc: Global,
-    command: NamedCommand<'n>,
-    files: &mut F,
-) -> Result<Command<Content, &'n str>, FileFault>
-    requires { F.asked files.old ≡ [] }
-    ensures read { IfSome (F.known files.old) (λ held. AgreesOrNoMemory FileFault.NoMemory
-        (known_command held (unborrowed_command command.entry)) (read_with_texts result)) }
-    ensures alike { IfOk result
-        (λ read. AreAlike (unborrowed_command command.entry) (with_texts read)) }
-    ensures asked { AreAskedFor (names_of (unborrowed_command command.entry)) (F.asked files.old)
-        (F.asked files.new) (is_ok result) }
-{
-    match command {
-        Command::OnMachine {
-            machine,
-            sheet,
-            task,
-        } => read_task_files(alloc, machine, sheet, task, files),
-        Command::Message {
-            machine,
-            sheet,
-            message,
-            task,
-        } => read_message(alloc, machine, sheet, message, task, files),
-        Command::TypingPage { machine, language } => {
-            read_machine_file(alloc, machine, language, files)
-        }
-        Command::Table {
-            sheet,
-            form,
-            language,
-        } => read_table_file(alloc, sheet, form, language, files),
-        Command::Sheet { table, options } => read_spreadsheet(alloc, table, options, files),
-        Command::Look {
-            names,
-            files: looked,
-        } => read_looked(alloc, names, looked, files),
-        Command::EmptySheet { model, days } => Ok(Command::EmptySheet { model, days }),
-    }
-}
-
-/// Reads a machine file and a key sheet, for `task`.
-fn read_task_files<'n, F: Files<'n>>(
-    alloc: Global,
-    machine: &'n str,
-    sheet: &'n str,
-    task: Task,
-    files: &mut F,
-) -> Result<Command<Content, &'n str>, FileFault>
-    requires { F.asked files.old ≡ [] }
-    ensures read { IfSome (F.known files.old) (λ held. AgreesOrNoMemory FileFault.NoMemory
-        (known_command held (OnMachine machine.now sheet.now task)) (read_with_texts result)) }
-    ensures alike { IfOk result
-        (λ read. AreAlike (OnMachine machine.now sheet.now task) (with_texts read)) }
-    ensures asked { AreAskedFor (names_of (OnMachine machine.now sheet.now task))
-        (F.asked files.old) (F.asked files.new) (is_ok result) }
-{
-    let machine = files.read_content(alloc, machine)?;
-    let sheet = files.read_content(alloc, sheet)?;
-    Ok(Command::OnMachine {
-        machine,
-        sheet,
-        task,
-    })
-}
-
-/// Reads a machine file, a key sheet and a message, for `task`.
-fn read_message<'n, F: Files<'n>>(
-    alloc: Global,
-    machine: &'n str,
-    sheet: &'n str,
-    message: &'n str,
-    task: MessageTask,
-    files: &mut F,
-) -> Result<Command<Content, &'n str>, FileFault>
-    requires { F.asked files.old ≡ [] }
-    ensures read { IfSome (F.known files.old) (λ held. AgreesOrNoMemory FileFault.NoMemory
-        (known_command held (Message machine.now sheet.now message.now task))
-        (read_with_texts result)) }
-    ensures alike { IfOk result (λ read.
-        AreAlike (Message machine.now sheet.now message.now task) (with_texts read)) }
-    ensures asked { AreAskedFor (names_of (Message machine.now sheet.now message.now task))
-        (F.asked files.old) (F.asked files.new) (is_ok result) }
-{
-    let machine = files.read_content(alloc, machine)?;
-    let sheet = files.read_content(alloc, sheet)?;
-    let message = files.read_content(alloc, message)?;
-    Ok(Command::Message {
-        machine,
-        sheet,
-        message,
-        task,
-    })
-}
-
-/// Reads a machine file, for the command `type`.
-fn read_machine_file<'n, F: Files<'n>>(
-    alloc: Global,
-    machine: &'n str,
-    language: Option<Language>,
-    files: &mut F,
-) -> Result<Command<Content, &'n str>, FileFault>
-    requires { F.asked files.old ≡ [] }
-    ensures read { IfSome (F.known files.old) (λ held. AgreesOrNoMemory FileFault.NoMemory
-        (known_command held (TypingPage machine.now language)) (read_with_texts result)) }
-    ensures alike { IfOk result (λ read. AreAlike (TypingPage machine.now language) (with_texts read)) }
-    ensures asked { AreAskedFor (names_of (TypingPage machine.now language))
-        (F.asked files.old) (F.asked files.new) (is_ok result) }
-{
-    let machine = files.read_content(alloc, machine)?;
-    Ok(Command::TypingPage { machine, language })
-}
-
-/// Reads a key sheet, for the command `table`.
-fn read_table_file<'n, F: Files<'n>>(
-    alloc: Global,
-    sheet: &'n str,
-    form: TableForm,
-    language: Option<Language>,
-    files: &mut F,
-) -> Result<Command<Content, &'n str>, FileFault>
-    requires { F.asked files.old ≡ [] }
-    ensures read { IfSome (F.known files.old) (λ held. AgreesOrNoMemory FileFault.NoMemory
-        (known_command held (Table sheet.now form language)) (read_with_texts result)) }
-    ensures alike { IfOk result (λ read. AreAlike (Table sheet.now form language) (with_texts read)) }
-    ensures asked { AreAskedFor (names_of (Table sheet.now form language))
-        (F.asked files.old) (F.asked files.new) (is_ok result) }
-{
-    let sheet = files.read_content(alloc, sheet)?;
-    Ok(Command::Table {
-        sheet,
-        form,
-        language,
-    })
-}
-
-/// Reads a spreadsheet's table, for the command `sheet`.
-fn read_spreadsheet<'n, F: Files<'n>>(
-    alloc: Global,
-    table: &'n str,
-    options: TableOptions<&'n str>,
-    files: &mut F,
-) -> Result<Command<Content, &'n str>, FileFault>
-    requires { F.asked files.old ≡ [] }
-    ensures read { IfSome (F.known files.old) (λ held. AgreesOrNoMemory FileFault.NoMemory
-        (known_command held (Sheet table.now (texts_of options.entry))) (read_with_texts result)) }
-    ensures alike { IfOk result
-        (λ read. AreAlike (Sheet table.now (texts_of options.entry)) (with_texts read)) }
-    ensures asked { AreAskedFor (names_of (Sheet table.now (texts_of options.entry)))
-        (F.asked files.old) (F.asked files.new) (is_ok result) }
-{
-    let table = files.read_content(alloc, table)?;
-    Ok(Command::Sheet { table, options })
-}
-
-/// Reads the files for the command `look`.
-fn read_looked<'n, F: Files<'n>>(
-    alloc: Global,
-    names: UpToThree<&'n str>,
-    looked: UpToThree<&'n str>,
-    files: &mut F,
-) -> Result<Command<Content, &'n str>, FileFault>
-    requires { F.asked files.old ≡ [] }
-    ensures read { IfSome (F.known files.old) (λ held. AgreesOrNoMemory FileFault.NoMemory
-        (known_command held (Look (unborrowed_three names.entry) (unborrowed_three looked.entry)))
-        (read_with_texts result)) }
-    ensures alike { IfOk result (λ read.
-        AreAlike (Look (unborrowed_three names.entry) (unborrowed_three looked.entry)) (with_texts read)) }
-    ensures asked { AreAskedFor (list_of_three (unborrowed_three looked.entry))
-        (F.asked files.old) (F.asked files.new) (is_ok result) }
-{
-    let first = files.read_content(alloc, looked.first)?;
-    let second = read_other(alloc, looked.second, files)?;
-    let third = read_other(alloc, looked.third, files)?;
-    Ok(Command::Look {
-        names,
-        files: UpToThree {
-            first,
-            second,
-            third,
-        },
-    })
-}
-
-/// Reads the file `name`. `None` if there is no name.
-fn read_other<'n, F: Files<'n>>(
-    alloc: Global,
-    name: Option<&'n str>,
-    files: &mut F,
-) -> Result<Option<Content>, FileFault>
-    requires { length (F.asked files.old) < 3 }
-    ensures read { IfSome (F.known files.old) (λ held. AgreesOrNoMemory FileFault.NoMemory
-        (known_other held (option_map (λ text. text.now) name.entry)) result) }
-    ensures same { F.known files.new ≡ F.known files.old }
-    ensures present { IfOk result (λ content. is_some content ≡ is_some name.entry) }
-    ensures asked { AreAskedFor (list_of_option (option_map (λ text. text.now) name.entry))
-        (F.asked files.old) (F.asked files.new) (is_ok result) }
-    ensures few { length (F.asked files.new) ≤ length (F.asked files.old) + 1 }
-{
-    match name {
-        Some(name) => Ok(Some(files.read_content(alloc, name)?)),
-        None => Ok(None),
-    }
-}
-
-/// Carries out `command`, whose files have been read.
+/// Carries out `command`, whose files have these contents.
 fn carry_out<W: Sink, E: Sink>(
     alloc: Global,
     language: Language,
-    command: Command<Content, &str>,
+    command: NamedCommand<'_>,
+    contents: &[FileBytes],
     sink: &mut W,
     errors: &mut E,
 ) -> Result<(), Refused>
-    requires { HasMonth (with_texts command) }
-    ensures does { DoesCommand language (with_texts command.entry)
+    requires month { HasMonth (unborrowed_command command) }
+    requires many { length contents.now ≡ length (names_of (unborrowed_command command)) }
+    ensures does { DoesCommand language (unborrowed_command command.entry) contents.now
         (port W.taken W.has_failed sink.old sink.new) result }
     ensures untouched { IsErr result → has_written result ≡ false → sink.new ≡ sink.old }
     ensures failed { W.has_failed sink.new ≡ (W.has_failed sink.old || is_device result) }
-    ensures told { HasTold (with_texts command.entry) (port E.taken E.has_failed errors.old errors.new) }
+    ensures told { HasTold (unborrowed_command command.entry)
+        (port E.taken E.has_failed errors.old errors.new) }
 {
     match command {
         Command::OnMachine {
-            machine,
-            sheet,
             task,
-        } => do_task(
-            alloc,
-            language,
-            task,
-            machine.as_slice(),
-            sheet.as_slice(),
-            sink,
-        ),
-        Command::Message {
-            machine,
-            sheet,
-            message,
-            task,
-        } => work_message(
-            alloc,
-            language,
-            task,
-            machine.as_slice(),
-            sheet.as_slice(),
-            message.as_slice(),
-            sink,
-            errors,
-        ),
+            sheet: name,
+            ..
+        } => {
+            let machine = text_at(contents, 0);
+            let sheet = text_at(contents, 1);
+            do_task(alloc, language, task, name, machine, sheet, sink)
+        }
+        Command::Message { task, .. } => {
+            let machine = text_at(contents, 0);
+            let sheet = text_at(contents, 1);
+            let message = text_at(contents, 2);
+            work_message(alloc, language, task, machine, sheet, message, sink, errors)
+        }
         Command::TypingPage {
-            machine,
             language: chosen,
-        } => run_type(alloc, chosen.unwrap_or(language), machine.as_slice(), sink),
+            ..
+        } => run_type(
+            alloc,
+            chosen.unwrap_or(language),
+            text_at(contents, 0),
+            sink,
+        ),
         Command::Table {
-            sheet,
             form,
             language: chosen,
-        } => write_tables(
+            ..
+        } => run_table(
             alloc,
             chosen.unwrap_or(language),
             form,
-            sheet.as_slice(),
+            text_at(contents, 0),
             sink,
         ),
-        Command::Sheet { table, options } => {
-            make_sheet(alloc, table.as_slice(), &options, sink, errors)
+        Command::Sheet { options, .. } => {
+            make_sheet(alloc, text_at(contents, 0), &options, sink, errors)
         }
-        Command::Look { names, files } => look_at_files(alloc, &names, &files, sink),
+        Command::Look { files, .. } => {
+            let names = listed(files.first, files.second, files.third);
+            look_at_files(alloc, names.as_slice(), contents, sink)
+        }
         Command::EmptySheet { model, days } => write_empty_sheet(model, days, sink),
     }
 }
 
-/// Carries out `task` with the machine in the file `machine` and the key sheet `sheet`.
+/// Does `task` with the machine in the file `machine` and the key sheet `sheet`, whose file is called `name`.
 fn do_task<W: Sink>(
     alloc: Global,
     language: Language,
     task: Task,
+    name: &str,
     machine: &[u8],
     sheet: &[u8],
     sink: &mut W,
 ) -> Result<(), Refused>
-    ensures does { DoesTask language task machine.now sheet.now
+    ensures does { DoesTask language task name.now machine.now sheet.now
         (port W.taken W.has_failed sink.old sink.new) result }
     ensures untouched { IsErr result → is_device result ≡ false → sink.new ≡ sink.old }
     ensures failed { W.has_failed sink.new ≡ (W.has_failed sink.old || is_device result) }
@@ -501,7 +331,7 @@ fn do_task<W: Sink>(
             language: chosen,
         } => {
             let language = chosen.unwrap_or(language);
-            run_page(alloc, language, machine, sheet, days, sink)
+            run_page(alloc, language, name, machine, sheet, days, sink)
         }
         Task::List(day) => run_list(alloc, machine, sheet, day, sink),
     }

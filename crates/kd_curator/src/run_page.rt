@@ -22,37 +22,41 @@ use std::alloc::Global;
 /// Writes the pages of `days` in one HTML file, in `language`. The first page starts from the machine in the file
 /// `machine`.
 ///
-/// If `days` is `None`, the pages are for all days that the sheet has for the machine's model. Faults are tested in
-/// this order: faults of the machine file, faults of the sheet, and then, day by day, `NoSuchDay` and `OtherModel`. For
-/// all of these faults, nothing is written. For `Device`, only a prefix of the file is written.
+/// The pages have the name of the sheet's file, `name`, without folder and ending.
+///
+/// Without `days`, these are all days that the sheet has for the machine's model. Faults are tested in this order:
+/// faults of the machine file, faults of the sheet, and then, day by day, `NoSuchDay` and `OtherModel`. For all of these
+/// faults, nothing is written. For `Device`, only a prefix of the file is written.
 pub fn run_page<W: Sink>(
     alloc: Global,
     language: Language,
+    name: &str,
     machine: &[u8],
     sheet: &[u8],
     days: Option<Days>,
     sink: &mut W,
 ) -> Result<(), Refused>
     ensures pages { IsAnswerOnSheet machine.now sheet.now
-        (λ m month. WritesPages language month m (wanted_days days (model_of m) month)
+        (λ m month. WritesPages language name.now month m (wanted_days days (model_of m) month)
         (port W.taken W.has_failed sink.old sink.new) result) result }
     ensures untouched { IsErr result → is_device result ≡ false → sink.new ≡ sink.old }
     ensures failed { W.has_failed sink.new ≡ (W.has_failed sink.old || is_device result) }
 {
     let (machine, sheet) = read_both(alloc, machine, sheet)?;
     let days = wanted_days(days, machine.model(), &sheet);
-    write_days(language, &machine, &sheet, &days, sink)
+    write_days(language, name, &machine, &sheet, &days, sink)
 }
 
 /// Does what `run_page` does, for a machine and a sheet that are already read. Allocates no memory.
 pub fn write_days<W: Sink>(
     language: Language,
+    name: &str,
     machine: &Machine,
     sheet: &Sheet,
     days: &Days,
     sink: &mut W,
 ) -> Result<(), Refused>
-    ensures pages { WritesPages language sheet.now machine.now days.now
+    ensures pages { WritesPages language name.now sheet.now machine.now days.now
         (port W.taken W.has_failed sink.old sink.new) result }
     ensures untouched { IsErr result → is_device result ≡ false → sink.new ≡ sink.old }
     ensures failed { W.has_failed sink.new ≡ (W.has_failed sink.old || is_device result) }
@@ -61,7 +65,7 @@ pub fn write_days<W: Sink>(
     let Some((first, others)) = plans.as_slice().split_first() else {
         return Err(Refused::from(PageFault::NoSuchDay));
     };
-    write_pages(sink, language, machine, first, others)?;
+    write_pages(sink, language, name, machine, first, others)?;
     Ok(())
 }
 

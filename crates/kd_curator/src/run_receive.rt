@@ -76,7 +76,7 @@ fn write_form<W: Sink, E: Sink>(
         return Err(Refused::from(PageFault::NoSuchDay));
     };
     if let Err(fault) = check_key(machine, day) {
-        return Err(Refused::from(PageFault::Message(fault)));
+        return Err(Refused::of_message(fault));
     }
     match write_receive_page(alloc, language, day, form, sink, errors) {
         Ok(true) => Ok(()),

@@ -1,7 +1,7 @@
 //! The command `type`: writes an HTML page with which to type on a machine.
 ghost use Rattle.std.specs.Prelude.{◌≡◌, ◌||◌, false, IsErr};
 ghost use Rattle.kd_tables.specs.Ports.{port};
-ghost use Rattle.kd_curator.specs.MachineAndSheet.{IsAnswerOnMachine};
+ghost use Rattle.kd_curator.specs.MachineAndSheet.{IsAnswerOn, machine_in};
 ghost use Rattle.kd_curator.specs.Refusals.{is_device};
 ghost use Rattle.kd_curator.specs.RunType.{WritesTypingPage, answer_after};
 
@@ -25,7 +25,7 @@ pub fn run_type<W: Sink>(
     machine: &[u8],
     sink: &mut W,
 ) -> Result<(), Refused>
-    ensures page { IsAnswerOnMachine machine.now
+    ensures page { IsAnswerOn (machine_in machine.now)
         (λ m. WritesTypingPage language m (port W.taken W.has_failed sink.old sink.new) result) result }
     ensures untouched { IsErr result → is_device result ≡ false → sink.new ≡ sink.old }
     ensures failed { W.has_failed sink.new ≡ (W.has_failed sink.old || is_device result) }
@@ -47,7 +47,7 @@ pub fn write_typing_page<W: Sink>(
 {
     match draw_typing_page(sink, language, machine) {
         Ok(()) => answer_after(sink.failed()),
-        Err(NotReady) => Err(Refused::from(PageFault::Message(FormFault::NotReady))),
+        Err(NotReady) => Err(Refused::of_message(FormFault::NotReady)),
     }
 }
 

@@ -3,74 +3,99 @@ ghost use Rattle.std.specs.Prelude.{◌≡◌, ◌≤◌, ◌+◌, ◌++◌};
 ghost use Rattle.arrayvec.specs.ArrayString.{array_string_len};
 ghost use Rattle.kd_tables.specs.Ports.{port};
 ghost use Rattle.std.specs.IoError.{error_kind};
-ghost use Rattle.kd_curator.specs.Ending.{EndsAs, IsWordsStop, day_prefix, refusal_line, stop_after};
+ghost use Rattle.kd_host.specs.Ending.{EndsWithLine};
+ghost use Rattle.kd_curator.specs.Ending.{EndsAs, IsWordsStop, day_prefix, refusal_line, refusal_text, stop_after};
+ghost use Rattle.kd_curator.specs.Files.{unborrowed_names};
 
-use crate::fault::Refused;
+use crate::blame::remark_words;
+use crate::error_line::{end_named, end_refused};
+use crate::fault::{PageFault, Refused};
+use crate::files::name_at;
 use arrayvec::ArrayString;
-use kd_host::{FileFault, end_with_line, refused_line};
+use kd_host::{FileFault, end_with_line};
 use kd_state::push_number;
 use kd_tables::Sink;
 use std::alloc::Global;
 use std::io;
 
-/// A line on standard error, which may begin with a day.
-type DayLine = ArrayString<96>;
+/// A refusal, which may begin with a day.
+type DayText = ArrayString<96>;
 
 /// Why the program stops without success.
 #[derive(Drop)]
 pub enum Stop {
     /// The command line doesn't mean a command. The text says why.
     Usage(String),
-    /// A file that the command line names can't be read.
-    Unread(FileFault),
     /// The command was refused.
     Refused(Refused),
 }
 
 /// Writes the text for `answer` to `errors`, if `answer` has a `Stop`. Returns the exit status.
 ///
-/// The exit status is the same even if the text can't be written.
-pub fn end_program<E: Sink>(answer: &Result<(), Stop>, errors: &mut E) -> u8
-    ensures { EndsAs answer.now (port E.taken E.has_failed errors.old errors.new) result }
+/// If a refusal is about a file, its line ends with the file's name, from `names`, the command's files. The exit status
+/// is the same even if the text can't be written.
+pub fn end_program<E: Sink>(answer: &Result<(), Stop>, names: &[&str], errors: &mut E) -> u8
+    ensures { EndsAs (unborrowed_names names.now) answer.now
+        (port E.taken E.has_failed errors.old errors.new) result }
 {
     match answer {
         Ok(()) => end_with_line("", 0, errors),
         Err(Stop::Usage(text)) => end_with_line(text.as_str(), 2, errors),
-        Err(Stop::Unread(fault)) => end_with_line(refused_line(fault.text()).as_str(), 1, errors),
-        Err(Stop::Refused(refused)) => end_with_line(refusal_line(*refused).as_str(), 1, errors),
+        Err(Stop::Refused(refused)) => end_with_refusal(*refused, names, errors),
     }
 }
 
-fn refusal_line(refused: Refused) -> DayLine
-    ensures { result.bytes ≡ refusal_line refused }
+/// Writes to `errors` the line for a refusal, and returns the exit status 1.
+#[tactic(auto, unfolding(crate::specs::Ending::refusal_line))]
+fn end_with_refusal<E: Sink>(refused: Refused, names: &[&str], errors: &mut E) -> u8
+    ensures { EndsWithLine (refusal_line (unborrowed_names names.now) refused) 1
+        (port E.taken E.has_failed errors.old errors.new) result }
 {
-    let mut line = DayLine::new();
-    push_day(&mut line, refused.day);
-    line.push_str(refused_line(refused.fault.text()).as_str());
-    line
+    let text = refusal_text(refused);
+    match refused.blame {
+        None => end_named(text.as_str(), "", errors),
+        Some(blame) => {
+            let words = remark_words(blame.remark);
+            end_refused(text.as_str(), words, name_at(names, blame.place), errors)
+        }
+    }
 }
 
-/// Appends the words for the day, if there is one.
-fn push_day(line: &mut DayLine, day: Option<u8>)
-    requires { array_string_len line.old ≤ 1 }
-    ensures bytes { line.new.bytes ≡ line.old.bytes ++ day_prefix day }
-    ensures len { array_string_len line.new ≤ array_string_len line.old + 9 }
+/// The refusal, without what it says of a file.
+#[tactic(auto, using(std::proofs::Common::append_assoc))]
+fn refusal_text(refused: Refused) -> DayText
+    ensures { result.bytes ≡ refusal_text refused }
+{
+    let mut text = DayText::new();
+    push_day(&mut text, refused.day);
+    text.push_str("refused ");
+    text.push_str(refused.fault.text().as_str());
+    text
+}
+
+/// Appends the day's number, if there is one.
+fn push_day(text: &mut DayText, day: Option<u8>)
+    requires { array_string_len text.old ≤ 1 }
+    ensures bytes { text.new.bytes ≡ text.old.bytes ++ day_prefix day }
+    ensures len { array_string_len text.new ≤ array_string_len text.old + 9 }
 {
     if let Some(day) = day {
-        line.push_str("day ");
-        push_number(line, day);
-        line.push_str(": ");
+        text.push_str("day ");
+        push_number(text, day);
+        text.push_str(": ");
     }
 }
 
 impl From<FileFault> for Stop {
     ghost use Rattle.std.specs.Prelude.{◌≡◌};
-    ghost use Rattle.kd_curator.specs.declared.stop.Stop.TheVariants.{Unread};
+    ghost use Rattle.kd_curator.specs.Refusals.{refused_whole};
+    ghost use Rattle.kd_curator.specs.declared.fault.PageFault.TheVariants as faults;
+    ghost use Rattle.kd_curator.specs.declared.stop.Stop.TheVariants as stops;
 
-    ghost from_gives = { λ fault stop. stop ≡ Unread fault };
+    ghost from_gives = { λ fault stop. stop ≡ stops.Refused (refused_whole (faults.Unread fault)) };
 
     fn from(fault: FileFault) -> Stop {
-        Stop::Unread(fault)
+        Stop::Refused(Refused::from(PageFault::Unread(fault)))
     }
 }
 
@@ -91,7 +116,7 @@ impl Stop {
     {
         let text = String::from_str(alloc, "error: a word of the command line isn't UTF-8\n");
         match (error.kind(), text) {
-            (io::ErrorKind::OutOfMemory, _) | (_, Err(_)) => Stop::Unread(FileFault::NoMemory),
+            (io::ErrorKind::OutOfMemory, _) | (_, Err(_)) => Stop::from(FileFault::NoMemory),
             (_, Ok(text)) => Stop::Usage(text),
         }
     }

@@ -5,13 +5,15 @@ ghost use Rattle.kd_curator.specs.Refusals.{is_device};
 ghost use Rattle.kd_curator.specs.Tables.{WritesTables};
 
 use crate::fault::Refused;
-use kd_key_table::run_table::run_table;
-use kd_key_table::{Language, TableForm};
+use crate::machine_and_sheet::read_month;
+use kd_key_table::{Language, TableForm, write_tables};
 use kd_tables::Sink;
 use std::alloc::Global;
 
-/// Writes the tables of the key sheet `sheet`. A page is in `language`.
-pub(crate) fn write_tables<W: Sink>(
+/// Writes the tables of the key sheet `sheet`, in this language.
+///
+/// For a fault of the sheet, nothing is written. For `Device`, only a prefix of the tables is written.
+pub(crate) fn run_table<W: Sink>(
     alloc: Global,
     language: Language,
     form: TableForm,
@@ -23,8 +25,7 @@ pub(crate) fn write_tables<W: Sink>(
     ensures untouched { IsErr result → is_device result ≡ false → sink.new ≡ sink.old }
     ensures failed { W.has_failed sink.new ≡ (W.has_failed sink.old || is_device result) }
 {
-    match run_table(alloc, language, form, sheet, sink) {
-        Ok(()) => Ok(()),
-        Err(fault) => Err(Refused::from(fault)),
-    }
+    let sheet = read_month(alloc, 0, sheet)?;
+    write_tables(sink, language, form, &sheet)?;
+    Ok(())
 }

@@ -156,7 +156,7 @@ name_of (commands.Message machine sheet message task) = message_name task.kind
 name_of (commands.TypingPage machine language) = codes "type"
 name_of (commands.Table sheet form language) = codes "table"
 name_of (commands.Sheet table options) = codes "sheet"
-name_of (commands.Look names files) = codes "look"
+name_of (commands.Look files) = codes "look"
 name_of (commands.EmptySheet model days) = codes "sheet"
 
 pub name_said : (said : List ℕ × List Row) (command : NamedCommand) → IsCommandOf said command
@@ -166,7 +166,7 @@ name_said said (commands.Message machine sheet message task) of = of.name
 name_said said (commands.TypingPage machine language) of = of.name
 name_said said (commands.Table sheet form language) of = of.name
 name_said said (commands.Sheet table options) of = of.name
-name_said said (commands.Look names files) of = of.name
+name_said said (commands.Look files) of = of.name
 name_said said (commands.EmptySheet model days) of = of.name
 
 -- the names of commands differ in their third letters
@@ -232,8 +232,8 @@ module _ (rows : List Row) where
   only_typing_page other of = absurd (other_name (codes "type") other refl of)
 
   pub only_look : (command : NamedCommand) → IsCommandOf (codes "look", rows) command
-      → (names files : UpToThree (List ℕ)) × IsLookOf (codes "look", rows) names files
-  only_look (commands.Look names files) of = (names, files, of)
+      → (files : UpToThree (List ℕ)) × IsLookOf (codes "look", rows) files
+  only_look (commands.Look files) of = (files, of)
   only_look (commands.OnMachine machine sheet task) of =
       absurd (other_task (codes "look") machine sheet task refl refl of)
   only_look (commands.Message machine sheet message task) of =
@@ -299,7 +299,7 @@ no_task_with said table sheet look send receive typing none (commands.Message ma
 no_task_with said table sheet look send receive typing none (commands.TypingPage machine language) of = typing of.name
 no_task_with said table sheet look send receive typing none (commands.Table its_sheet form language) of = table of.name
 no_task_with said table sheet look send receive typing none (commands.Sheet its_table options) of = sheet of.name
-no_task_with said table sheet look send receive typing none (commands.Look names files) of = look of.name
+no_task_with said table sheet look send receive typing none (commands.Look files) of = look of.name
 no_task_with said table sheet look send receive typing none (commands.EmptySheet model days) of = sheet of.name
 
 -- a task of `page` has its days and its language

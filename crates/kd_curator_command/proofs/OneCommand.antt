@@ -121,10 +121,6 @@ same_three : (first other : List ℕ) (second another : Option (List ℕ)) (thir
     (record { first = other; second = another; third = last })
 same_three first other second another third last is are more = cc
 
-same_look : (names files others more : UpToThree (List ℕ)) → files ≡ names → more ≡ others → names ≡ others
-    → ◌≡◌ {A = NamedCommand} (commands.Look names files) (commands.Look others more)
-same_look names files others more is are same = cc
-
 -- a sheet to fill in has a model's name where a sheet of a table has none
 filled_or_empty : (said : List ℕ × List Row) (table : List ℕ) (options : OptionTexts) (model : Model) (days : ℕ)
     → IsSheetOf said table options → IsEmptySheetOf said model days → ⊥
@@ -171,10 +167,9 @@ same_command said (commands.EmptySheet model days) (commands.EmptySheet other mo
     (same_model model other (first.month.named ∙ words ∙ sym second.month.named))
     (decimal_injective days more (omega (arith, first.month.within.last)) (omega (arith, second.month.within.last))
     (first.month.numbered ∙ numbers ∙ sym second.month.numbered))
-same_command said (commands.Look names files) (commands.Look others more) first second =
-    same_look names files others more first.same second.same
-    (same_three _ _ _ _ _ _ (same_Some _ _ (sym first.first ∙ second.first)) (sym first.second ∙ second.second)
-    (sym first.third ∙ second.third))
+same_command said (commands.Look files) (commands.Look others) first second =
+    ap commands.Look (same_three _ _ _ _ _ _ (same_Some _ _ (sym first.first ∙ second.first))
+    (sym first.second ∙ second.second) (sym first.third ∙ second.third))
 same_command said (commands.OnMachine machine sheet (tasks.Page days language)) (commands.Message a b c d) first second =
     absurd (message_apart d.kind (codes "page") refl refl (sym second.name ∙ first.task.name))
 same_command said (commands.OnMachine machine sheet (tasks.List day)) (commands.Message a b c d) first second =

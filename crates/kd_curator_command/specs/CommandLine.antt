@@ -137,24 +137,20 @@ curator_grammar = record {
 
 -- A command with the names of its files, before any file is read.
 abbrev pub NamedCommand : Type 0
-NamedCommand = Command (List ℕ) (List ℕ)
+NamedCommand = Command (List ℕ)
 
--- the command, with plain texts in place of borrowed texts
-abbrev pub unborrowed_command : Command (Bor (List ℕ)) (Bor (List ℕ)) → NamedCommand
+-- the command, with its borrowed texts replaced by the texts themselves
+abbrev pub unborrowed_command : Command (Bor (List ℕ)) → NamedCommand
 unborrowed_command (commands.OnMachine machine sheet task) = commands.OnMachine machine.now sheet.now task
 unborrowed_command (commands.Message machine sheet message task) =
     commands.Message machine.now sheet.now message.now task
 unborrowed_command (commands.TypingPage machine language) = commands.TypingPage machine.now language
 unborrowed_command (commands.Table sheet form language) = commands.Table sheet.now form language
 unborrowed_command (commands.Sheet table options) = commands.Sheet table.now (texts_of options)
-unborrowed_command (commands.Look names files) = commands.Look (unborrowed_three names) (unborrowed_three files)
+unborrowed_command (commands.Look files) = commands.Look (unborrowed_three files)
 unborrowed_command (commands.EmptySheet model days) = commands.EmptySheet model days
 
--- A command with the contents of its files.
-abbrev pub ReadCommand : Type 0
-ReadCommand = Command (List ℕ) (List ℕ)
-
--- The argument DAYS names these days. `None` means that the argument isn't given.
+-- The argument DAYS, which `page` may lack, names these days.
 abbrev pub HasDays : List Row → Option (List ℕ) → Type 0
 HasDays rows None = first_of (codes "DAYS") rows ≡ None
 HasDays rows (Some days) =
@@ -269,13 +265,12 @@ pub record IsEmptySheetOf (said : List ℕ × List Row) (model : Model) (days : 
   pub month : IsMonthNamed model_word days_word model days
   pub alone : are_blank (option_texts said.1) ≡ true
 
--- `said` means the command `look`, with these files.
-pub record IsLookOf (said : List ℕ × List Row) (names files : UpToThree (List ℕ)) : Type 0 where
+-- They mean the command `look`, with these files.
+pub record IsLookOf (said : List ℕ × List Row) (files : UpToThree (List ℕ)) : Type 0 where
   pub name : said.0 ≡ codes "look"
-  pub first : first_of (codes "FILE") said.1 ≡ Some names.first
-  pub second : first_of (codes "FILE2") said.1 ≡ names.second
-  pub third : first_of (codes "FILE3") said.1 ≡ names.third
-  pub same : files ≡ names
+  pub first : first_of (codes "FILE") said.1 ≡ Some files.first
+  pub second : first_of (codes "FILE2") said.1 ≡ files.second
+  pub third : first_of (codes "FILE3") said.1 ≡ files.third
 
 -- `said` means the command `command`. `said` has the command's name, and the values of the command's arguments.
 abbrev pub IsCommandOf : List ℕ × List Row → NamedCommand → Type 0
@@ -284,7 +279,7 @@ IsCommandOf said (commands.Message machine sheet message task) = IsMessageOf sai
 IsCommandOf said (commands.TypingPage machine language) = IsTypingPageOf said machine language
 IsCommandOf said (commands.Table sheet form language) = IsTableOf said sheet form language
 IsCommandOf said (commands.Sheet table options) = IsSheetOf said table options
-IsCommandOf said (commands.Look names files) = IsLookOf said names files
+IsCommandOf said (commands.Look files) = IsLookOf said files
 IsCommandOf said (commands.EmptySheet model days) = IsEmptySheetOf said model days
 
 -- `said` has a command, which means `command`.
@@ -376,13 +371,3 @@ IsToldAs kind NoMemory = Unit {0}
 abbrev pub IsFormNamed : List ℕ → TableForm → Type 0
 IsFormNamed word forms.Csv = word ≡ codes "true"
 IsFormNamed word forms.Page = word ≢ codes "true"
-
--- the command, with plain texts in place of the borrowed texts of its options
-abbrev pub with_texts : Command (List ℕ) (Bor (List ℕ)) → ReadCommand
-with_texts (commands.OnMachine machine sheet task) = commands.OnMachine machine sheet task
-with_texts (commands.Message machine sheet message task) = commands.Message machine sheet message task
-with_texts (commands.TypingPage machine language) = commands.TypingPage machine language
-with_texts (commands.Table sheet form language) = commands.Table sheet form language
-with_texts (commands.Sheet table options) = commands.Sheet table (texts_of options)
-with_texts (commands.Look names files) = commands.Look (unborrowed_three names) files
-with_texts (commands.EmptySheet model days) = commands.EmptySheet model days

@@ -1,5 +1,5 @@
--- One, two or three things of a kind, in order.
-use Rattle.std.specs.Prelude.{◌≡◌, ℕ, List, [], ◌∷◌, ◌++◌, Option, Some, None, is_some, option_map}
+-- One thing, two or three, in their order.
+use Rattle.std.specs.Prelude.{ℕ, List, [], ◌∷◌, ◌++◌, Option, Some, None, option_map}
 use Rattle.std.specs.Borrow.{Bor}
 use Rattle.kd_curator_command.specs.declared.up_to_three.UpToThree.{UpToThree}
 
@@ -18,8 +18,3 @@ list_of_option (Some x) = x ∷ []
 -- the things as a list
 abbrev pub list_of_three : {A : Type 0} → UpToThree A → List A
 list_of_three things = things.first ∷ (list_of_option things.second ++ list_of_option things.third)
-
--- `these` and `those` have equally many things.
-pub record AreAsMany {A B : Type 0} (these : UpToThree A) (those : UpToThree B) : Type 0 where
-  pub second : is_some those.second ≡ is_some these.second
-  pub third : is_some those.third ≡ is_some these.third

@@ -39,41 +39,41 @@ const NO_LANGUAGE: &str = "--in takes de or en";
 /// The error for an argument DAYS that doesn't name days.
 const NO_DAYS: &str = "days are numbers from 1 to 31, each once, such as 2, 1-31 or 1,4,2";
 
-/// A command. `F` is the type of its files, or of their names. `T` is the type of the texts of its options.
+/// A command, with the names of its files and the texts of its options.
 #[derive(Drop)]
-pub enum Command<F, T> {
-    /// Writes how to set a machine to days of a key sheet.
+pub enum Command<T> {
+    /// Writes how a machine is set to days of a key sheet.
     OnMachine {
         /// The machine file.
-        machine: F,
+        machine: T,
         /// The key sheet.
-        sheet: F,
-        /// What to write: pages, or a list of settings.
+        sheet: T,
+        /// What is written.
         task: Task,
     },
     /// Writes how to encipher or decipher a message by hand.
     Message {
         /// The machine file.
-        machine: F,
+        machine: T,
         /// The key sheet.
-        sheet: F,
+        sheet: T,
         /// The order or the form.
-        message: F,
-        /// The kind of the message, its day, and the language of the page.
+        message: T,
+        /// What is written.
         task: MessageTask,
     },
     /// Writes a page with which to type on a machine.
     TypingPage {
         /// The machine file.
-        machine: F,
-        /// The language of the page; `None` if the words name none.
+        machine: T,
+        /// The language of the page, if the words say it.
         language: Option<Language>,
     },
     /// Writes a key sheet as printed tables.
     Table {
         /// The key sheet.
-        sheet: F,
-        /// The form of the tables.
+        sheet: T,
+        /// The form in which it is written.
         form: TableForm,
         /// The language of the tables; `None` if the words name none.
         language: Option<Language>,
@@ -81,16 +81,13 @@ pub enum Command<F, T> {
     /// Makes a key sheet from a spreadsheet's table.
     Sheet {
         /// The table.
-        table: F,
-        /// The texts for cells that are blank or missing in the table.
+        table: T,
+        /// What is used where the table says nothing.
         options: TableOptions<T>,
     },
     /// Describes machine files and key sheets in words, or names their faults.
     Look {
-        /// The names of the files.
-        names: UpToThree<T>,
-        /// The files.
-        files: UpToThree<F>,
+        files: UpToThree<T>,
     },
     /// Writes a key sheet to fill in.
     EmptySheet {
@@ -133,8 +130,8 @@ pub enum MessageKind {
     Form,
 }
 
-/// A command with the names of its files, before any file is read.
-pub type NamedCommand<'a> = Command<&'a str, &'a str>;
+/// A command with borrowed texts.
+pub type NamedCommand<'a> = Command<&'a str>;
 
 /// A command, and the file for its output.
 #[derive(Drop)]
@@ -397,11 +394,6 @@ fn look_of<'a>(words: &ArgMatches<'a>) -> Option<NamedCommand<'a>>
     let second = words.get_str("FILE2");
     let third = words.get_str("FILE3");
     Some(Command::Look {
-        names: UpToThree {
-            first,
-            second,
-            third,
-        },
         files: UpToThree {
             first,
             second,

@@ -1,6 +1,5 @@
 pub mod Checks
 pub mod Begun
-pub mod SheetAnswers
 pub mod PlainWords
 pub mod EffectivePins
 pub mod PlainCells

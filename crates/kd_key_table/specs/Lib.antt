@@ -4,6 +4,5 @@ pub mod MonthTable
 pub mod KeyList
 pub mod CsvTable
 pub mod TableFile
-pub mod RunTable
 pub mod Plain
 pub mod ReadAgain

@@ -3,15 +3,12 @@
 
 mod csv_table;
 mod days;
-mod fault;
 mod key_list;
 pub mod laws;
 mod month_table;
-pub mod run_table;
 mod table_file;
 pub mod texts;
 mod words;
 
-pub use fault::TableFault;
 pub use kd_pictures::Language;
 pub use table_file::{TableForm, write_tables};

@@ -25,7 +25,10 @@ pub enum TableForm {
     Csv,
 }
 
-/// Does what `run_table` does, for a sheet that is already read. Allocates no memory.
+/// Writes the tables of the key sheet `sheet` in this language. Allocates nothing.
+///
+/// A page has a table for each rotor model, with the last day on top, and a key list for each day of a Converter. A
+/// table for a spreadsheet has a row for each day, from the first day on, and is the same in all languages.
 pub fn write_tables<W: Sink>(
     sink: &mut W,
     language: Language,

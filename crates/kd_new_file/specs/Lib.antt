@@ -1,2 +1,3 @@
 pub mod NewFileFault
 pub mod NewFiles
+pub mod WhyUnread

@@ -3,6 +3,7 @@ ghost use Rattle.std.specs.Prelude.{◌≡◌, false};
 
 use crate::new_file_fault::NewFileFault;
 use crate::new_files::NewFiles;
+use crate::why_unread::WhyUnread;
 use kd_host::WriterSink;
 use kd_tables::{Failed, Sink};
 use std::fs::{self, File};
@@ -31,6 +32,17 @@ impl<'h> NewFiles for HostNewFiles<'h> {
 
     fn remove(&mut self, name: &str) {
         let _ = fs::remove_file(self.rt, name);
+    }
+
+    fn why_unread(&self, name: &str) -> WhyUnread {
+        match fs::metadata(self.rt, name) {
+            Ok(found) if found.is_dir() => return WhyUnread::Folder,
+            _ => {}
+        }
+        match File::open(self.rt, name) {
+            Ok(_) => WhyUnread::Other,
+            Err(error) => WhyUnread::of_error(&error),
+        }
     }
 }
 

@@ -1,4 +1,4 @@
-//! Makes new files, which are there as a whole or not at all, and never replace another file.
+//! New files, which are there whole or not at all, and never in place of another file; and why a file can't be read.
 #![tactic(auto)]
 
 mod host_new_files;
@@ -6,9 +6,11 @@ mod memory_new_files;
 mod new_file;
 mod new_file_fault;
 mod new_files;
+mod why_unread;
 
 pub use host_new_files::{HostNewFile, HostNewFiles};
 pub use memory_new_files::MemoryNewFiles;
 pub use new_file::{begin, publish};
 pub use new_file_fault::NewFileFault;
 pub use new_files::NewFiles;
+pub use why_unread::WhyUnread;

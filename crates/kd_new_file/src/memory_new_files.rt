@@ -4,6 +4,7 @@ ghost use Rattle.kd_new_file.specs.NewFiles.{AddsFile, files_in};
 
 use crate::new_file_fault::NewFileFault;
 use crate::new_files::NewFiles;
+use crate::why_unread::WhyUnread;
 use kd_tables::MemorySink;
 use std::alloc::Global;
 use std::collections::BTreeMap;
@@ -55,5 +56,13 @@ impl<const CAP: usize> NewFiles for MemoryNewFiles<CAP> {
 
     fn remove(&mut self, name: &str) {
         self.files.remove(name);
+    }
+
+    fn why_unread(&self, name: &str) -> WhyUnread {
+        if self.files.contains_key(name) {
+            WhyUnread::Other
+        } else {
+            WhyUnread::NotThere
+        }
     }
 }

@@ -1,12 +1,13 @@
-//! `NewFiles`: a trait for making files in folders.
+//! `NewFiles`: a trait for making files in folders, and for looking at what is there.
 ghost use Rattle.std.specs.Prelude.{◌≡◌, ◌↔◌, [], false, List, ℕ, Option, None, Some, IfOk, IfSome, IsSome, Err, OnErr};
 ghost use Rattle.std.specs.Option.{option_map};
 ghost use Rattle.kd_new_file.specs.NewFiles.{AddsFile, FilesByName, with_content};
 
 use crate::new_file_fault::NewFileFault;
+use crate::why_unread::WhyUnread;
 use kd_tables::Sink;
 
-/// Folders in which files are made, named, and removed.
+/// Folders in which files are made, named, removed, and looked at.
 pub trait NewFiles {
     /// A file that is being written.
     type Written: Sink + Drop;
@@ -40,4 +41,7 @@ pub trait NewFiles {
     /// Removes the name `name`, if the folder allows this.
     fn remove(&mut self, name: &str)
         ensures { held self.new ≡ option_map (λ files. with_content files name.now None) (held self.old) };
+
+    /// Says why the file `name` couldn't be read. No contract says which reason a folder gives.
+    fn why_unread(&self, name: &str) -> WhyUnread;
 }

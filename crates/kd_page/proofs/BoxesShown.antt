@@ -9,7 +9,6 @@ use Rattle.kd_state.specs.declared.machine.parts.Parts.{Parts}
 use Rattle.kd_state.specs.declared.setting.Setting.{Setting}
 use Rattle.kd_state.specs.Machine.{machine_pin, machine_pin_letter, machine_standing, model_of}
 use Rattle.kd_pictures.specs.declared.numbers.TheConstants.{BARS, CABLES, PIN_WHEELS, SLOTS}
-use Rattle.kd_pictures.specs.declared.words.Word.{Word}
 use Rattle.kd_pictures.specs.declared.words.Word.TheVariants as words
 use Rattle.kd_pictures.specs.declared.texts.TheConstants.{LIST, LIST_END}
 use Rattle.kd_pictures.specs.Board.{has_cables}
@@ -123,7 +122,8 @@ module _ (page : Page) where
   unfolding plugs_in
   inside true is none =
       subst (λ test. Shown (rows_of PlugsIn CABLES)
-      (if test then plugs_in page (count_at (step_spot PlugsIn) page.settings) else idle_text page words.PlugsIn)) (sym is)
+      (if test then plugs_in page (count_at (step_spot PlugsIn) page.settings)
+      else idle_text page.language words.PlugsIn)) (sym is)
       (between _ (rows_of PlugsIn CABLES) _ _ (if_any PlugsIn _ _ (at (step_spot PlugsIn)) refl (table _ PlugsIn)))
   inside false is none = has_none own (rows_of PlugsIn CABLES) _ (no_rows PlugsIn (none refl) CABLES)
 

@@ -8,7 +8,7 @@ use Rattle.kd_page.specs.declared.head.ListedDay.{ListedDay}
 unfoldable use Rattle.kd_page.specs.Head.{file_text, head_text}
 
 -- A file isn't empty: it begins with `<`.
-pub file_begins : (l : Language) (model : Model) (first : ListedDay) (others : List ListedDay) (pages : List ℕ)
-    → (rest : List ℕ) × (file_text l model first others pages ≡ 60 ∷ rest)
+pub file_begins : (l : Language) (model : Model) (sheet : List ℕ) (first : ListedDay) (others : List ListedDay)
+    (pages : List ℕ) → (rest : List ℕ) × (file_text l model sheet first others pages ≡ 60 ∷ rest)
 unfolding file_text head_text file_head filled
-file_begins l model first others pages = (_, refl)
+file_begins l model sheet first others pages = (_, refl)

@@ -21,11 +21,11 @@ use Rattle.kd_page.proofs.BoxesShown.{HasPinPlaces, HasRotorPlaces, converter, r
 use Rattle.kd_page.proofs.LedPlaces.{one_kind, pins_there, plugs_there, row_there, windows_there}
 use Rattle.kd_page.proofs.PageOrders.{pin_boxes_are, rotor_boxes_are}
 
-rotor_of : (l : Language) (day : ℕ) (m n : Parts) (settings : List Setting) → IsMachine n
-    → is_converter (model_of n) ≡ false → IsRotorOrder settings → HasItsBoxes (page_of l day m n settings)
-rotor_of l day m (Pin n) settings legal is order leads = absurd (cc)
-rotor_of l day m (Rotor n) settings legal is order leads =
-    let page : Page = page_of l day m (Rotor n) settings in
+rotor_of : (l : Language) (sheet : List ℕ) (day : ℕ) (m n : Parts) (settings : List Setting) → IsMachine n
+    → is_converter (model_of n) ≡ false → IsRotorOrder settings → HasItsBoxes (page_of l sheet day m n settings)
+rotor_of l sheet day m (Pin n) settings legal is order leads = absurd (cc)
+rotor_of l sheet day m (Rotor n) settings legal is order leads =
+    let page : Page = page_of l sheet day m (Rotor n) settings in
     let places : HasRotorPlaces (Rotor n) settings = record {
       plugs = λ none. plugs_there (Rotor n) m 0 settings none order.steps order.«in» leads;
       windows = λ slot none. windows_there slot n legal none m 0 settings (sym (one_kind m (Rotor n) settings leads))
@@ -35,7 +35,7 @@ rotor_of l day m (Rotor n) settings legal is order leads =
     (whole page (rotor_boxes settings) false is (rotor page places))
 
 pub rotor_pages : RotorPageHasTheBoxes
-rotor_pages page = rotor_of page.language page.day page.before page.after page.settings
+rotor_pages page = rotor_of page.language page.sheet page.day page.before page.after page.settings
 
 -- A Converter has no reflector.
 no_reflector : (model : Model) (reflector : Reflector) → is_converter model ≡ true
@@ -45,14 +45,14 @@ no_reflector M3 reflector is has = absurd (cc)
 no_reflector M4 reflector is has = absurd (cc)
 no_reflector M209 reflector is has = absurd (grind (arith, has))
 
-pin_of : (l : Language) (day : ℕ) (m n : Parts) (settings : List Setting) → IsMachine m → IsMachine n
-    → is_converter (model_of n) ≡ true → IsPinOrder settings → HasItsBoxes (page_of l day m n settings)
-pin_of l day m (Rotor n) settings legal then is order leads =
+pin_of : (l : Language) (sheet : List ℕ) (day : ℕ) (m n : Parts) (settings : List Setting) → IsMachine m → IsMachine n
+    → is_converter (model_of n) ≡ true → IsPinOrder settings → HasItsBoxes (page_of l sheet day m n settings)
+pin_of l sheet day m (Rotor n) settings legal then is order leads =
     absurd (no_reflector n.model n.reflector is then.legal.reflector)
-pin_of l day (Rotor m) (Pin n) settings legal then is order leads =
+pin_of l sheet day (Rotor m) (Pin n) settings legal then is order leads =
     let kind = one_kind (Rotor m) (Pin n) settings leads in absurd (cc)
-pin_of l day (Pin m) (Pin n) settings legal then is order leads =
-    let page : Page = page_of l day (Pin m) (Pin n) settings in
+pin_of l sheet day (Pin m) (Pin n) settings legal then is order leads =
+    let page : Page = page_of l sheet day (Pin m) (Pin n) settings in
     let bars = then.legal.bars in
     let old_bars = legal.legal.bars in
     let letters = then.legal.letters.count in
@@ -66,4 +66,4 @@ pin_of l day (Pin m) (Pin n) settings legal then is order leads =
     (whole page (pin_boxes settings) true is (converter page places))
 
 pub pin_pages : PinPageHasTheBoxes
-pin_pages page = pin_of page.language page.day page.before page.after page.settings
+pin_pages page = pin_of page.language page.sheet page.day page.before page.after page.settings

@@ -3,7 +3,6 @@ use Rattle.std.specs.Prelude.{decimal, ℕ, ◌==◌, if◌then◌else◌, List,
 use Rattle.kd_state.specs.Machine.{model_of}
 use Rattle.kd_pictures.specs.declared.language.Language.{Language}
 use Rattle.kd_pictures.specs.declared.words.Mark.TheVariants.{LugLeaves, LugStays}
-use Rattle.kd_pictures.specs.declared.words.Word.TheVariants as words
 use Rattle.kd_pictures.specs.declared.texts.TheConstants as texts
 use Rattle.kd_pictures.specs.Language.{text_in}
 use Rattle.kd_page.specs.Drum.{lugs_step}
@@ -11,17 +10,18 @@ use Rattle.kd_page.specs.Page.{Page}
 use Rattle.kd_page.specs.Pins.{pins_step}
 use Rattle.kd_page.specs.PlugSteps.{in_step, out_step}
 use Rattle.kd_pictures.specs.Template.{count_text, filled}
+use Rattle.kd_page.specs.Steps.{page_title}
 use Rattle.kd_page.specs.Test.{test_step}
 use Rattle.kd_pictures.specs.Wheels.{both_bands, one_band}
-use Rattle.kd_page.specs.WheelSteps.{rings_step, seats_step}
+use Rattle.kd_page.specs.WheelSteps.{rings_in_box, rings_step, seats_step}
 use Rattle.kd_page.specs.Windows.{letters_step, windows_step}
-use Rattle.kd_pictures.specs.Words.{is_converter, mark_text, model_name}
+use Rattle.kd_pictures.specs.Words.{is_converter, mark_text}
 
--- the head of the day: its number, the model, and the number of settings
-abbrev pub day_head : Page → List ℕ
-day_head page = filled (text_in page.language texts.DAY) (
-    decimal page.day ∷ model_name (model_of page.after) ∷ decimal page.day
-    ∷ count_text page.language (length page.settings) ∷ [])
+-- the head of the day
+unfoldable pub day_head : Page → List ℕ
+day_head page =
+    filled texts.DAY.now (decimal page.day ∷ []) ++ page_title page
+    ++ filled (text_in page.language texts.DAY_TITLED) (count_text page.language (length page.settings) ∷ [])
 
 -- The words that say what to compare on a rotor machine. Pictures show its wheels before and after the settings. If
 -- there are no settings, there is one picture.
@@ -30,9 +30,11 @@ wheels_text page =
     if length page.settings == 0 then one_band page.language page.after
     else both_bands page.language page.before page.after
 
+-- the pictures, and the rings in the box before the settings; then the steps
 unfoldable pub rotor_text : Page → List ℕ
 rotor_text page =
-    wheels_text page ++ rings_step page ++ seats_step page ++ out_step page ++ in_step page ++ windows_step page
+    wheels_text page ++ rings_in_box page (text_in page.language texts.BOX_BEFORE) page.before
+    ++ rings_step page ++ seats_step page ++ out_step page ++ in_step page ++ windows_step page
 
 -- The words that say what to compare on a Converter before the first step. They have two marks: the mark of a lug that
 -- stays, and the mark of a lug that leaves.

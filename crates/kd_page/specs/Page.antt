@@ -4,15 +4,22 @@ use Rattle.kd_state.specs.declared.machine.parts.Parts.{Parts}
 use Rattle.kd_state.specs.declared.setting.Setting.{Setting}
 use Rattle.kd_pictures.specs.declared.language.Language.{Language}
 
--- A day's page in a language. It shows the machine before the settings, the machine after them, and the settings in the
--- order of the page.
+-- A day's page in a language: the file of the key sheet, the day, the machine before the settings, the machine after them,
+-- and the settings in their order.
 pub record Page : Type 0 where
   pub language : Language
+  pub sheet : List ℕ
   pub day : ℕ
   pub before : Parts
   pub after : Parts
   pub settings : List Setting
 
-abbrev pub page_of : Language → ℕ → Parts → Parts → List Setting → Page
-page_of language day before after settings =
-    record { language = language; day = day; before = before; after = after; settings = settings }
+abbrev pub page_of : Language → List ℕ → ℕ → Parts → Parts → List Setting → Page
+page_of language sheet day before after settings = record {
+  language = language;
+  sheet = sheet;
+  day = day;
+  before = before;
+  after = after;
+  settings = settings;
+}

@@ -37,7 +37,7 @@ plugs_out page count =
 abbrev pub out_step : Page → List ℕ
 out_step page =
     let count = count_at (step_spot PlugsOut) page.settings in
-    if count == 0 then idle_text page words.PlugsOut else plugs_out page count
+    if count == 0 then idle_text page.language words.PlugsOut else plugs_out page count
 
 -- The caption with the meaning of the marks. Then the table of the `count` plugs to put in, if there are any.
 abbrev pub in_table : Page → ℕ → List ℕ
@@ -54,4 +54,4 @@ plugs_in page count =
 abbrev pub in_step : Page → List ℕ
 in_step page =
     if has_cables page.after CABLES then plugs_in page (count_at (step_spot PlugsIn) page.settings)
-    else idle_text page words.PlugsIn
+    else idle_text page.language words.PlugsIn

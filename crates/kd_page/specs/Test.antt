@@ -16,7 +16,7 @@ use Rattle.kd_pictures.specs.declared.words.Word.TheVariants as words
 use Rattle.kd_pictures.specs.declared.texts.TheConstants as texts
 use Rattle.kd_pictures.specs.Language.{text_in}
 use Rattle.kd_page.specs.Page.{Page}
-use Rattle.kd_page.specs.Steps.{full_step_text}
+use Rattle.kd_page.specs.Steps.{plain_step_text}
 use Rattle.kd_pictures.specs.Fives.{fives_from}
 use Rattle.kd_pictures.specs.Template.{count_text, filled, letter_text, ordinal_text}
 use Rattle.kd_page.specs.Windows.{letter_shown}
@@ -75,5 +75,5 @@ test_words l model = if is_converter model then text_in l texts.TEST_PIN else te
 unfoldable pub test_step : Page → List ℕ
 test_step page =
     let model = model_of page.after in
-    full_step_text page (test_title model) 0 ++ test_words page.language model ++ test_text page.language page.after
+    plain_step_text page (test_title model) ++ test_words page.language model ++ test_text page.language page.after
     ++ letters_again page.after ++ note_text page.language model page.settings

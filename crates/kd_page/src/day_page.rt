@@ -8,11 +8,12 @@ use crate::drum::draw_lugs_step;
 use crate::page::Page;
 use crate::pins::draw_pins_step;
 use crate::plug_steps::{draw_in_step, draw_out_step};
+use crate::steps::draw_page_title;
 use crate::test::draw_test_step;
-use crate::wheel_steps::{draw_rings_step, draw_seats_step};
+use crate::wheel_steps::{draw_rings_in_box, draw_rings_step, draw_seats_step};
 use crate::windows::{draw_letters_step, draw_windows_step};
-use kd_pictures::template::{Value, fill_in};
-use kd_pictures::texts::{COMPARE_PIN, DAY, DAY_END};
+use kd_pictures::template::{Value, fill, fill_in};
+use kd_pictures::texts::{BOX_BEFORE, COMPARE_PIN, DAY, DAY_END, DAY_TITLED};
 use kd_pictures::wheels::{draw_both, draw_one};
 use kd_pictures::words::{Mark, is_converter};
 use kd_pictures::{Language, draw};
@@ -32,19 +33,12 @@ pub fn draw_day<W: Sink>(sink: &mut W, page: &Page<'_>)
 fn draw_day_head<W: Sink>(sink: &mut W, page: &Page<'_>)
     ensures { Draws W.taken W.has_failed sink.old sink.new (day_head page.now) }
 {
-    let day = u16::from(page.day());
-    let count = page.settings().len() as u8;
-    fill_in(
-        sink,
-        page.language(),
-        DAY,
-        &[
-            Value::Number(day),
-            Value::Model(page.model()),
-            Value::Number(day),
-            Value::Count(count),
-        ],
-    );
+    let language = page.language();
+    let day = Value::Number(u16::from(page.day()));
+    let count = Value::Count(page.settings().len() as u8);
+    fill(sink, language, DAY, &[day]);
+    draw_page_title(sink, page);
+    fill_in(sink, language, DAY_TITLED, &[count]);
 }
 
 fn draw_steps<W: Sink>(sink: &mut W, page: &Page<'_>)
@@ -57,11 +51,12 @@ fn draw_steps<W: Sink>(sink: &mut W, page: &Page<'_>)
     }
 }
 
-/// Writes the pictures of a rotor machine's wheels, then the steps.
+/// Writes the picture of a rotor machine's wheels, the rings in the box, and the steps.
 fn draw_rotor_steps<W: Sink>(sink: &mut W, page: &Page<'_>)
     ensures { Draws W.taken W.has_failed sink.old sink.new (rotor_text page.now) }
 {
     draw_wheels(sink, page);
+    draw_rings_in_box(sink, page, BOX_BEFORE, page.before());
     draw_rings_step(sink, page);
     draw_seats_step(sink, page);
     draw_out_step(sink, page);

@@ -1,12 +1,16 @@
 //! The head and the foot of a file with the pages of one or more days.
 ghost use Rattle.std.specs.Prelude.{◌≡◌, ◌∷◌, ◌++◌, flat_map};
 ghost use Rattle.kd_pictures.specs.Drawing.{Draws};
-ghost use Rattle.kd_page.specs.Head.{head_text, last_of, list_of_days, listed_text, nav_text, title_text};
+ghost use Rattle.kd_page.specs.Head.{day_title, days_title, head_text, last_of, list_of_days, listed_text};
+ghost use Rattle.kd_page.specs.Head.{nav_text, title_text};
 ghost use Rattle.kd_pictures.specs.declared.texts.TheConstants.{FOOT as FOOT_TEXT};
 
 use kd_pictures::file_head::draw_file_head;
+use kd_pictures::sheet_name::draw_sheet_name;
 use kd_pictures::template::{Value, fill_in};
-use kd_pictures::texts::{BODY, FOOT, NAV, NAV_DAY, NAV_END, STYLE, TITLE_DAY, TITLE_DAYS};
+use kd_pictures::texts::{
+    BODY, FOOT, NAV, NAV_DAY, NAV_END, NAV_LIST, STYLE, TITLE_DAY, TITLE_DAYS,
+};
 use kd_pictures::{Language, draw, draw_in};
 use kd_tables::{Model, Sink};
 
@@ -17,21 +21,25 @@ pub struct ListedDay {
     pub settings: u8,
 }
 
-/// Writes the head of a file with the pages of the day `first` and of the later days `others`.
+/// Writes the head of a file with the page of the day `first`, and the pages of the days `others` after it.
+///
+/// The days are of the key sheet in the file `sheet`.
 pub fn draw_head<W: Sink>(
     sink: &mut W,
     language: Language,
     model: Model,
+    sheet: &str,
     first: ListedDay,
     others: &[ListedDay],
 )
-    ensures { Draws W.taken W.has_failed sink.old sink.new (head_text language model first others.now) }
+    ensures { Draws W.taken W.has_failed sink.old sink.new
+        (head_text language model sheet.now first others.now) }
 {
     draw_file_head(sink, language);
-    draw_title(sink, language, model, first, others);
+    draw_title(sink, language, model, sheet, first, others);
     draw(sink, STYLE);
     draw(sink, BODY);
-    draw_nav(sink, language, first, others);
+    draw_nav(sink, language, model, sheet, first, others);
 }
 
 /// Writes the end of the file.
@@ -45,26 +53,60 @@ fn draw_title<W: Sink>(
     sink: &mut W,
     language: Language,
     model: Model,
+    sheet: &str,
     first: ListedDay,
     others: &[ListedDay],
 )
-    ensures { Draws W.taken W.has_failed sink.old sink.new (title_text language model first others.now) }
+    ensures { Draws W.taken W.has_failed sink.old sink.new
+        (title_text language model sheet.now first others.now) }
 {
-    let name = Value::Model(model);
-    let first = Value::Number(u16::from(first.day));
     if let [next, rest @ ..] = others {
         let last = last_of(*next, rest);
-        fill_in(
-            sink,
-            language,
-            TITLE_DAYS,
-            &[name, first, Value::Number(u16::from(last.day))],
-        );
+        draw_days_title(sink, language, model, sheet, first.day, last.day);
     } else {
-        fill_in(sink, language, TITLE_DAY, &[name, first]);
+        draw_day_title(sink, language, model, sheet, first.day);
     }
 }
 
+/// Writes the title of a day: the model, the day, and the sheet's name.
+pub(crate) fn draw_day_title<W: Sink>(
+    sink: &mut W,
+    language: Language,
+    model: Model,
+    sheet: &str,
+    day: u8,
+)
+    ensures { Draws W.taken W.has_failed sink.old sink.new (day_title language model sheet.now day) }
+{
+    let number = Value::Number(u16::from(day));
+    fill_in(sink, language, TITLE_DAY, &[Value::Model(model), number]);
+    draw_sheet_name(sink, sheet);
+}
+
+/// Writes the title of several days: the model, the first day and the last, and the sheet's name.
+fn draw_days_title<W: Sink>(
+    sink: &mut W,
+    language: Language,
+    model: Model,
+    sheet: &str,
+    first: u8,
+    last: u8,
+)
+    ensures { Draws W.taken W.has_failed sink.old sink.new
+        (days_title language model sheet.now first last) }
+{
+    let first = Value::Number(u16::from(first));
+    let last = Value::Number(u16::from(last));
+    fill_in(
+        sink,
+        language,
+        TITLE_DAYS,
+        &[Value::Model(model), first, last],
+    );
+    draw_sheet_name(sink, sheet);
+}
+
+/// The last of these days, of which the first is `day`.
 fn last_of(day: ListedDay, others: &[ListedDay]) -> ListedDay
     ensures { result ≡ last_of day others.now }
 {
@@ -74,12 +116,20 @@ fn last_of(day: ListedDay, others: &[ListedDay]) -> ListedDay
     }
 }
 
-/// Writes the list of the days. Writes nothing if there is only one day.
-fn draw_nav<W: Sink>(sink: &mut W, language: Language, first: ListedDay, others: &[ListedDay])
-    ensures { Draws W.taken W.has_failed sink.old sink.new (nav_text language first others.now) }
+/// Writes the list of the days, if there are several.
+fn draw_nav<W: Sink>(
+    sink: &mut W,
+    language: Language,
+    model: Model,
+    sheet: &str,
+    first: ListedDay,
+    others: &[ListedDay],
+)
+    ensures { Draws W.taken W.has_failed sink.old sink.new
+        (nav_text language model sheet.now first others.now) }
 {
     if let [_, ..] = others {
-        draw_list_of_days(sink, language, first, others);
+        draw_list_of_days(sink, language, model, sheet, first, others);
     } else {
         draw(sink, "");
     }
@@ -88,12 +138,17 @@ fn draw_nav<W: Sink>(sink: &mut W, language: Language, first: ListedDay, others:
 fn draw_list_of_days<W: Sink>(
     sink: &mut W,
     language: Language,
+    model: Model,
+    sheet: &str,
     first: ListedDay,
     others: &[ListedDay],
 )
-    ensures { Draws W.taken W.has_failed sink.old sink.new (list_of_days language first others.now) }
+    ensures { Draws W.taken W.has_failed sink.old sink.new
+        (list_of_days language model sheet.now first others.now) }
 {
     draw_in(sink, language, NAV);
+    draw_title(sink, language, model, sheet, first, others);
+    draw(sink, NAV_LIST);
     draw_listed(sink, language, first);
     draw_all_listed(sink, language, others);
     draw(sink, NAV_END);

@@ -4,10 +4,11 @@ use kd_pictures::Language;
 use kd_state::{Machine, Setting};
 use kd_tables::Model;
 
-/// A day's page. It has a day, two machines, and the settings that turn the first machine into the second machine.
+/// A day of a sheet, and the settings that turn one machine into another: what each step of a page is made of.
 #[derive(Drop)]
 pub struct Page<'a> {
     language: Language,
+    sheet: &'a str,
     day: u8,
     before: &'a Machine,
     after: &'a Machine,
@@ -22,6 +23,7 @@ impl<'a> std::marker::Model for Page<'a> {
 
     ghost view = { λ page. record {
       language = page.language;
+      sheet = page.sheet.now;
       day = page.day;
       before = page.before.now;
       after = page.after.now;
@@ -37,19 +39,21 @@ impl<'a> Page<'a> {
     ghost use Rattle.kd_page.specs.Page.{page_of};
     ghost use Rattle.kd_page.specs.Spots.{count_at};
 
-    /// The page of day `day`. `settings` turn the machine `before` into the machine `after`.
+    /// The page of day `day` of the key sheet in the file `sheet`: `settings` turn the machine `before` into `after`.
     pub fn new(
         language: Language,
+        sheet: &'a str,
         day: u8,
         before: &'a Machine,
         after: &'a Machine,
         settings: &'a [Setting],
     ) -> Self
         requires { length settings.now ≤ 192 }
-        ensures { result ≡ page_of language day before.now after.now settings.now }
+        ensures { result ≡ page_of language sheet.now day before.now after.now settings.now }
     {
         Page {
             language,
+            sheet,
             day,
             before,
             after,
@@ -61,6 +65,12 @@ impl<'a> Page<'a> {
         ensures { result ≡ self.now.language }
     {
         self.language
+    }
+
+    pub(crate) fn sheet(&self) -> &'a str
+        ensures { result.now ≡ self.now.sheet }
+    {
+        self.sheet
     }
 
     pub(crate) fn day(&self) -> u8

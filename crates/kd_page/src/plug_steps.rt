@@ -24,7 +24,7 @@ pub(crate) fn draw_out_step<W: Sink>(sink: &mut W, page: &Page<'_>)
 {
     let count = page.count_at(&Step::PlugsOut.spot());
     if count == 0 {
-        draw_idle(sink, page, Word::PlugsOut);
+        draw_idle(sink, page.language(), Word::PlugsOut);
     } else {
         draw_plugs_out(sink, page, count);
     }
@@ -48,7 +48,7 @@ pub(crate) fn draw_in_step<W: Sink>(sink: &mut W, page: &Page<'_>)
     if has_cables(page.after(), &CABLES) {
         draw_plugs_in(sink, page, page.count_at(&Step::PlugsIn.spot()));
     } else {
-        draw_idle(sink, page, Word::PlugsIn);
+        draw_idle(sink, page.language(), Word::PlugsIn);
     }
 }
 

@@ -1,50 +1,72 @@
-//! The heads of a page's steps, and lists of checkboxes.
+//! The title of a page, the heads of its steps, and lists of boxes.
 ghost use Rattle.std.specs.Prelude.{◌≡◌, ◌++◌};
 ghost use Rattle.kd_pictures.specs.Drawing.{Draws};
-ghost use Rattle.kd_page.specs.Steps.{full_step_text, idle_text, list_text, step_text};
+ghost use Rattle.kd_page.specs.Steps.{full_step_text, idle_text, list_text, page_title, plain_step_text};
+ghost use Rattle.kd_page.specs.Steps.{step_text, titled_text};
 
 use crate::boxes::draw_boxes;
+use crate::head::draw_day_title;
 use crate::page::Page;
 use crate::spots::Step;
-use kd_pictures::draw;
-use kd_pictures::template::{Value, fill_in};
-use kd_pictures::texts::{IDLE_STEP, LIST, LIST_END, PLAIN_STEP, STEP};
+use kd_pictures::template::{Value, fill};
+use kd_pictures::texts::{IDLE_STEP, LIST, LIST_END, PLAIN_STEP, STEP, STEP_TITLED};
 use kd_pictures::words::Word;
+use kd_pictures::{Language, draw};
 use kd_tables::Sink;
 
-/// Writes the head of a step with `count` settings. The head repeats the model and the day, as sheets of paper come
-/// apart.
-pub(crate) fn draw_step<W: Sink>(sink: &mut W, page: &Page<'_>, title: Word, count: u8)
-    ensures { Draws W.taken W.has_failed sink.old sink.new (step_text page.now title count) }
+/// Writes the title of the page.
+pub(crate) fn draw_page_title<W: Sink>(sink: &mut W, page: &Page<'_>)
+    ensures { Draws W.taken W.has_failed sink.old sink.new (page_title page.now) }
 {
-    fill_in(
+    draw_day_title(
         sink,
         page.language(),
-        STEP,
-        &[
-            Value::Word(title),
-            Value::Count(count),
-            Value::Model(page.model()),
-            Value::Number(u16::from(page.day())),
-        ],
+        page.model(),
+        page.sheet(),
+        page.day(),
     );
 }
 
-/// Writes a step without settings, which has only a head.
-pub(crate) fn draw_idle<W: Sink>(sink: &mut W, page: &Page<'_>, title: Word)
-    ensures { Draws W.taken W.has_failed sink.old sink.new (idle_text page.now title) }
+/// Writes the title of the page in the head of a step: sheets of paper come apart.
+fn draw_titled<W: Sink>(sink: &mut W, page: &Page<'_>)
+    ensures { Draws W.taken W.has_failed sink.old sink.new (titled_text page.now) }
 {
-    fill_in(
+    draw_page_title(sink, page);
+    draw(sink, STEP_TITLED);
+}
+
+/// Writes the head of a step with `count` settings.
+pub(crate) fn draw_step<W: Sink>(sink: &mut W, page: &Page<'_>, title: Word, count: u8)
+    ensures { Draws W.taken W.has_failed sink.old sink.new (step_text page.now title count) }
+{
+    let language = page.language();
+    fill(
         sink,
-        page.language(),
-        IDLE_STEP,
-        &[
-            Value::Word(title),
-            Value::Count(0),
-            Value::Model(page.model()),
-            Value::Number(u16::from(page.day())),
-        ],
+        language,
+        STEP,
+        &[Value::Word(title), Value::Count(count)],
     );
+    draw_titled(sink, page);
+}
+
+/// Writes a step without anything inside.
+pub(crate) fn draw_idle<W: Sink>(sink: &mut W, language: Language, title: Word)
+    ensures { Draws W.taken W.has_failed sink.old sink.new (idle_text language title) }
+{
+    fill(
+        sink,
+        language,
+        IDLE_STEP,
+        &[Value::Word(title), Value::Count(0)],
+    );
+}
+
+/// Writes the head of a step without a number of settings.
+pub(crate) fn draw_plain_step<W: Sink>(sink: &mut W, page: &Page<'_>, title: Word)
+    ensures { Draws W.taken W.has_failed sink.old sink.new (plain_step_text page.now title) }
+{
+    fill(sink, page.language(), PLAIN_STEP, &[Value::Word(title)]);
+    draw_titled(sink, page);
 }
 
 /// Writes the head of a step that may have more checkboxes than settings. It gives the number of settings, `count`,
@@ -53,16 +75,7 @@ pub(crate) fn draw_full_step<W: Sink>(sink: &mut W, page: &Page<'_>, title: Word
     ensures { Draws W.taken W.has_failed sink.old sink.new (full_step_text page.now title count) }
 {
     if count == 0 {
-        fill_in(
-            sink,
-            page.language(),
-            PLAIN_STEP,
-            &[
-                Value::Word(title),
-                Value::Model(page.model()),
-                Value::Number(u16::from(page.day())),
-            ],
-        );
+        draw_plain_step(sink, page, title);
     } else {
         draw_step(sink, page, title, count);
     }

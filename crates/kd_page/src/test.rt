@@ -9,7 +9,7 @@ ghost use Rattle.kd_page.specs.Windows.{letter_shown};
 
 use crate::page::Page;
 use crate::pins::alphabet;
-use crate::steps::draw_full_step;
+use crate::steps::draw_plain_step;
 use crate::windows::letter_shown;
 use kd_pictures::fives::draw_fives;
 use kd_pictures::numbers::LATER_WHEELS;
@@ -28,7 +28,7 @@ pub(crate) fn draw_test_step<W: Sink>(sink: &mut W, page: &Page<'_>)
     requires { IsReady page.now.after }
     ensures { Draws W.taken W.has_failed sink.old sink.new (test_step page.now) }
 {
-    draw_full_step(sink, page, test_title(page.model()), 0);
+    draw_plain_step(sink, page, test_title(page.model()));
     draw_test_words(sink, page.language(), page.model());
     draw_test(sink, page.language(), page.after());
     draw_letters_again(sink, page);

@@ -1,9 +1,11 @@
 //! The steps of the rings, and of the wheels and the reflector.
 ghost use Rattle.std.specs.Prelude.{◌≡◌, ◌++◌, flat_map};
 ghost use Rattle.kd_pictures.specs.Drawing.{Draws};
-ghost use Rattle.kd_page.specs.WheelSteps.{all_boxed_text, boxed_reflector, boxed_text, boxed_wheel, is_wheel_boxed};
-ghost use Rattle.kd_page.specs.WheelSteps.{reflector_boxed_text, rings_step, seats_step, some_rings_text};
-ghost use Rattle.kd_page.specs.WheelSteps.{some_seats_text, wheel_boxed_text};
+ghost use Rattle.kd_pictures.specs.Language.{in_language};
+ghost use Rattle.kd_page.specs.WheelSteps.{all_boxed_text, all_rings_in_box, boxed_reflector, boxed_text};
+ghost use Rattle.kd_page.specs.WheelSteps.{from_box_shown, has_lone_wheel, lone_wheel, reflector_boxed_text};
+ghost use Rattle.kd_page.specs.WheelSteps.{rings_in_box, rings_step, seats_step, some_rings_text, some_seats_text};
+ghost use Rattle.kd_page.specs.WheelSteps.{wheel_boxed_text, wheel_from_box};
 
 use crate::boxes::slot_holding;
 use crate::page::Page;
@@ -11,10 +13,13 @@ use crate::spots::Step;
 use crate::steps::{draw_idle, draw_list, draw_step};
 use kd_pictures::numbers::SLOTS;
 use kd_pictures::template::{Value, fill, fill_in};
-use kd_pictures::texts::{BOXED, BOXED_END, BOXED_REFLECTOR, BOXED_WHEEL};
+use kd_pictures::texts::{
+    BOX_AFTER, BOX_WHEEL, BOXED, BOXED_END, BOXED_REFLECTOR, BOXED_WHEEL, Text,
+};
 use kd_pictures::words::Word;
 use kd_pictures::{Language, draw, draw_in};
-use kd_tables::{Reflector, Sink, Wheel};
+use kd_state::Machine;
+use kd_tables::{Letter, Reflector, Sink, Wheel};
 
 /// Writes the step in which rings are set.
 pub(crate) fn draw_rings_step<W: Sink>(sink: &mut W, page: &Page<'_>)
@@ -22,7 +27,7 @@ pub(crate) fn draw_rings_step<W: Sink>(sink: &mut W, page: &Page<'_>)
 {
     let count = page.count_at(&Step::Rings.spot());
     if count == 0 {
-        draw_idle(sink, page, Word::Rings);
+        draw_idle(sink, page.language(), Word::Rings);
     } else {
         draw_rings(sink, page, count);
     }
@@ -32,16 +37,82 @@ fn draw_rings<W: Sink>(sink: &mut W, page: &Page<'_>, count: u8)
     ensures { Draws W.taken W.has_failed sink.old sink.new (some_rings_text page.now count) }
 {
     draw_step(sink, page, Word::RingsOut, count);
+    draw_rings_in_box(sink, page, BOX_AFTER, page.after());
     draw_list(sink, page, Step::Rings);
 }
 
-/// Writes the step in which the wheels and the reflector are put in.
+/// Writes the rings on `machine` of the wheels that come from the box, after the words `told`, if any come from there.
+pub(crate) fn draw_rings_in_box<W: Sink>(
+    sink: &mut W,
+    page: &Page<'_>,
+    told: Text,
+    machine: &Machine,
+)
+    ensures { Draws W.taken W.has_failed sink.old sink.new
+        (rings_in_box page.now (in_language page.now.language told.entry.0.now told.entry.1.now)
+        machine.now) }
+{
+    if has_lone_wheel(page.after(), page.before(), &SLOTS) {
+        draw_all_rings_in_box(sink, page, told, machine);
+    } else {
+        draw(sink, "");
+    }
+}
+
+fn draw_all_rings_in_box<W: Sink>(sink: &mut W, page: &Page<'_>, told: Text, machine: &Machine)
+    ensures { Draws W.taken W.has_failed sink.old sink.new
+        (all_rings_in_box page.now (in_language page.now.language told.entry.0.now told.entry.1.now)
+        machine.now) }
+{
+    draw_in(sink, page.language(), told);
+    draw_wheels_from_box(sink, page, machine, &SLOTS);
+    draw(sink, BOXED_END);
+}
+
+fn draw_wheels_from_box<W: Sink>(sink: &mut W, page: &Page<'_>, machine: &Machine, slots: &[u8])
+    ensures { Draws W.taken W.has_failed sink.old sink.new
+        (flat_map (λ slot. from_box_shown (wheel_from_box page.now machine.now slot)) slots.now) }
+{
+    if let [slot, rest @ ..] = slots {
+        draw_from_box(sink, page.language(), wheel_from_box(page, machine, *slot));
+        draw_wheels_from_box(sink, page, machine, rest);
+    }
+}
+
+fn draw_from_box<W: Sink>(sink: &mut W, language: Language, from_box: Option<(Wheel, Letter)>)
+    ensures { Draws W.taken W.has_failed sink.old sink.new (from_box_shown from_box) }
+{
+    match from_box {
+        None => draw(sink, ""),
+        Some((wheel, ring)) => fill(
+            sink,
+            language,
+            BOX_WHEEL,
+            &[
+                Value::Wheel(wheel),
+                Value::Letter(ring),
+                Value::Ordinal(ring),
+            ],
+        ),
+    }
+}
+
+/// The wheel that comes into a slot from the box, and where its ring stands on `machine`.
+fn wheel_from_box(page: &Page<'_>, machine: &Machine, slot: u8) -> Option<(Wheel, Letter)>
+    ensures { result ≡ wheel_from_box page.now machine.now slot }
+{
+    let wheel = lone_wheel(page.after(), page.before(), slot)?;
+    let ring = machine.ring(wheel)?;
+    Some((wheel, ring))
+}
+
+/// Writes the step of the wheels and the reflector.
 pub(crate) fn draw_seats_step<W: Sink>(sink: &mut W, page: &Page<'_>)
     ensures { Draws W.taken W.has_failed sink.old sink.new (seats_step page.now) }
 {
     let count = page.count_at(&Step::Seats.spot());
     if count == 0 {
-        draw_idle(sink, page, Word::Seats);
+        draw_idle(sink, page.language(), Word::Seats);
     } else {
         draw_seats(sink, page, count);
     }
@@ -60,7 +131,7 @@ fn draw_seats<W: Sink>(sink: &mut W, page: &Page<'_>, count: u8)
 fn draw_boxed<W: Sink>(sink: &mut W, page: &Page<'_>)
     ensures { Draws W.taken W.has_failed sink.old sink.new (boxed_text page.now) }
 {
-    if is_wheel_boxed(page, &SLOTS) || boxed_reflector(page).is_some() {
+    if has_lone_wheel(page.before(), page.after(), &SLOTS) || boxed_reflector(page).is_some() {
         draw_all_boxed(sink, page);
     } else {
         draw(sink, "");
@@ -78,10 +149,12 @@ fn draw_all_boxed<W: Sink>(sink: &mut W, page: &Page<'_>)
 
 fn draw_boxed_wheels<W: Sink>(sink: &mut W, page: &Page<'_>, slots: &[u8])
     ensures { Draws W.taken W.has_failed sink.old sink.new
-        (flat_map (λ slot. wheel_boxed_text (boxed_wheel page.now slot)) slots.now) }
+        (flat_map (λ slot. wheel_boxed_text (lone_wheel page.now.before page.now.after slot))
+        slots.now) }
 {
     if let [slot, rest @ ..] = slots {
-        draw_boxed_wheel(sink, page.language(), boxed_wheel(page, *slot));
+        let wheel = lone_wheel(page.before(), page.after(), *slot);
+        draw_boxed_wheel(sink, page.language(), wheel);
         draw_boxed_wheels(sink, page, rest);
     }
 }
@@ -109,22 +182,24 @@ fn draw_boxed_reflector<W: Sink>(sink: &mut W, language: Language, reflector: Op
     }
 }
 
-/// Whether a wheel in one of these slots goes into the box.
-fn is_wheel_boxed(page: &Page<'_>, slots: &[u8]) -> bool
-    ensures { result ≡ is_wheel_boxed page.now slots.now }
+/// Whether one of the slots has a wheel that no slot of `other` has.
+fn has_lone_wheel(machine: &Machine, other: &Machine, slots: &[u8]) -> bool
+    ensures { result ≡ has_lone_wheel machine.now other.now slots.now }
 {
     match slots {
-        [slot, rest @ ..] => boxed_wheel(page, *slot).is_some() || is_wheel_boxed(page, rest),
+        [slot, rest @ ..] => {
+            lone_wheel(machine, other, *slot).is_some() || has_lone_wheel(machine, other, rest)
+        }
         [] => false,
     }
 }
 
-/// The wheel that a slot has before the settings, unless a slot has it after them.
-fn boxed_wheel(page: &Page<'_>, slot: u8) -> Option<Wheel>
-    ensures { result ≡ boxed_wheel page.now slot }
+/// The wheel of a slot of `machine`, if no slot of `other` has it.
+fn lone_wheel(machine: &Machine, other: &Machine, slot: u8) -> Option<Wheel>
+    ensures { result ≡ lone_wheel machine.now other.now slot }
 {
-    let wheel = page.before().slot(slot)??;
-    match slot_holding(page.after(), wheel, &SLOTS) {
+    let wheel = machine.slot(slot)??;
+    match slot_holding(other, wheel, &SLOTS) {
         None => Some(wheel),
         Some(_) => None,
     }

@@ -1,10 +1,12 @@
 -- The values of a page have no markup.
 use Rattle.std.proofs.Common.{◌≡◌, ℕ, ◌+◌, ◌<◌, ◌^◌, Bool, true, ◌&&◌, List, [], ◌∷◌, ◌++◌, arith, refl, ap₂, ◌∙◌}
+use Rattle.std.proofs.Common.{filter, unwrap_or}
+use Rattle.std.specs.Path.{path_file_stem}
 use Rattle.std.specs.List.{list_all}
 use Rattle.std.specs.Fmt.{decimal}
 use Rattle.std.proofs.lemmas.Fmt.{digits_decimal}
 use Rattle.std.proofs.lemmas.Grind.{common_steps}
-use Rattle.std.proofs.lemmas.List.Elements.{All-from_get_or}
+use Rattle.std.proofs.lemmas.List.Elements.{All-from_get_or, filter_passes}
 use Rattle.std.proofs.lemmas.List.Folds.{list_all-append}
 use Rattle.std.proofs.lemmas.List.Sums.{list_all-from_AllPass}
 use Rattle.kd_tables.specs.declared.lug.Lug.{Lug}
@@ -33,6 +35,8 @@ use Rattle.kd_pictures.specs.declared.words.Mark.TheVariants.{LugStays}
 use Rattle.kd_pictures.specs.declared.words.Word.{Word}
 use Rattle.kd_pictures.specs.declared.words.Word.TheVariants.{Rings}
 use Rattle.kd_pictures.specs.Plain.{ValuesArePlain, is_plain}
+unfoldable use Rattle.kd_pictures.specs.SheetName.{sheet_name}
+use Rattle.kd_pictures.specs.SheetName.{SheetNamesArePlain}
 use Rattle.kd_pictures.specs.Template.{count_text, letter_text, ordinal_text}
 use Rattle.kd_pictures.specs.Words.{class_text, mark_text, model_name, word_text}
 
@@ -138,3 +142,9 @@ values_are_plain l (values.Model model) small = plain_model model
 values_are_plain l (values.Word word) small = plain_word l word
 values_are_plain l (values.Class class) small = plain_class class
 values_are_plain l (values.Mark mark) small = plain_mark mark
+
+pub names_are_plain : SheetNamesArePlain
+unfolding sheet_name
+names_are_plain path =
+    let stem = unwrap_or (path_file_stem path) [] in
+    list_all-from_AllPass is_plain (filter is_plain stem) (filter_passes is_plain stem)

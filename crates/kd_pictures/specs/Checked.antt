@@ -21,8 +21,9 @@ Takes text number = HasGaps (text_in English text) number × HasGaps (text_in Ge
 abbrev pub TemplatesTakeTheirValues : Type 0
 TemplatesTakeTheirValues =
     HasGaps texts.HEAD.now 1 × Takes texts.TITLE_DAY 2 × Takes texts.TITLE_DAYS 3 × Takes texts.NAV_DAY 3
-    × Takes texts.DAY 4 × Takes texts.COMPARE_PIN 2 × Takes texts.STEP 4 × Takes texts.IDLE_STEP 4
-    × Takes texts.PLAIN_STEP 3 × HasGaps texts.BOXED_WHEEL.now 1 × Takes texts.BOXED_REFLECTOR 1 × Takes texts.RING 4
+    × HasGaps texts.DAY.now 1 × Takes texts.DAY_TITLED 1 × Takes texts.COMPARE_PIN 2 × HasGaps texts.STEP.now 2
+    × HasGaps texts.IDLE_STEP.now 2 × HasGaps texts.PLAIN_STEP.now 1 × HasGaps texts.BOX_WHEEL.now 3
+    × HasGaps texts.BOXED_WHEEL.now 1 × Takes texts.BOXED_REFLECTOR 1 × Takes texts.RING 4
     × Takes texts.SEAT 3 × Takes texts.BOX_RING 2 × HasGaps texts.SEAT_END.now 1 × Takes texts.SEAT_FROM 5
     × Takes texts.REFLECTOR 2 × HasGaps texts.PLUG.now 2 × HasGaps texts.PIN.now 3 × HasGaps texts.LUG.now 1
     × Takes texts.LUG_FROM 1 × Takes texts.LUG_END 2 × HasGaps texts.TURN.now 1 × Takes texts.WINDOW_BOX 3 × HasGaps texts.LETTER_BOX.now 1

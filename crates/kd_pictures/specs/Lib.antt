@@ -8,4 +8,5 @@ pub mod Sockets
 pub mod Wheels
 pub mod Board
 pub mod Plain
+pub mod SheetName
 pub mod Checked

@@ -5,12 +5,13 @@ ghost use Rattle.kd_pictures.specs.declared.numbers.TheConstants.{BARS, CABLES, 
 ghost use Rattle.kd_pictures.specs.Sockets.{LinesAreApart};
 ghost use Rattle.kd_pictures.specs.Checked.{TemplatesTakeTheirValues, WordsTellWhatToDo};
 ghost use Rattle.kd_pictures.specs.Plain.{ValuesArePlain};
+ghost use Rattle.kd_pictures.specs.SheetName.{SheetNamesArePlain};
 
-/// The values that a page takes from files have no markup: letters, numbers, and the names of models, wheels and
-/// reflectors.
-#[tactic(auto, using(crate::proofs::PlainValues::values_are_plain))]
+/// What a page takes from files has no markup: letters, numbers, and the names of models, wheels, reflectors and key sheets.
+#[tactic(auto, using(crate::proofs::PlainValues::values_are_plain, crate::proofs::PlainValues::names_are_plain))]
 pub fn values_are_plain()
-    ensures { ValuesArePlain }
+    ensures values { ValuesArePlain }
+    ensures names { SheetNamesArePlain }
 {}
 
 /// In both languages, each template takes the values that pages fill into it, and the words for what an operator does

@@ -8,6 +8,7 @@ pub mod fives;
 pub mod language;
 pub mod laws;
 pub mod numbers;
+pub mod sheet_name;
 mod sockets;
 pub mod template;
 pub mod texts;

@@ -107,7 +107,7 @@ main{padding:0;max-width:none}
 a{text-decoration:none}
 nav{display:none}
 .days{display:block;page-break-after:always;break-after:page}
-.days::before{content:attr(aria-label);font-size:1.5em;font-weight:700}
+.days p{font-size:1.5em;font-weight:700}
 .days li{display:block;margin:.3em 0}
 .days li::before{content:\"\";display:inline-block;width:1.1em;height:1.1em;border:2px solid;margin-right:.6em;vertical-align:-.15em}
 h1{font-size:1.5em}
@@ -127,11 +127,22 @@ label{padding-top:.08em;padding-bottom:.08em}
 .drum code{font-size:.6em}
 .wheels svg{width:100mm}
 .beside figure{flex-basis:54%}
+[id^=day]>section:nth-of-type(1) ul,[id^=day]>section:nth-of-type(5) ul{columns:2;column-gap:.5em}
+[id^=day]>section:nth-of-type(5) li code{font-size:.6em;margin-left:.2em}
+article:has(.idle){font-size:10.5pt}
+article:has(.idle) h2:not(.idle){margin-top:.25em;padding-top:.15em}
+article:has(.idle) .wheels svg{width:78mm}
+article:has(.idle) .beside figure{flex-basis:41%}
+article:has(.idle) .plugs label{padding:0}
+article:has(>section:first-of-type>.idle)>.wheels{float:left;margin-right:4mm}
+.wheels~section:nth-of-type(-n+2){display:flow-root}
+.wheels~section:nth-of-type(3){clear:left}
 article+article{page-break-before:always;break-before:page}
 h2{page-break-after:avoid;break-after:avoid}
-[id^=day]>section:last-child,figure,tr,li,pre,.beside,.pins tbody,.drum{page-break-inside:avoid;break-inside:avoid}
+[id^=day]>section:last-child{page-break-before:avoid;break-before:avoid}
+[id^=day]>section:last-child,[id^=day]>section:nth-last-child(2),figure,tr,li,pre,.beside,.pins tbody,.drum{page-break-inside:avoid;break-inside:avoid}
 }
-@page{margin:10mm 12mm}
+@page{margin:9mm 12mm}
 ";
 
 /// Further lines of the style sheet, for key tables and for messages.
@@ -206,18 +217,19 @@ pub const BODY: &str = "</style>\n<body>\n<main>\n";
 
 pub const FOOT: &str = "</main>\n";
 
-/// The title of a file with one day; its values are the model and the day. Then the title of a file with several days;
-/// its values are the model, the first day and the last day.
-pub const TITLE_DAY: Text = ("~, day ~", "~, Tag ~");
+/// The title of a day and of several days, before the name of the sheet: the model, and the first and the last day.
+pub const TITLE_DAY: Text = ("~, day ~, ", "~, Tag ~, ");
 
-pub const TITLE_DAYS: Text = ("~, days ~ to ~", "~, Tage ~ bis ~");
+pub const TITLE_DAYS: Text = ("~, days ~ to ~, ", "~, Tage ~ bis ~, ");
 
-/// The list of the days in a file with several days. The values of an item are the day, the day again, and the number
-/// of settings on this day.
+/// The list of the days in a file with several days: its beginning, before the title and after it; a day, and its number
+/// of settings.
 pub const NAV: Text = (
-    "<nav class=days aria-label=\"Days\">\n<ul>\n",
-    "<nav class=days aria-label=\"Tage\">\n<ul>\n",
+    "<nav class=days aria-label=\"Days\">\n<p>",
+    "<nav class=days aria-label=\"Tage\">\n<p>",
 );
+
+pub const NAV_LIST: &str = "</p>\n<ul>\n";
 
 pub const NAV_DAY: Text = (
     "<li><a href=\"#day-~\">Day ~</a>, ~\n",
@@ -233,11 +245,12 @@ pub const ONE_SETTING: Text = ("1 setting", "1 Handgriff");
 
 pub const SETTINGS: Text = (" settings", " Handgriffe");
 
-/// The head of a day. The values are the day, the model, the day again, and the number of settings. Then the words that
-/// say what to compare first on a Converter.
-pub const DAY: Text = (
-    "<article id=day-~>\n<header>\n<h1>~, day ~ <small>~</small></h1>\n<p class=fields><span>Machine</span><span>Date</span><span>Done by</span></p>\n<p>",
-    "<article id=day-~>\n<header>\n<h1>~, Tag ~ <small>~</small></h1>\n<p class=fields><span>Maschine</span><span>Datum</span><span>Ausgeführt von</span></p>\n<p>",
+/// The head of a day, before its title and after it: the day; the number of settings. Then what to compare first.
+pub const DAY: &str = "<article id=day-~>\n<header>\n<h1>";
+
+pub const DAY_TITLED: Text = (
+    " <small>~</small></h1>\n<p class=fields><span>Machine</span><span>Date</span><span>Done by</span></p>\n<p>",
+    " <small>~</small></h1>\n<p class=fields><span>Maschine</span><span>Datum</span><span>Ausgeführt von</span></p>\n<p>",
 );
 
 pub const COMPARE_PIN: Text = (
@@ -247,22 +260,15 @@ pub const COMPARE_PIN: Text = (
 
 pub const DAY_END: &str = "</article>\n";
 
-/// The head of a step. Its values are the step's title and number of settings, the model, and the day. Then the head of
-/// a step with nothing to do, and the head of a step without a number of settings.
-pub const STEP: Text = (
-    "<section>\n<h2>~ <small>~</small><span>~, day ~</span></h2>\n",
-    "<section>\n<h2>~ <small>~</small><span>~, Tag ~</span></h2>\n",
-);
+/// The head of a step, before the day's title and after it: the step's title, and its number of settings. Without a number;
+/// without anything to do.
+pub const STEP: &str = "<section>\n<h2>~ <small>~</small><span>";
 
-pub const IDLE_STEP: Text = (
-    "<section>\n<h2 class=idle>~ <small>~</small><span>~, day ~</span></h2>\n</section>\n",
-    "<section>\n<h2 class=idle>~ <small>~</small><span>~, Tag ~</span></h2>\n</section>\n",
-);
+pub const PLAIN_STEP: &str = "<section>\n<h2>~<span>";
 
-pub const PLAIN_STEP: Text = (
-    "<section>\n<h2>~<span>~, day ~</span></h2>\n",
-    "<section>\n<h2>~<span>~, Tag ~</span></h2>\n",
-);
+pub const STEP_TITLED: &str = "</span></h2>\n";
+
+pub const IDLE_STEP: &str = "<section>\n<h2 class=idle>~ <small>~</small></h2>\n</section>\n";
 
 pub const STEP_END: &str = "</section>\n";
 
@@ -283,7 +289,20 @@ pub const BOXED_REFLECTOR: Text = (" reflector <b>~</b>", " Umkehrwalze <b>~</b>
 
 pub const BOXED_END: &str = "</p>\n";
 
-/// A checkbox for a ring. The values are the wheel, the letter, the letter's number, and the setting's line.
+/// Wheels that come from the box, and where their rings stand: before the settings, and after the rings are set.
+pub const BOX_BEFORE: Text = (
+    "<p>Compare these rings in the box, too:",
+    "<p>Auch diese Ringe im Kasten vergleichen:",
+);
+
+pub const BOX_AFTER: Text = (
+    "<p>Rings of the wheels from the box, after this step:",
+    "<p>Ringe der Walzen aus dem Kasten nach diesem Schritt:",
+);
+
+pub const BOX_WHEEL: &str = " <b>~</b> (~\u{a0}~)";
+
+/// A box to tick, with the words for the hand and the setting's line.
 pub const RING: Text = (
     "<li><label><input type=checkbox> wheel <b>~</b>: set the ring to <b>~\u{a0}~</b> <code>~</code></label>\n",
     "<li><label><input type=checkbox> Walze <b>~</b>: Ring auf <b>~\u{a0}~</b> stellen <code>~</code></label>\n",

@@ -15,7 +15,7 @@ returns g c =
       _,
       record {
         pages = _ ++ rest.0;
-        are_pages = pages_next _ _ _ c.args.first.now c.args.others.now _ _ refl c.draw_plan-after.ensures.leads rest.1;
+        are_pages = pages_next _ _ _ _ c.args.first.now c.args.others.now _ _ refl c.draw_plan-after.ensures.leads rest.1;
         whole = refl;
       },
       joined (both (both c.draw_listed.ensures c.draw_plan-after.ensures.draws) rest.2) c.draw_foot.ensures

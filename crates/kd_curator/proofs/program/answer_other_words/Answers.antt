@@ -1,4 +1,4 @@
-use Rattle.std.proofs.Common.{inl, inr, refl}
+use Rattle.std.proofs.Common.{Err, ap, inl, inr, refl}
 use Rattle.kd_curator.specs.Program.{NoMemory, OtherWords, Shown}
 use Rattle.kd_curator.proofs.OutputFiles.{no_line_among}
 use Rattle.kd_curator.proofs.Runs.{device_so, only_device, stopped_so, told_so}
@@ -30,7 +30,7 @@ returns-in-Usage-clause-why g c = λ words none.
     let other = rw c.in-Usage.is at none in inr (inl other.0)
 
 pub returns-in-NoMemory-clause-carried : goal.returns-in-NoMemory-clause-carried
-returns-in-NoMemory-clause-carried g c = λ l words known none. NoMemory refl refl
+returns-in-NoMemory-clause-carried g c = λ l words known none. NoMemory refl (ap Err c.from.ensures)
 
 pub returns-in-NoMemory-clause-why : goal.returns-in-NoMemory-clause-why
-returns-in-NoMemory-clause-why g c = λ words none. inr (inr refl)
+returns-in-NoMemory-clause-why g c = λ words none. inr (inr (ap Err c.from.ensures))

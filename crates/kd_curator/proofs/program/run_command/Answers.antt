@@ -1,36 +1,51 @@
-use Rattle.kd_host.proofs.Failing.{err_is}
-use Rattle.kd_curator_command.specs.CommandLine.{unborrowed_command, with_texts}
+use Rattle.std.proofs.Common.{Bor, Err, List, ap, arith, length, refl, ℕ, ◌∙◌}
+use Rattle.std.proofs.lemmas.List.{length-map}
+use Rattle.kd_curator_command.specs.CommandLine.{unborrowed_command}
+use Rattle.kd_curator.specs.Files.{unborrowed_names}
 use Rattle.kd_curator.specs.Program.{Carried, FileUnread, NoNotes}
+use Rattle.kd_curator.specs.declared.stop.Stop.TheVariants as stops
+use Rattle.kd_curator.proofs.Reading.{reads_all}
 use Rattle.kd_curator.proofs.Runs.{device_so, left_alone, months_so, notes_so, stopped_so, told_so}
 use Rattle.kd_curator.proofs.program.run_command.Goals as goal
 
-pub carry_out-requires : goal.carry_out-requires
-carry_out-requires g c = months_so _ _ _ c.requires.meant.1 c.in_ok-command.ensures.alike
+pub carry_out-answer-requires-clause-month : goal.carry_out-answer-requires-clause-month
+carry_out-answer-requires-clause-month g c = months_so _ _ c.requires.meant.1
 
-pub returns-in_err-command-clause-carried : goal.returns-in_err-command-clause-carried
-returns-in_err-command-clause-carried g c =
-    λ words says. FileUnread (unborrowed_command c.args.command) says c.in_err-command.field-0.0
-    c.in_err-command.ensures.read (rw c.requires.asked at c.in_err-command.ensures.asked)
-    (err_is _ _ c.from_residual.ensures.1)
+pub returns-in-Err-clause-carried : goal.returns-in-Err-clause-carried
+returns-in-Err-clause-carried g c =
+    let named = ap unborrowed_names c.as_slice.ensures.value ∙ c.names_of-names.ensures in
+    λ words says. FileUnread (unborrowed_command c.args.command) says c.in-Err.fault c.len.result
+    c.refused_unread-refused.ensures.0
+    (reads_all _ _ _ _ _ c.new-contents.ensures named c.in-Err.ensures.read)
+    (rw (c.requires.asked, named) at c.in-Err.ensures.asked)
+    (omega (arith, c.in-Err.ensures.place refl, c.len.ensures.value))
+    (ap (λ refused. Err (stops.Refused refused)) c.refused_unread-refused.ensures.1)
 
-pub returns-in_err-command-clause-noted : goal.returns-in_err-command-clause-noted
-returns-in_err-command-clause-noted g c = λ words says. NoNotes (left_alone _ _)
+pub returns-in-Err-clause-noted : goal.returns-in-Err-clause-noted
+returns-in-Err-clause-noted g c = λ words says. NoNotes (left_alone _ _)
 
 pub returns-clause-carried : goal.returns-clause-carried
 returns-clause-carried g c =
-    λ words says. Carried (unborrowed_command c.args.command) says (with_texts c.in_ok-command.command)
-    c.in_ok-command.ensures.alike c.in_ok-command.ensures.read
-    (rw c.requires.asked at c.in_ok-command.ensures.asked)
-    (told_so _ _ _ c.carry_out.ensures.does c.of_answer.ensures)
+    let named = ap unborrowed_names c.as_slice.ensures.value ∙ c.names_of-names.ensures in
+    let given = ap length c.as_slice-2.ensures.value in
+    let fresh = ap length c.new-contents.ensures in
+    let mapped = length-map c.as_slice.result.now (λ (n : Bor (List ℕ)). n.now) in
+    let all = ap length named in
+    λ words says. Carried (unborrowed_command c.args.command) says _
+    (omega (arith, given, c.in_default.ensures.many, fresh, mapped, all))
+    (rw c.as_slice-2.ensures.value (reads_all _ _ _ _ _ c.new-contents.ensures named c.in_default.ensures.read))
+    (rw (c.requires.asked, named) at c.in_default.ensures.asked)
+    (told_so _ _ _ c.carry_out-answer.ensures.does c.of_answer.ensures)
 
 pub returns-clause-untouched : goal.returns-clause-untouched
 returns-clause-untouched g c =
-    λ stopped. stopped_so _ _ c.of_answer.ensures c.carry_out.ensures.untouched stopped
+    λ stopped. stopped_so _ _ c.of_answer.ensures c.carry_out-answer.ensures.untouched stopped
 
 pub returns-clause-failed : goal.returns-clause-failed
-returns-clause-failed g c = device_so _ _ _ _ c.of_answer.ensures c.carry_out.ensures.failed
+returns-clause-failed g c = device_so _ _ _ _ c.of_answer.ensures c.carry_out-answer.ensures.failed
 
 pub returns-clause-noted : goal.returns-clause-noted
 returns-clause-noted g c =
-    λ words says. notes_so _ _ _ _ _ says c.in_ok-command.ensures.alike
-    (rw c.requires.asked at c.in_ok-command.ensures.asked) c.carry_out.ensures.told
+    let named = ap unborrowed_names c.as_slice.ensures.value ∙ c.names_of-names.ensures in
+    λ words says. notes_so _ _ _ _ says (rw (c.requires.asked, named) at c.in_default.ensures.asked)
+    c.carry_out-answer.ensures.told

@@ -1,4 +1,5 @@
-use Rattle.std.proofs.Common.{[], ap, map, option_map, refl, sym, ◌∙◌, Bor, List, ℕ}
+use Rattle.std.proofs.Common.{[], ap, inl, inr, map, option_map, refl, sym, ◌∙◌, Bor, List, ℕ}
+use Rattle.kd_curator.specs.Files.{unborrowed_names}
 use Rattle.kd_curator.specs.OutputFile.{ToFile, ToSink}
 use Rattle.kd_curator.specs.Program.{NoNotes}
 use Rattle.kd_curator.proofs.OutputFiles.{other_carried}
@@ -9,8 +10,25 @@ pub returns-in-Some : goal.returns-in-Some
 returns-in-Some g c =
     let words = map g.S.AsStr.text c.args.words.now in
     let named = ap (option_map (λ (name : Bor (List ℕ)). name.now)) c.in-Some.is in
-    ToFile c.in-Some.name.now (sym c.in-Ok.ensures.output ∙ named) refl
+    ToFile c.in-Some.name.now (sym c.in-Ok.ensures.output ∙ named) _ c.in-Ok.ensures.said refl
     (c.run_to_file-status.ensures words c.in-Ok.ensures.said)
+
+pub returns-in-None : goal.returns-in-None
+returns-in-None g c =
+    let words = map g.S.AsStr.text c.args.words.now in
+    let none = ap (option_map (λ (name : Bor (List ℕ)). name.now)) c.in-None.is in
+    let run = c.run_gathering-answer.ensures words c.in-Ok.ensures.said in
+    let between = c.run_gathering-answer.new.errors in
+    ToSink (record {
+      left = run.0;
+      answer = c.run_gathering-answer.result.0;
+      told = g.E.Sink.taken between;
+      failed = g.E.Sink.has_failed between;
+      names = unborrowed_names c.as_slice.result.now;
+      is_so = (inl (sym c.in-Ok.ensures.output ∙ none), run.1);
+      named = inl (_, c.in-Ok.ensures.said, ap unborrowed_names c.as_slice.ensures.value ∙ c.names_of-names.ensures);
+      ends = c.end_program.ensures;
+    }) refl
 
 pub returns-in-Err : goal.returns-in-Err
 returns-in-Err g c =
@@ -24,6 +42,7 @@ returns-in-Err g c =
       answer = c.answer_other_words-answer.result;
       told = g.E.Sink.taken c.args.errors.now;
       failed = g.E.Sink.has_failed c.args.errors.now;
+      names = [];
       is_so = (
         other.why words c.in-Err.ensures.none,
         record {
@@ -35,5 +54,6 @@ returns-in-Err g c =
           noted = NoNotes (left_alone _ _);
         },
       );
+      named = inr other.nothing;
       ends = c.end_program-in-Err.ensures;
     }) refl

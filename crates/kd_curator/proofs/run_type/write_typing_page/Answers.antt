@@ -17,4 +17,4 @@ returns-in-Ok-clause-failed g c =
 
 pub returns-in-Err-clause-page : goal.returns-in-Err-clause-page
 returns-in-Err-clause-page g c =
-    rw c.from.ensures (NoPage (λ ready. cc (c.in-Err.ensures.ready.1 ready)) refl)
+    rw c.of_message.ensures (NoPage (λ ready. cc (c.in-Err.ensures.ready.1 ready)) refl)

@@ -1,0 +1,48 @@
+-- The files of a command: their names, and their bytes.
+-- Code: `read_contents` reads one file after another.
+-- Test: tests/cases/curator-pages.toml
+use Rattle.std.specs.Prelude.{ℕ, List, [], ◌∷◌, ◌++◌, Option, Result, Ok, get_or, map}
+use Rattle.std.specs.Borrow.{Bor}
+use Rattle.std.specs.Result.{result_map_both}
+use Rattle.kd_sheet.specs.Document.{◌>>=◌}
+use Rattle.kd_host.specs.Files.{content_of}
+use Rattle.kd_host.specs.declared.file_fault.FileFault.{FileFault}
+use Rattle.kd_curator_command.specs.CommandLine.{NamedCommand}
+use Rattle.kd_curator_command.specs.UpToThree.{list_of_three}
+use Rattle.kd_curator_command.specs.declared.command.Command.TheVariants as commands
+
+-- the names of a command's files, in the order in which they are read
+abbrev pub names_of : NamedCommand → List (List ℕ)
+names_of (commands.OnMachine machine sheet task) = machine ∷ sheet ∷ []
+names_of (commands.Message machine sheet message task) = machine ∷ sheet ∷ message ∷ []
+names_of (commands.TypingPage machine language) = machine ∷ []
+names_of (commands.Table sheet form language) = sheet ∷ []
+names_of (commands.Sheet table options) = table ∷ []
+names_of (commands.Look files) = list_of_three files
+names_of (commands.EmptySheet model days) = []
+
+-- the bytes of the files with these names, or the fault of the first file that can't be read
+abbrev pub contents_of : (List ℕ → Option (List ℕ)) → List (List ℕ) → Result (List (List ℕ)) FileFault
+contents_of held [] = Ok []
+contents_of held (name ∷ names) = do
+  bytes ← content_of (held name)
+  rest ← contents_of held names
+  Ok (bytes ∷ rest)
+
+-- the text at this place, counted from 0: the bytes of a file, or its name
+abbrev pub text_at : List (List ℕ) → ℕ → List ℕ
+text_at texts place = get_or texts place []
+
+-- the names, in place of the borrowed names
+abbrev pub unborrowed_names : List (Bor (List ℕ)) → List (List ℕ)
+unborrowed_names names = map (λ name. name.now) names
+
+-- ---- What inner functions read. No public contract cites these definitions.
+
+-- what was read, behind what had been read before
+abbrev pub behind : List (List ℕ) → Result (List (List ℕ)) FileFault → Result (List (List ℕ)) FileFault
+behind before read = result_map_both (λ texts. before ++ texts) (λ fault. fault) read
+
+-- these bytes, if all files could be read
+abbrev pub all_read : List (List ℕ) → Result (Unit {0}) FileFault → Result (List (List ℕ)) FileFault
+all_read texts answer = result_map_both (λ done. texts) (λ fault. fault) answer

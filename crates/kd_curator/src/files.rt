@@ -1,0 +1,148 @@
+//! The files of a command: their names, and their bytes.
+ghost use Rattle.std.specs.Prelude.{◌≡◌, ◌≤◌, ◌<◌, ◌+◌, ◌++◌, ◌∷◌, IfSome, IsErr, OnOk, is_ok, length};
+ghost use Rattle.arrayvec.specs.ArrayVec.{array_vec_len};
+ghost use Rattle.kd_tables.specs.Answers.{AgreesOrNoMemory};
+ghost use Rattle.kd_host.specs.Files.{AreAskedFor};
+ghost use Rattle.kd_curator_command.specs.CommandLine.{unborrowed_command};
+ghost use Rattle.kd_curator_command.specs.UpToThree.{list_of_option};
+ghost use Rattle.kd_curator.specs.Files.{all_read, behind, contents_of, names_of, text_at, unborrowed_names};
+
+use arrayvec::ArrayVec;
+use kd_curator_command::{Command, NamedCommand};
+use kd_host::{Content, FileFault, Files};
+use std::alloc::Global;
+use std::marker::Model;
+
+/// The most files that a command reads.
+const MOST: usize = 3;
+
+/// The names of a command's files, in the order in which they are read.
+pub(crate) type Names<'n> = ArrayVec<&'n str, MOST>;
+
+/// The bytes of files, in their order.
+pub(crate) type Contents = ArrayVec<FileBytes, MOST>;
+
+/// The bytes of a file. There are none before it is read.
+#[derive(Default, Drop)]
+pub(crate) struct FileBytes {
+    content: Option<Content>,
+}
+
+impl Model for FileBytes {
+    ghost use Rattle.std.specs.Prelude.{[], ℕ, List, unwrap_or};
+
+    ghost Value = { List ℕ };
+
+    ghost view = { λ file. unwrap_or file.content [] };
+}
+
+impl FileBytes {
+    /// Wraps the content of a file.
+    fn new(content: Content) -> Self
+        ensures { result ≡ content }
+    {
+        FileBytes {
+            content: Some(content),
+        }
+    }
+
+    /// All bytes of the file.
+    pub(crate) fn as_slice(&self) -> &[u8]
+        ensures { result.now ≡ self.now }
+    {
+        match &self.content {
+            Some(content) => content.as_slice(),
+            None => &[],
+        }
+    }
+}
+
+/// The names of the files of `command`.
+pub(crate) fn names_of<'n>(command: &NamedCommand<'n>) -> Names<'n>
+    ensures { unborrowed_names result.items ≡ names_of (unborrowed_command command.now) }
+{
+    match command {
+        Command::OnMachine { machine, sheet, .. } => listed(*machine, Some(*sheet), None),
+        Command::Message {
+            machine,
+            sheet,
+            message,
+            ..
+        } => listed(*machine, Some(*sheet), Some(*message)),
+        Command::TypingPage { machine, .. } => listed(*machine, None, None),
+        Command::Table { sheet, .. } => listed(*sheet, None, None),
+        Command::Sheet { table, .. } => listed(*table, None, None),
+        Command::Look { files, .. } => listed(files.first, files.second, files.third),
+        Command::EmptySheet { .. } => Names::new(),
+    }
+}
+
+/// One name, two or three, as a list.
+pub(crate) fn listed<'n>(
+    first: &'n str,
+    second: Option<&'n str>,
+    third: Option<&'n str>,
+) -> Names<'n>
+    ensures { result.items ≡ first.entry ∷ (list_of_option second.entry ++ list_of_option third.entry) }
+{
+    let mut names = Names::new();
+    names.push(first);
+    push_other(&mut names, second);
+    push_other(&mut names, third);
+    names
+}
+
+/// Appends another name, if there is one.
+fn push_other<'n>(names: &mut Names<'n>, name: Option<&'n str>)
+    requires { array_vec_len names.old < 3 }
+    ensures items { names.new.items ≡ names.old.items ++ list_of_option name.entry }
+    ensures len { array_vec_len names.new ≤ array_vec_len names.old + 1 }
+{
+    if let Some(name) = name {
+        names.push(name);
+    }
+}
+
+/// Reads the files with these names, one after another, and adds their bytes to `contents`.
+///
+/// After a fault, `contents` has the bytes of the files before the one that can't be read.
+pub(crate) fn read_contents<'n, F: Files<'n>>(
+    alloc: Global,
+    names: &[&'n str],
+    files: &mut F,
+    contents: &mut Contents,
+) -> Result<(), FileFault>
+    requires room { array_vec_len contents.old + length names.now ≤ 3 }
+    requires asked { length (F.asked files.old) ≡ array_vec_len contents.old }
+    ensures read { IfSome (F.known files.old) (λ held. AgreesOrNoMemory FileFault.NoMemory
+        (behind contents.old.items (contents_of held (unborrowed_names names.now)))
+        (all_read contents.new.items result)) }
+    ensures many { OnOk result (length contents.new.items ≡ length contents.old.items + length names.now) }
+    ensures asked { AreAskedFor (unborrowed_names names.now)
+        (F.asked files.old) (F.asked files.new) (is_ok result) }
+    ensures place { IsErr result → length (F.asked files.new) ≡ length contents.new.items + 1 }
+{
+    for name in names {
+        let content = files.read_content(alloc, *name)?;
+        contents.push(FileBytes::new(content));
+    }
+    Ok(())
+}
+
+/// The bytes of the file at this place.
+pub(crate) fn text_at(contents: &[FileBytes], place: usize) -> &[u8]
+    requires { place < length contents.now }
+    ensures { result.now ≡ text_at contents.now place }
+{
+    contents[place].as_slice()
+}
+
+/// The name of the file at this place; no text if there is no such file.
+pub(crate) fn name_at<'n>(names: &[&'n str], place: usize) -> &'n str
+    ensures { result.now ≡ text_at (unborrowed_names names.now) place }
+{
+    match names.get(place) {
+        Some(name) => *name,
+        None => "",
+    }
+}
