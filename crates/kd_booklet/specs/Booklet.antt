@@ -12,8 +12,8 @@ use Rattle.kd_state.specs.Setting.{Leads}
 use Rattle.kd_state.specs.TwoCiphers.{IsReady}
 use Rattle.kd_booklet.specs.declared.day_plan.DayPlan.{DayPlan}
 
--- The text is the pages of the days that are planned, of the key sheet in the file `sheet`. The first page is for machine
--- `m`; each later page is for the machine that the settings of the page before it lead to.
+-- The text has the pages of the planned days, and nothing else. `sheet` is the name of the key sheet's file. The first
+-- page is for machine `m`. Each later page is for the machine to which the settings of the previous page lead.
 abbrev pub ArePages : Language → List ℕ → Parts → List DayPlan → List ℕ → Type 0
 ArePages l sheet m [] text = text ≡ []
 ArePages l sheet m (plan ∷ plans) text = (n : Parts) × (more : List ℕ) × Leads m plan.settings.items n
@@ -23,7 +23,8 @@ ArePages l sheet m (plan ∷ plans) text = (n : Parts) × (more : List ℕ) × L
 abbrev pub listed_day : DayPlan → ListedDay
 listed_day plan = record { day = plan.day; settings = length plan.settings.items }
 
--- The text is the file with the pages of these days in language `l`: the list of the days, and then their pages.
+-- The text is the file with the pages of these days in language `l`: the list of the days, then the pages. `sheet` is
+-- the name of the key sheet's file. The first page is for machine `m`.
 pub record IsBooklet (l : Language) (sheet : List ℕ) (m : Parts) (first : DayPlan) (others : List DayPlan)
     (text : List ℕ) : Type 0 where
   pub pages : List ℕ

@@ -10,7 +10,7 @@ use Rattle.kd_curator.specs.Refusals.{refused_look, refused_whole}
 use Rattle.kd_curator.specs.declared.fault.PageFault.TheVariants.{FaultyFile}
 use Rattle.kd_curator.specs.declared.fault.Refused.{Refused}
 
--- the files with these names and bytes
+-- the list of files with these names and these bytes
 abbrev pub named_texts : List (List ℕ) → List (List ℕ) → List NamedText
 named_texts (name ∷ names) (bytes ∷ texts) = record { name = name; bytes = bytes } ∷ named_texts names texts
 named_texts [] texts = []

@@ -37,10 +37,14 @@ pub record IsRunToFile (l : Language) (words : List (List ℕ)) (known : Option 
   pub fresh : written.had_failed ≡ false
   pub run : IsRun l words known asked written (Unit {0}) errors left answer
 
--- How the program ends whose command line names the file `name` for its output. The command's files have the names
--- `names`. `before` and `after` are the files before and after the call. `NotBegun`: no new file could be made, and no file was read. `Published`: all was written
--- that the answer says, and the new file `name` has it. `Discarded`: the command was refused before all was written.
--- `Unwritten`: a write failed, or the file couldn't get its name. In all cases but `Published`, the files are as before.
+-- How the program ends if the command line names the output file `name`. `names` are the names of the command's files.
+-- `before` are all files before the call, `after` all files after the call.
+-- - `NotBegun`: no new file could be made, and no file was read.
+-- - `Published`: the whole output was written, and is in the new file `name`.
+-- - `Discarded`: the command stopped before the whole output was written, and no write failed.
+-- - `Unwritten`: a write failed, or the file couldn't get its name.
+--
+-- In all cases but `Published`, the files are as before.
 pub data EndsWithFile (l : Language) (words : List (List ℕ)) (known : Option (List ℕ → Option (List ℕ)))
     (asked : List AskedName) (before after : Option FilesByName) (name : List ℕ) (names : List (List ℕ)) (errors : Port)
     (status : ℕ) : Type 0 where

@@ -46,8 +46,8 @@ use Rattle.kd_curator.specs.declared.fault.Refused.{Refused}
 use Rattle.kd_curator.specs.declared.stop.Stop.{Stop}
 use Rattle.kd_curator.specs.declared.stop.Stop.TheVariants as stops
 
--- What a task writes from the bytes of a machine file and of a key sheet, whose file has this name. Its words are in
--- language `l`, unless the task has another.
+-- The task writes its output and gives this answer, if the machine file and the key sheet have these bytes. `name` is
+-- the name of the key sheet's file. Words are in language `l`, unless the task asks for another language.
 abbrev pub DoesTask : Language → Task → List ℕ → List ℕ → List ℕ → Port → Result (Unit {0}) Refused → Type 0
 DoesTask l (tasks.Page days chosen) name machine sheet sink answer = IsAnswerOnSheet machine sheet
     (λ m month. WritesPages (unwrap_or chosen l) name month m (wanted_days days (model_of m) month) sink answer) answer
@@ -66,8 +66,8 @@ abbrev pub WorksMessage : Language → MessageTask → List ℕ → List ℕ →
 WorksMessage l task machine sheet message sink answer = IsAnswerOnSheet machine sheet
     (λ m month. WritesMessage task.kind (unwrap_or task.language l) month m task.day message sink answer) answer
 
--- What a command writes from the bytes of its files, in their order. Its words are in language `l`, unless the command
--- has another.
+-- The command writes its output and gives this answer, if its files have the bytes `texts`, in the order of the files.
+-- Words are in language `l`, unless the command asks for another language.
 abbrev pub DoesCommand : Language → NamedCommand → List (List ℕ) → Port → Result (Unit {0}) Refused → Type 0
 DoesCommand l (commands.OnMachine machine sheet task) texts sink answer =
     DoesTask l task sheet (text_at texts 0) (text_at texts 1) sink answer
@@ -126,10 +126,13 @@ abbrev pub is_usage : Result (Unit {0}) Stop → Bool
 is_usage (Err (stops.Usage text)) = true
 is_usage _ = false
 
--- How a command line is carried out. `Carried`: its command was carried out, with the bytes `texts` of its files.
--- `FileUnread`: a file of the command couldn't be read, the last that was asked for, and the answer says so of the file at
--- this place. `Shown`: the words ask for help or for the version. `OtherWords`: the words mean no command.
--- `NoMemory`: memory ran out before a file was asked for.
+-- How a command line is carried out.
+-- - `Carried`: the line's command was carried out, with the bytes `texts` of its files.
+-- - `FileUnread`: a file of the command couldn't be read. It is the last file that was asked for, and the answer has a
+--   remark on it.
+-- - `Shown`: the words ask for help or for the version.
+-- - `OtherWords`: the words don't mean a command.
+-- - `NoMemory`: memory ran out before a file was asked for.
 pub data CarriesOut (l : Language) (words : List (List ℕ)) (known : Option (List ℕ → Option (List ℕ))) (asked : List AskedName)
     (sink : Port) (left : List ℕ) (answer : Result (Unit {0}) Stop) : Type 0 where
   Carried : (command : NamedCommand) → IsCommandLineOf words command → (texts : List (List ℕ))
@@ -204,14 +207,14 @@ at_first errors told failed = record errors { has = told; has_failed = failed }
 abbrev pub at_last : Port → Option (List ℕ) → Bool → Port
 at_last errors told failed = record errors { had = told; had_failed = failed }
 
--- The files of the command that the words mean have these names; or the answer says nothing of a file.
+-- `names` are the names of the files of the command that the words mean, or the answer has no remark on a file.
 abbrev pub AreNamesFor : List (List ℕ) → List (List ℕ) → Result (Unit {0}) Stop → Type 0
 AreNamesFor words names answer =
     ((command : NamedCommand) × IsCommandLineOf words command × (names ≡ names_of command)) ⊎ (blame_of answer ≡ None)
 
--- The program's answer satisfies `IsSo`, and the program ended with the text and the exit status for this answer.
--- `left` are the gathered bytes that the sink didn't take. `told` and `failed` are what standard error had taken when
--- the answer was known, and whether it had failed. `names` are those of the command's files.
+-- `IsSo` holds of the program's answer, and the program ends with the text and the exit status for this answer. The
+-- sink didn't take the gathered bytes `left`. When the answer was known, standard error had taken the bytes `told`, and
+-- `failed` says whether it had failed. `names` are the names of the command's files.
 pub record HasEnded (words : List (List ℕ)) (IsSo : Port → List ℕ → Result (Unit {0}) Stop → Type 0) (errors : Port)
     (status : ℕ) : Type 0 where
   pub left : List ℕ
@@ -225,7 +228,7 @@ pub record HasEnded (words : List (List ℕ)) (IsSo : Port → List ℕ → Resu
 
 -- ---- What inner functions require and tell. No public contract cites these definitions.
 
--- A sheet to fill in has at most 31 days.
+-- If the command writes a sheet to fill in, the sheet has at most 31 days.
 abbrev pub HasMonth : NamedCommand → Type 0
 HasMonth (commands.EmptySheet model days) = days ≤ 31
 HasMonth _ = Unit {0}
@@ -235,8 +238,9 @@ abbrev pub TellsOfMessage : MessageKind → Port → Type 0
 TellsOfMessage kinds.Order errors = IsLeftAlone errors
 TellsOfMessage kinds.Form errors = Tells errors
 
--- What a command tells on standard error, beside the reason of a refusal: `sheet` tells the columns that it doesn't read,
--- and a table's faults; `receive` tells what is wrong with a form. Other commands tell nothing.
+-- What was written to standard error before a refusal's text. The command `sheet` may have written notes on a table's
+-- unread columns and faults. The command `receive` may have written notes on a form. Any other command has written
+-- nothing.
 abbrev pub HasTold : NamedCommand → Port → Type 0
 HasTold (commands.Sheet table options) errors = Tells errors
 HasTold (commands.Message machine sheet message task) errors = TellsOfMessage task.kind errors

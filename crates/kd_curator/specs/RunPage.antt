@@ -43,8 +43,10 @@ pub record IsDayRefusal (model : Model) (month : List (Option Day)) (numbers : L
   pub first : IsFirstFault model month numbers fault
   pub told : refused ≡ day_refusal (nat_lt 1 (length numbers)) fault
 
--- There are no days; or the first day that can't be planned was refused. Or the pages of all days were written, with the
--- name of the sheet's file, or a prefix of them if the device failed.
+-- The cases of `run_page`, for the days `numbers`. `name` is the name of the key sheet's file.
+-- - `NoDays`: there are no days.
+-- - `NoPage`: a day can't be planned, and the first such day is refused.
+-- - `Pages`: the pages of all days were written. If the sink failed, only a prefix of the pages was written.
 pub data WritesPages (l : Language) (name : List ℕ) (month : List (Option Day)) (m : Parts) (numbers : List ℕ)
     (sink : Port) (answer : Result (Unit {0}) Refused) : Type 0 where
   NoDays : numbers ≡ [] → answer ≡ Err (refused_whole NoSuchDay) → WritesPages l name month m numbers sink answer

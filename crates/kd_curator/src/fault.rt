@@ -78,7 +78,7 @@ fn worded_text(words: &str) -> Text
 pub struct Refused {
     /// The day that has the fault, if several days were asked for.
     pub day: Option<u8>,
-    /// The file that the refusal is about, if it is about one.
+    /// The file that the refusal is about, if there is one.
     pub blame: Option<Blame>,
     pub fault: PageFault,
 }
@@ -95,7 +95,7 @@ impl Refused {
         }
     }
 
-    /// The refusal for a fault of the file at this place among the command's files.
+    /// The refusal for this fault, with a remark on the file at this place among the command's files.
     pub(crate) fn of_file(fault: PageFault, place: usize, remark: Remark) -> Refused
         ensures { result ≡ refused_in place remark fault }
     {
@@ -118,7 +118,8 @@ impl Refused {
     }
 }
 
-/// The file that has this fault: the machine file or the order, a command's first file or its third.
+/// The remark on the file that has this fault: on the machine file, which is the command's first file, or on the order,
+/// which is the third. `None` if memory ran out.
 fn message_blame(fault: FormFault) -> Option<Blame>
     ensures { result ≡ message_blame fault }
 {

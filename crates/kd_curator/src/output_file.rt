@@ -1,4 +1,4 @@
-//! The file that the option `-o` names: why it isn't written.
+//! The output file that the option `-o` names. If the file isn't written, the program says why.
 ghost use Rattle.std.specs.Prelude.{◌≡◌};
 ghost use Rattle.kd_tables.specs.Ports.{port};
 ghost use Rattle.kd_host.specs.Ending.{EndsWithLine};

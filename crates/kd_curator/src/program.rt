@@ -1,4 +1,4 @@
-//! The program: reads the command line and the files, and carries the command out.
+//! The program: reads the command line and the files, and carries out the command.
 ghost use Rattle.std.specs.Prelude.{◌≡◌, ◌||◌, [], ℕ, List, false, true, length, map, IsErr, IsTrue};
 ghost use Rattle.std.specs.Prelude.{Option, None, Some};
 ghost use Rattle.std.specs.Io.KnownBytes.{Keeps, append_known};
@@ -44,11 +44,12 @@ use std::convert::AsStr;
 /// Carries out the command line `words`, which begins with the program's own name. Pages and tables are in `language`,
 /// unless the words ask for another language.
 ///
-/// Returns the exit status and the sink. The status is 0 for success, 2 for other words than a command's, and 1 for a
-/// refusal. With status 1 or 2, a text that says why is written to `errors`; if it is about a file, it ends with the
-/// file's name, as the words have it. The command `sheet` tells there a table's faults, and the columns that it doesn't
-/// read, too, and `receive` what is wrong with a form. Each file is read once, in the order of the command line. If a file
-/// can't be read, `new_files` are asked why, no later file is asked for, and nothing is written to `sink`.
+/// Returns the exit status and the sink. The status is 0 for success, 2 if the words don't mean a command, and 1 for a
+/// refusal. With status 1 or 2, a text that says why is written to `errors`. If the text is about a file, it ends with
+/// the file's name, as the words have it. Notes may stand before this text: the command `sheet` writes notes on a
+/// table's faults and unread columns, and the command `receive` on what is wrong with a form. Each file is read once,
+/// in the order of the command line. If a file can't be read, `new_files` is asked why, no later file is asked for, and
+/// nothing is written to `sink`.
 ///
 /// If the words name an output file, nothing is written to `sink`. The output goes to a new file in `new_files`. The
 /// new file gets the output file's name exactly if the whole output was written.
@@ -146,7 +147,7 @@ fn end_file<N: NewFiles>(
     }
 }
 
-/// Carries `command` out, and gathers what is written before it is passed on to `sink`.
+/// Carries out `command`. The command's output is gathered before it is passed on to `sink`.
 fn run_gathering<'n, F: Files<'n>, N: NewFiles, W: Sink + Drop, E: Sink>(
     alloc: Global,
     language: Language,
@@ -177,7 +178,7 @@ fn run_gathering<'n, F: Files<'n>, N: NewFiles, W: Sink + Drop, E: Sink>(
     (answer, gathering.into_sink())
 }
 
-/// Reads the files that `command` names, and carries it out.
+/// Reads the files of `command`, and carries out the command.
 fn run_command<'n, F: Files<'n>, N: NewFiles, W: Sink, E: Sink>(
     alloc: Global,
     language: Language,
@@ -207,7 +208,7 @@ fn run_command<'n, F: Files<'n>, N: NewFiles, W: Sink, E: Sink>(
     Stop::of_answer(answer)
 }
 
-/// The refusal for the file at this place among `names`, which can't be read.
+/// The refusal for the file at this place among `names`, which couldn't be read. The folders say why.
 fn refused_unread<N: NewFiles>(
     names: &[&str],
     place: usize,
@@ -245,7 +246,7 @@ fn answer_other_words<W: Sink>(none: NoCommand, sink: &mut W) -> Result<(), Stop
     }
 }
 
-/// Carries out `command`, whose files have these contents.
+/// Carries out `command`, if its files have these contents.
 fn carry_out<W: Sink, E: Sink>(
     alloc: Global,
     language: Language,
@@ -310,7 +311,8 @@ fn carry_out<W: Sink, E: Sink>(
     }
 }
 
-/// Does `task` with the machine in the file `machine` and the key sheet `sheet`, whose file is called `name`.
+/// Carries out `task` with the machine in the file `machine` and the key sheet `sheet`. `name` is the name of the key
+/// sheet's file.
 fn do_task<W: Sink>(
     alloc: Global,
     language: Language,

@@ -139,7 +139,7 @@ curator_grammar = record {
 abbrev pub NamedCommand : Type 0
 NamedCommand = Command (List ℕ)
 
--- the command, with its borrowed texts replaced by the texts themselves
+-- the command, with plain texts in place of borrowed texts
 abbrev pub unborrowed_command : Command (Bor (List ℕ)) → NamedCommand
 unborrowed_command (commands.OnMachine machine sheet task) = commands.OnMachine machine.now sheet.now task
 unborrowed_command (commands.Message machine sheet message task) =
@@ -150,7 +150,7 @@ unborrowed_command (commands.Sheet table options) = commands.Sheet table.now (te
 unborrowed_command (commands.Look files) = commands.Look (unborrowed_three files)
 unborrowed_command (commands.EmptySheet model days) = commands.EmptySheet model days
 
--- The argument DAYS, which `page` may lack, names these days.
+-- The argument DAYS names these days. `None` means that the argument isn't given.
 abbrev pub HasDays : List Row → Option (List ℕ) → Type 0
 HasDays rows None = first_of (codes "DAYS") rows ≡ None
 HasDays rows (Some days) =
@@ -265,7 +265,7 @@ pub record IsEmptySheetOf (said : List ℕ × List Row) (model : Model) (days : 
   pub month : IsMonthNamed model_word days_word model days
   pub alone : are_blank (option_texts said.1) ≡ true
 
--- They mean the command `look`, with these files.
+-- `said` means the command `look`, with these files.
 pub record IsLookOf (said : List ℕ × List Row) (files : UpToThree (List ℕ)) : Type 0 where
   pub name : said.0 ≡ codes "look"
   pub first : first_of (codes "FILE") said.1 ≡ Some files.first

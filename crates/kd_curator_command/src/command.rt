@@ -39,16 +39,16 @@ const NO_LANGUAGE: &str = "--in takes de or en";
 /// The error for an argument DAYS that doesn't name days.
 const NO_DAYS: &str = "days are numbers from 1 to 31, each once, such as 2, 1-31 or 1,4,2";
 
-/// A command, with the names of its files and the texts of its options.
+/// A command, with the names of its files and the texts of its options. `T` is the type of these names and texts.
 #[derive(Drop)]
 pub enum Command<T> {
-    /// Writes how a machine is set to days of a key sheet.
+    /// Writes how to set a machine to days of a key sheet.
     OnMachine {
         /// The machine file.
         machine: T,
         /// The key sheet.
         sheet: T,
-        /// What is written.
+        /// What to write: pages, or a list of settings.
         task: Task,
     },
     /// Writes how to encipher or decipher a message by hand.
@@ -59,21 +59,21 @@ pub enum Command<T> {
         sheet: T,
         /// The order or the form.
         message: T,
-        /// What is written.
+        /// The kind of the message, its day, and the language of the page.
         task: MessageTask,
     },
     /// Writes a page with which to type on a machine.
     TypingPage {
         /// The machine file.
         machine: T,
-        /// The language of the page, if the words say it.
+        /// The language of the page; `None` if the words name none.
         language: Option<Language>,
     },
     /// Writes a key sheet as printed tables.
     Table {
         /// The key sheet.
         sheet: T,
-        /// The form in which it is written.
+        /// The form of the tables.
         form: TableForm,
         /// The language of the tables; `None` if the words name none.
         language: Option<Language>,
@@ -82,7 +82,7 @@ pub enum Command<T> {
     Sheet {
         /// The table.
         table: T,
-        /// What is used where the table says nothing.
+        /// The texts for cells that are blank or missing in the table.
         options: TableOptions<T>,
     },
     /// Describes machine files and key sheets in words, or names their faults.
@@ -130,7 +130,7 @@ pub enum MessageKind {
     Form,
 }
 
-/// A command with borrowed texts.
+/// A command whose names and texts are borrowed from the command line.
 pub type NamedCommand<'a> = Command<&'a str>;
 
 /// A command, and the file for its output.

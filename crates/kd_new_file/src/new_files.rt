@@ -1,4 +1,4 @@
-//! `NewFiles`: a trait for making files in folders, and for looking at what is there.
+//! `NewFiles`: a trait for making files in folders, and for asking why a file can't be read.
 ghost use Rattle.std.specs.Prelude.{◌≡◌, ◌↔◌, [], false, List, ℕ, Option, None, Some, IfOk, IfSome, IsSome, Err, OnErr};
 ghost use Rattle.std.specs.Option.{option_map};
 ghost use Rattle.kd_new_file.specs.NewFiles.{AddsFile, FilesByName, with_content};
@@ -7,7 +7,7 @@ use crate::new_file_fault::NewFileFault;
 use crate::why_unread::WhyUnread;
 use kd_tables::Sink;
 
-/// Folders in which files are made, named, removed, and looked at.
+/// Folders in which files are made, named, and removed. They also say why a file can't be read.
 pub trait NewFiles {
     /// A file that is being written.
     type Written: Sink + Drop;
@@ -42,6 +42,6 @@ pub trait NewFiles {
     fn remove(&mut self, name: &str)
         ensures { held self.new ≡ option_map (λ files. with_content files name.now None) (held self.old) };
 
-    /// Says why the file `name` couldn't be read. No contract says which reason a folder gives.
+    /// The reason why the file `name` can't be read. No contract says which reason a folder gives.
     fn why_unread(&self, name: &str) -> WhyUnread;
 }

@@ -17,7 +17,7 @@ use Rattle.kd_page.specs.WheelSteps.{rings_in_box, rings_step, seats_step}
 use Rattle.kd_page.specs.Windows.{letters_step, windows_step}
 use Rattle.kd_pictures.specs.Words.{is_converter, mark_text}
 
--- the head of the day
+-- the head of the day: the page's title, and the number of settings
 unfoldable pub day_head : Page → List ℕ
 day_head page =
     filled texts.DAY.now (decimal page.day ∷ []) ++ page_title page
@@ -30,7 +30,7 @@ wheels_text page =
     if length page.settings == 0 then one_band page.language page.after
     else both_bands page.language page.before page.after
 
--- the pictures, and the rings in the box before the settings; then the steps
+-- the pictures, the rings in the box before the settings, and the steps
 unfoldable pub rotor_text : Page → List ℕ
 rotor_text page =
     wheels_text page ++ rings_in_box page (text_in page.language texts.BOX_BEFORE) page.before

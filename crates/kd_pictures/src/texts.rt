@@ -217,13 +217,14 @@ pub const BODY: &str = "</style>\n<body>\n<main>\n";
 
 pub const FOOT: &str = "</main>\n";
 
-/// The title of a day and of several days, before the name of the sheet: the model, and the first and the last day.
+/// The title of a day; its values are the model and the day. Then the title of several days; its values are the model,
+/// the first day and the last day. The name of the key sheet stands after either title.
 pub const TITLE_DAY: Text = ("~, day ~, ", "~, Tag ~, ");
 
 pub const TITLE_DAYS: Text = ("~, days ~ to ~, ", "~, Tage ~ bis ~, ");
 
-/// The list of the days in a file with several days: its beginning, before the title and after it; a day, and its number
-/// of settings.
+/// The list of the days in a file with several days. The file's title stands between the first two texts. The values of
+/// an item are the day, the day again, and the number of settings on this day.
 pub const NAV: Text = (
     "<nav class=days aria-label=\"Days\">\n<p>",
     "<nav class=days aria-label=\"Tage\">\n<p>",
@@ -245,7 +246,8 @@ pub const ONE_SETTING: Text = ("1 setting", "1 Handgriff");
 
 pub const SETTINGS: Text = (" settings", " Handgriffe");
 
-/// The head of a day, before its title and after it: the day; the number of settings. Then what to compare first.
+/// The head of a day. The page's title stands between the first two texts; their values are the day, and the number of
+/// settings. Then the words that say what to compare first on a Converter.
 pub const DAY: &str = "<article id=day-~>\n<header>\n<h1>";
 
 pub const DAY_TITLED: Text = (
@@ -260,8 +262,8 @@ pub const COMPARE_PIN: Text = (
 
 pub const DAY_END: &str = "</article>\n";
 
-/// The head of a step, before the day's title and after it: the step's title, and its number of settings. Without a number;
-/// without anything to do.
+/// The head of a step, whose values are the step's title and its number of settings. Then the head of a step without a
+/// number of settings. The page's title stands after either head. Last, a step with nothing to do.
 pub const STEP: &str = "<section>\n<h2>~ <small>~</small><span>";
 
 pub const PLAIN_STEP: &str = "<section>\n<h2>~<span>";
@@ -289,7 +291,8 @@ pub const BOXED_REFLECTOR: Text = (" reflector <b>~</b>", " Umkehrwalze <b>~</b>
 
 pub const BOXED_END: &str = "</p>\n";
 
-/// Wheels that come from the box, and where their rings stand: before the settings, and after the rings are set.
+/// The words before the wheels that come from the box, each with its ring. The first words are for the rings before the
+/// settings, the second words for the rings once they are set. Then the text for a wheel.
 pub const BOX_BEFORE: Text = (
     "<p>Compare these rings in the box, too:",
     "<p>Auch diese Ringe im Kasten vergleichen:",
@@ -302,7 +305,7 @@ pub const BOX_AFTER: Text = (
 
 pub const BOX_WHEEL: &str = " <b>~</b> (~\u{a0}~)";
 
-/// A box to tick, with the words for the hand and the setting's line.
+/// A checkbox for a ring. The values are the wheel, the letter, the letter's number, and the setting's line.
 pub const RING: Text = (
     "<li><label><input type=checkbox> wheel <b>~</b>: set the ring to <b>~\u{a0}~</b> <code>~</code></label>\n",
     "<li><label><input type=checkbox> Walze <b>~</b>: Ring auf <b>~\u{a0}~</b> stellen <code>~</code></label>\n",
