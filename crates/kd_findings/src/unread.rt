@@ -5,9 +5,10 @@ ghost use Rattle.kd_findings.specs.Unread.{day_keys, file_keys, unread_in, unrea
 ghost use Rattle.kd_findings.specs.Unread.{top_keys, unread_keys, unread_of};
 
 use crate::judging::{entries_of, is_machine_file};
-use crate::key_names::{is_known, is_near, meant_key};
+use crate::key_names::{is_known, meant_key};
 use kd_sheet::Key;
 use kd_sheet::by_key::{model_in, number_at};
+use kd_slips::near_names::is_near;
 use kd_tables::Model;
 use std::alloc::{AllocError, Global};
 use toml::{Table, Value};
@@ -138,7 +139,7 @@ pub enum Meant {
 
 /// The thing that may have been meant by the key `name` with the value `value`. `keys` are the known keys of its table.
 fn meant_by(keys: &[Key], name: &str, value: &Value) -> Meant {
-    if (value.is_table() || value.is_array()) && is_near(name.as_bytes(), b"day") {
+    if (value.is_table() || value.is_array()) && is_near(1, name.as_bytes(), b"day") {
         return Meant::Entries;
     }
     match meant_key(keys, name) {

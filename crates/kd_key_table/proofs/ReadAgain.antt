@@ -23,7 +23,7 @@ use Rattle.kd_table.specs.Table.{AreDaysOfRows, AreRows, DayRow, IsRefusedTable,
 use Rattle.kd_key_table.proofs.PinRows.{pin_cells, pin_line_is, pin_plain, pin_row, pin_seen}
 use Rattle.kd_key_table.proofs.PlainCells.{IsPlainRow, line, lines, lines_may_end, rows_are}
 use Rattle.kd_key_table.proofs.RotorRows.{rotor_cells, rotor_line_is, rotor_plain, rotor_row, rotor_seen}
-use Rattle.kd_key_table.proofs.TableHead.{columns_are, head_cells, head_is, head_plain, table_columns}
+use Rattle.kd_key_table.proofs.TableHead.{columns_are, head_cells, head_is, head_plain, table_columns, well_named}
 unfoldable use Rattle.kd_key_table.specs.CsvTable.{csv_text, has_lists}
 use Rattle.kd_key_table.specs.CsvTable.{day_line, head_line}
 unfoldable use Rattle.kd_key_table.specs.Days.{has_day_of}
@@ -316,6 +316,7 @@ module _ (options : OptionTexts) (month : List (Option Day)) (read : IsRead mont
         head = head_cells (has_lists month);
         rows = body;
         are = are_rows;
+        named = well_named (has_lists month);
         described = all_described;
         some = some;
       } in

@@ -2,7 +2,9 @@
 use Rattle.std.proofs.Common.{◌≡◌, ◌++◌, ◌∷◌, [], ℕ, Bool, true, false, List, Option, Some, None, refl}
 use Rattle.std.specs.Prelude.{codes, if◌then◌else◌}
 unfoldable use Rattle.csv.specs.Records.{field_at}
+unfoldable use Rattle.kd_slips.specs.NearNames.{is_near}
 unfoldable use Rattle.kd_table.specs.Columns.{columns_of}
+unfoldable use Rattle.kd_table.specs.NearNames.{is_misnamed}
 use Rattle.kd_table.specs.declared.columns.Columns.{Columns}
 use Rattle.kd_key_table.proofs.PlainCells.{IsPlainRow, line}
 use Rattle.kd_key_table.specs.CsvTable.{head_line}
@@ -55,3 +57,9 @@ pub columns_are : (has_lists : Bool) → columns_of (head_cells has_lists) ≡ t
 unfolding columns_of field_at
 columns_are false = refl
 columns_are true = refl
+
+-- no column is misnamed
+pub well_named : (has_lists : Bool) → is_misnamed (columns_of (head_cells has_lists)) (head_cells has_lists) ≡ false
+unfolding columns_of field_at is_misnamed is_near
+well_named false = refl
+well_named true = refl

@@ -3,6 +3,7 @@ pub mod File
 pub mod Line
 pub mod Look
 pub mod MachineWords
+pub mod MissingDays
 pub mod Report
 pub mod SheetWords
 pub mod Texts

@@ -1,10 +1,12 @@
 -- The report that `look_at` writes on files, and the answer of `look_at`: the first fault of all files.
 -- Test: tests/cases/curator-look.toml
-use Rattle.std.specs.Prelude.{◌≡◌, ◌⊎◌, ℕ, ◌++◌, List, [], ◌∷◌, Bool, false, true, Result, Err, OnErr, IfOk}
+use Rattle.std.specs.Prelude.{◌≡◌, ◌⊎◌, ℕ, ◌++◌, List, [], ◌∷◌, map, Bool, false, true, Result, Err, OnErr, IfOk}
+use Rattle.std.specs.Result.{result_ok}
 use Rattle.kd_tables.specs.Ports.{Port}
 use Rattle.kd_tables.specs.Writing.{Writes}
 use Rattle.kd_findings.specs.Texts.{BeginsWith}
 use Rattle.kd_look.specs.File.{file_of}
+use Rattle.kd_look.specs.MissingDays.{KnownFile, missing_words}
 use Rattle.kd_look.specs.Report.{IsReport, outcome_of}
 use Rattle.kd_look.specs.declared.looking.NamedFile.{NamedFile}
 use Rattle.kd_look.specs.declared.looking.LookFault.{LookFault}
@@ -36,12 +38,15 @@ abbrev pub AreReports : List NamedText → List ℕ → Type 0
 AreReports [] text = text ≡ []
 AreReports (file ∷ rest) text = BeginsWith (IsReport file.name file.bytes) (λ others. AreReports rest others) text
 
--- The text has a report on each file. Warnings that concern several files may stand after the reports.
+-- the file's name, and what the file says
+abbrev pub known_text : NamedText → KnownFile
+known_text file = record { name = file.name; file = result_ok (file_of file.bytes) }
+
+-- The text has a report on each of the files, and then the warnings on machines for which no sheet has a day.
 pub record IsWholeReport (files : List NamedText) (text : List ℕ) : Type 0 where
   pub reports : List ℕ
-  pub warnings : List ℕ
   pub made : AreReports files reports
-  pub whole : text ≡ reports ++ warnings
+  pub whole : text ≡ reports ++ missing_words (map known_text files)
 
 -- whether the answer is `Device`, the fault of a sink that failed
 abbrev pub is_device : Result Outcome LookFault → Bool

@@ -6,7 +6,7 @@ use Rattle.kd_look.specs.FaultWords.{NamesFault}
 use Rattle.kd_look.specs.File.{file_of}
 use Rattle.kd_look.specs.MachineWords.{machine_words}
 use Rattle.kd_look.specs.SheetWords.{sheet_words}
-use Rattle.kd_look.specs.Warnings.{AreKeyWarnings, WarnsOfDays}
+use Rattle.kd_look.specs.Warnings.{AreKeyWarnings, WarnsOfFile}
 use Rattle.kd_look.specs.declared.file.File.{File}
 use Rattle.kd_look.specs.declared.file.File.TheVariants as files
 use Rattle.kd_look.specs.declared.outcome.Outcome.{Outcome}
@@ -22,13 +22,12 @@ unfoldable pub file_words : List ℕ → File → List ℕ
 file_words name (files.Machine machine) = name ++ codes ": a machine file without a fault\n" ++ machine_words machine
 file_words name (files.Sheet month) = name ++ codes ": a key sheet without a fault\n" ++ sheet_words month
 
--- The text has the words for the file's content, the warnings about the file's keys, and then warnings about days, if
--- there are any.
+-- The text has the words for what the file says, the warnings of its keys, and then the warnings of its days.
 pub record Describes (name bytes : List ℕ) (file : File) (text : List ℕ) : Type 0 where
   pub keys : List ℕ
   pub days : List ℕ
   pub warn : AreKeyWarnings name bytes keys
-  pub of_days : WarnsOfDays name days
+  pub of_days : WarnsOfFile name file days
   pub whole : text ≡ file_words name file ++ (keys ++ days)
 
 -- If the file has no fault, the text has the words for the file's content. Otherwise the text has the lines that name

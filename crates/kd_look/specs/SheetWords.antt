@@ -3,7 +3,7 @@
 -- Test: tests/cases/curator-look.toml
 use Rattle.std.specs.Prelude.{codes, ℕ, ◌+◌, ◌-◌, ◌==◌, ◌++◌, Bool, false, List, [], length, Option, decimal}
 use Rattle.std.specs.Prelude.{if◌then◌else◌}
-use Rattle.std.specs.List.{flat_map, range_with_len}
+use Rattle.std.specs.List.{flat_map, list_any, range_with_len}
 use Rattle.std.specs.Option.{option_map_or}
 use Rattle.kd_tables.specs.Tables.{model_text}
 use Rattle.kd_tables.specs.contracts.model.ModelPartialEq.TheImpl as model_eq
@@ -45,7 +45,11 @@ sort_words month title sort = flat_map (numbered_day_words month title sort) (ra
 abbrev pub model_words : List (Option Day) → Model → List ℕ
 model_words month model = sort_words month (model_text model) (sorts.Of model)
 
--- the words for a key sheet: the days of each model, and the days without groups
+-- whether the sheet has a day for the model
+abbrev pub has_model : List (Option Day) → Model → Bool
+has_model month model = list_any (has_day month (sorts.Of model)) (range_with_len 1 31)
+
+-- what a key sheet says: for each model its days, and the days without groups
 unfoldable pub sheet_words : List (Option Day) → List ℕ
 sheet_words month =
     model_words month EnigmaI ++ model_words month M3 ++ model_words month M4 ++ model_words month M209

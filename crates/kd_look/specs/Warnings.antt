@@ -1,9 +1,17 @@
 -- The warnings about a file: about a byte order mark, about the file's keys, and about a key sheet's days.
 -- Test: tests/cases/curator-look.toml
-use Rattle.std.specs.Prelude.{codes, ◌≡◌, ℕ, ◌++◌, ◌==◌, ◌&&◌, Bool, List, [], MatchResult, slice_index, if◌then◌else◌}
+use Rattle.std.specs.Prelude.{codes, ◌≡◌, ℕ, ◌++◌, ◌∷◌, ◌==◌, ◌&&◌, Bool, List, [], MatchResult, Option, flat_map, slice_index, if◌then◌else◌}
+use Rattle.std.specs.List.{range_with_len}
+use Rattle.std.specs.Option.{option_map_or}
+use Rattle.kd_state.specs.SheetDay.{Day}
 use Rattle.kd_sheet.specs.Document.{document_of}
+use Rattle.kd_sheet.specs.Sheet.{day_of}
+use Rattle.kd_slips.specs.Counts.{counts_of, few_lines}
+use Rattle.kd_slips.specs.declared.counts.DayCounts.{DayCounts}
 use Rattle.kd_findings.specs.Texts.{ArePieces, IsInOneLine}
 use Rattle.kd_findings.specs.Warnings.{AreWarnings}
+use Rattle.kd_look.specs.declared.file.File.{File}
+use Rattle.kd_look.specs.declared.file.File.TheVariants as files
 
 -- whether the bytes begin with the byte order mark of UTF-8
 unfoldable pub has_mark : List ℕ → Bool
@@ -34,3 +42,26 @@ pub record IsDayLine (name words text : List ℕ) : Type 0 where
 pub record WarnsOfDays (name text : List ℕ) : Type 0 where
   pub words : List (List ℕ)
   pub are : ArePieces (IsDayLine name) words text
+
+-- how many pairs and groups day `number` has, if the sheet has this day
+abbrev pub counts_on : List (Option Day) → ℕ → List DayCounts
+counts_on month number = option_map_or (λ day. counts_of day ∷ []) (day_of month number) []
+
+-- how many pairs and groups the days of a sheet have, in the order of their numbers
+abbrev pub counts_in : List (Option Day) → List DayCounts
+counts_in month = flat_map (counts_on month) (range_with_len 1 31)
+
+-- the warnings of days that have fewer pairs, or fewer groups, than another day of their model
+unfoldable pub few_day_words : List ℕ → List (Option Day) → List ℕ
+few_day_words name month = few_lines (name ++ codes ": warning: ") (counts_in month)
+
+-- The text warns of the days of a sheet: of days that are alike, and of those with fewer pairs or groups than others.
+pub record WarnsOfMonth (name : List ℕ) (month : List (Option Day)) (text : List ℕ) : Type 0 where
+  pub alike : List ℕ
+  pub of_alike : WarnsOfDays name alike
+  pub whole : text ≡ alike ++ few_day_words name month
+
+-- The text warns of the days of a file, if the file is a key sheet.
+abbrev pub WarnsOfFile : List ℕ → File → List ℕ → Type 0
+WarnsOfFile name (files.Machine machine) text = text ≡ []
+WarnsOfFile name (files.Sheet month) text = WarnsOfMonth name month text

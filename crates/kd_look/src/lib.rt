@@ -4,7 +4,7 @@
 mod alike;
 mod day_lines;
 mod fault_words;
-mod few_pairs;
+mod few_days;
 mod file;
 mod line;
 mod looking;

@@ -1,14 +1,15 @@
-//! `look_at`: describes files in words, or names their faults.
-ghost use Rattle.std.specs.Prelude.{◌≡◌, ◌||◌, map, Err, IfOk, OnOk};
+//! `look_at`: says in words what files say, or what is wrong with them.
+ghost use Rattle.std.specs.Prelude.{◌≡◌, ◌||◌, ◌++◌, ◌∷◌, [], map, Err, IfOk, OnOk};
 ghost use Rattle.std.specs.String.{string_bytes};
 ghost use Rattle.kd_tables.specs.Ports.{port};
 ghost use Rattle.kd_look.specs.File.{file_of};
 ghost use Rattle.kd_findings.specs.Texts.{AppendsText};
 ghost use Rattle.kd_look.specs.Look.{AreReports, IsLookAnswer, IsWholeReport};
-ghost use Rattle.kd_look.specs.Look.{is_device, named_text, outcome_of_all};
+ghost use Rattle.kd_look.specs.Look.{is_device, known_text, named_text, outcome_of_all};
+ghost use Rattle.kd_look.specs.MissingDays.{known_of};
 ghost use Rattle.kd_look.specs.Report.{IsReport, outcome_of};
 
-use crate::missing_days::{FileSummary, missing_day_warnings};
+use crate::missing_days::{ReadFile, missing_day_warnings};
 use crate::outcome::Outcome;
 use crate::report::{Report, make_report};
 use kd_tables::{Device, Sink, put_all};
@@ -54,45 +55,49 @@ impl From<Device> for LookFault {
     }
 }
 
-/// Appends the report on `file`, and records the models in the file.
+/// Appends the report on `file`, and what the file says to `known`.
 fn push_report<'f>(
     text: &mut String,
-    summaries: &mut Vec<FileSummary<'f>>,
+    known: &mut Vec<ReadFile<'f>>,
     alloc: Global,
     file: NamedFile<'f>,
 ) -> Result<Outcome, AllocError>
     ensures report { OnOk result (AppendsText (IsReport file.entry.name.now file.entry.bytes.now)
         (string_bytes text.old) (string_bytes text.new)) }
     ensures found { IfOk result (λ found. found ≡ outcome_of (file_of file.entry.bytes.now)) }
+    ensures known { OnOk result (map known_of known.new.items
+        ≡ map known_of known.old.items ++ known_text (named_text file.entry) ∷ []) }
 {
     let Report {
         text: report,
         outcome,
-        contents,
+        file: said,
     } = make_report(alloc, file.bytes, file.name)?;
     text.push_str(report.as_str())?;
-    summaries.push(FileSummary {
+    known.push(ReadFile {
         name: file.name,
-        contents,
+        file: said,
     })?;
     Ok(outcome)
 }
 
-/// Appends the reports on `files`, and records the models in each file.
+/// Appends the reports on `files`, and what each of them says to `known`.
 fn push_reports<'f>(
     text: &mut String,
-    summaries: &mut Vec<FileSummary<'f>>,
+    known: &mut Vec<ReadFile<'f>>,
     alloc: Global,
     files: &[NamedFile<'f>],
 ) -> Result<Outcome, AllocError>
     ensures reports { OnOk result (AppendsText (AreReports (map named_text files.now))
         (string_bytes text.old) (string_bytes text.new)) }
     ensures found { IfOk result (λ found. found ≡ outcome_of_all (map named_text files.now)) }
+    ensures known { OnOk result (map known_of known.new.items
+        ≡ map known_of known.old.items ++ map known_text (map named_text files.now)) }
 {
     match files {
         [first, rest @ ..] => {
-            let found = push_report(text, summaries, alloc, *first)?;
-            let later = push_reports(text, summaries, alloc, rest)?;
+            let found = push_report(text, known, alloc, *first)?;
+            let later = push_reports(text, known, alloc, rest)?;
             Ok(found.or(later))
         }
         [] => Ok(Outcome::Faultless),
@@ -113,9 +118,10 @@ fn report_all(alloc: Global, files: &[NamedFile<'_>]) -> Result<WholeReport, All
     ensures found { IfOk result (λ made. made.outcome ≡ outcome_of_all (map named_text files.now)) }
 {
     let mut text = String::new(alloc);
-    let mut summaries = Vec::new(alloc);
-    let outcome = push_reports(&mut text, &mut summaries, alloc, files)?;
-    text.push_str(missing_day_warnings(alloc, summaries.as_slice())?.as_str())?;
+    let mut known = Vec::new(alloc);
+    let outcome = push_reports(&mut text, &mut known, alloc, files)?;
+    let missing = missing_day_warnings(alloc, known.as_slice())?;
+    text.push_str(missing.as_str())?;
     Ok(WholeReport { text, outcome })
 }
 

@@ -1,72 +1,154 @@
-//! Warnings about a machine for which no key sheet has a day.
+//! Warnings on machines and key sheets together: a machine for which no sheet has a day.
+ghost use Rattle.std.specs.Prelude.{◌≡◌, ◌++◌, IfOk, OnOk, flat_map, map};
+ghost use Rattle.std.specs.List.{list_any};
+ghost use Rattle.std.specs.String.{string_bytes};
+ghost use Rattle.kd_look.specs.MissingDays.{machine_model, missing_lines, missing_words, no_day_line};
+ghost use Rattle.kd_look.specs.MissingDays.{no_day_end, no_day_start, no_day_words, known_of, serves};
 
+use crate::file::File;
+use crate::sheet_words::has_model;
 use kd_slips::model_name;
 use kd_tables::Model;
 use std::alloc::{AllocError, Global};
 
-/// The models in a file.
+/// A file's name, and what the file says. `None` if it has a fault.
 #[derive(Drop)]
-pub enum Contents {
-    /// A machine file, of this model.
-    Machine(Model),
-    /// A key sheet, with days for these models.
-    Sheet(Vec<Model>),
-    /// A file with faults.
-    Unknown,
-}
-
-/// A file's name, and the models in the file.
-#[derive(Drop)]
-pub struct FileSummary<'f> {
-    /// The file's name.
+pub struct ReadFile<'f> {
     pub name: &'f str,
-    pub contents: Contents,
+    pub file: Option<File>,
 }
 
-fn has_day(summaries: &[FileSummary<'_>], model: Model) -> bool {
-    for file in summaries {
-        if let Contents::Sheet(models) = &file.contents
-            && models.contains(&model)
-        {
-            return true;
-        }
+/// The model of a file that is a machine file.
+fn machine_model(file: &ReadFile<'_>) -> Option<Model>
+    ensures { result ≡ machine_model (known_of file.now) }
+{
+    match &file.file {
+        Some(File::Machine(machine)) => Some(machine.model()),
+        Some(File::Sheet(_)) | None => None,
     }
-    false
 }
 
-/// A warning for each sheet: the sheet has no day for the machine in the file `name`, which is of this model.
-fn sheet_lines(
-    alloc: Global,
+/// Whether `file` is a key sheet that has a day for `model`.
+fn serves(model: Model, file: &ReadFile<'_>) -> bool
+    ensures { result ≡ serves model (known_of file.now) }
+{
+    match &file.file {
+        Some(File::Sheet(sheet)) => has_model(sheet, model),
+        Some(File::Machine(_)) | None => false,
+    }
+}
+
+/// Whether one of the files is a key sheet that has a day for `model`.
+fn is_served(model: Model, files: &[ReadFile<'_>]) -> bool
+    ensures { result ≡ list_any (serves model) (map known_of files.now) }
+{
+    match files {
+        [file, rest @ ..] => serves(model, file) || is_served(model, rest),
+        [] => false,
+    }
+}
+
+/// Appends three texts.
+#[tactic(auto, using(std::proofs::Common::append_assoc))]
+fn push_three(lines: &mut String, first: &str, second: &str, third: &str) -> Result<(), AllocError>
+    ensures { OnOk result (string_bytes lines.new
+        ≡ string_bytes lines.old ++ (first.now ++ second.now ++ third.now)) }
+{
+    lines.push_str(first)?;
+    lines.push_str(second)?;
+    lines.push_str(third)
+}
+
+/// Appends the start of a line on the machine `name` and the key sheet `sheet`.
+#[tactic(auto, unfolding(crate::specs::MissingDays::no_day_start))]
+fn push_no_day_start(lines: &mut String, name: &str, sheet: &str) -> Result<(), AllocError>
+    ensures { OnOk result (string_bytes lines.new
+        ≡ string_bytes lines.old ++ no_day_start name.now sheet.now) }
+{
+    push_three(lines, name, ": warning: ", sheet)
+}
+
+/// Appends the end of the line that there is no day for a machine, of which `model` is the model in words.
+#[tactic(auto, unfolding(crate::specs::MissingDays::no_day_end))]
+fn push_no_day_end(lines: &mut String, model: &str) -> Result<(), AllocError>
+    ensures { OnOk result (string_bytes lines.new ≡ string_bytes lines.old ++ no_day_end model.now) }
+{
+    push_three(lines, " has no day for ", model, "\n")
+}
+
+/// Appends a warning that the key sheet `sheet` has no day for the machine `name`, of which `model` is the model in words.
+#[tactic(auto, using(std::proofs::Common::append_assoc))]
+fn push_no_day_words(
+    lines: &mut String,
+    name: &str,
+    sheet: &str,
+    model: &str,
+) -> Result<(), AllocError>
+    ensures { OnOk result (string_bytes lines.new
+        ≡ string_bytes lines.old ++ no_day_words name.now sheet.now model.now) }
+{
+    push_no_day_start(lines, name, sheet)?;
+    push_no_day_end(lines, model)
+}
+
+/// Appends this warning, if `sheet` is a key sheet.
+fn push_no_day(
+    lines: &mut String,
     name: &str,
     model: Model,
-    summaries: &[FileSummary<'_>],
-) -> Result<String, AllocError> {
-    let mut lines = String::new(alloc);
-    for file in summaries {
-        if let Contents::Sheet(_) = &file.contents {
-            let line = format!(in alloc;
-                "{name}: warning: {} has no day for {}\n",
-                file.name,
-                model_name(model)
-            )?;
-            lines.push_str(line.as_str())?;
-        }
+    sheet: &ReadFile<'_>,
+) -> Result<(), AllocError>
+    ensures { OnOk result (string_bytes lines.new
+        ≡ string_bytes lines.old ++ no_day_line name.now model (known_of sheet.now)) }
+{
+    match &sheet.file {
+        Some(File::Sheet(_)) => push_no_day_words(lines, name, sheet.name, model_name(model)),
+        Some(File::Machine(_)) | None => Ok(()),
     }
-    Ok(lines)
 }
 
-/// The warnings about machines for which no sheet has a day. There are no warnings if there is no sheet.
-pub fn missing_day_warnings(
-    alloc: Global,
-    summaries: &[FileSummary<'_>],
-) -> Result<String, AllocError> {
-    let mut lines = String::new(alloc);
-    for file in summaries {
-        if let Contents::Machine(model) = &file.contents
-            && !has_day(summaries, *model)
-        {
-            lines.push_str(sheet_lines(alloc, file.name, *model, summaries)?.as_str())?;
+/// Appends a warning for each key sheet among `files`, that it has no day for the machine `name`.
+#[tactic(auto, using(std::proofs::Common::append_assoc))]
+fn push_no_days(
+    lines: &mut String,
+    name: &str,
+    model: Model,
+    files: &[ReadFile<'_>],
+) -> Result<(), AllocError>
+    ensures { OnOk result (string_bytes lines.new
+        ≡ string_bytes lines.old ++ flat_map (no_day_line name.now model) (map known_of files.now)) }
+{
+    match files {
+        [file, rest @ ..] => {
+            push_no_day(lines, name, model, file)?;
+            push_no_days(lines, name, model, rest)
         }
+        [] => Ok(()),
+    }
+}
+
+/// Appends the warnings on `file`, if it is a machine file for which none of `files` has a day.
+fn push_missing(
+    lines: &mut String,
+    files: &[ReadFile<'_>],
+    file: &ReadFile<'_>,
+) -> Result<(), AllocError>
+    ensures { OnOk result (string_bytes lines.new
+        ≡ string_bytes lines.old ++ missing_lines (map known_of files.now) (known_of file.now)) }
+{
+    match machine_model(file) {
+        Some(model) if !is_served(model, files) => push_no_days(lines, file.name, model, files),
+        Some(_) | None => Ok(()),
+    }
+}
+
+/// The warnings on machines for which no key sheet has a day, where there are key sheets.
+pub fn missing_day_warnings(alloc: Global, files: &[ReadFile<'_>]) -> Result<String, AllocError>
+    ensures { IfOk result (λ lines. string_bytes lines ≡ missing_words (map known_of files.now)) }
+{
+    let mut lines = String::new(alloc);
+    for file in files {
+        push_missing(&mut lines, files, file)?;
     }
     Ok(lines)
 }

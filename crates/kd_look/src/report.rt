@@ -1,5 +1,6 @@
 //! The report on one file: its content in words, or its faults.
 ghost use Rattle.std.specs.Prelude.{◌≡◌, ◌++◌, IfOk, OnOk};
+ghost use Rattle.std.specs.Result.{result_ok};
 ghost use Rattle.std.specs.String.{string_bytes};
 ghost use Rattle.kd_look.specs.Report.{Describes, IsReport, file_words, outcome_of};
 ghost use Rattle.kd_look.specs.File.{file_of};
@@ -7,9 +8,8 @@ ghost use Rattle.kd_look.specs.File.{file_of};
 use crate::fault_words::refusal;
 use crate::file::{File, read_file};
 use crate::machine_words::push_machine;
-use crate::missing_days::Contents;
 use crate::outcome::Outcome;
-use crate::sheet_words::{models_of, push_sheet};
+use crate::sheet_words::push_sheet;
 use crate::warnings::{day_warnings, key_warnings};
 use kd_sheet::SheetFault;
 use std::alloc::{AllocError, Global};
@@ -20,7 +20,8 @@ pub struct Report {
     /// The lines about the file.
     pub text: String,
     pub outcome: Outcome,
-    pub contents: Contents,
+    /// What the file says, if it has no fault.
+    pub file: Option<File>,
 }
 
 /// Appends the words for the content of the file `name`.
@@ -55,30 +56,23 @@ fn description(alloc: Global, bytes: &[u8], name: &str, file: &File) -> Result<S
     Ok(text)
 }
 
-/// The model of the machine in `file`, or the models of the key sheet's days.
-fn contents_of(alloc: Global, file: &File) -> Result<Contents, AllocError> {
-    match file {
-        File::Machine(machine) => Ok(Contents::Machine(machine.model())),
-        File::Sheet(sheet) => Ok(Contents::Sheet(models_of(alloc, sheet)?)),
-    }
-}
-
-/// Makes the report on the file called `name`, with the content `bytes`.
+/// Makes the report on the file `name` with the content `bytes`.
 pub fn make_report(alloc: Global, bytes: &[u8], name: &str) -> Result<Report, AllocError>
     ensures report { IfOk result (λ made. IsReport name.now bytes.now (string_bytes made.text)) }
     ensures found { IfOk result (λ made. made.outcome ≡ outcome_of (file_of bytes.now)) }
+    ensures file { IfOk result (λ made. made.file ≡ result_ok (file_of bytes.now)) }
 {
     match read_file(alloc, bytes) {
         Ok(file) => Ok(Report {
             text: description(alloc, bytes, name, &file)?,
             outcome: Outcome::Faultless,
-            contents: contents_of(alloc, &file)?,
+            file: Some(file),
         }),
         Err(SheetFault::NoMemory) => Err(AllocError),
         Err(fault) => Ok(Report {
             text: refusal(alloc, bytes, name, fault)?,
             outcome: Outcome::Faulty(fault),
-            contents: Contents::Unknown,
+            file: None,
         }),
     }
 }

@@ -2,13 +2,13 @@
 ghost use Rattle.std.specs.Prelude.{codes, ◌≡◌, ◌<◌, ◌++◌, true, false, OnOk};
 ghost use Rattle.std.specs.String.{string_bytes};
 ghost use Rattle.kd_look.specs.SheetWords.{is_of_sort, has_day, day_words, numbered_day_words, sort_words};
-ghost use Rattle.kd_look.specs.SheetWords.{model_words, sheet_words};
+ghost use Rattle.kd_look.specs.SheetWords.{has_model, model_words, sheet_words};
 
 use crate::texts::push_number;
 use kd_sheet::Sheet;
 use kd_state::SheetDay;
 use kd_tables::Model;
-use std::alloc::{AllocError, Global};
+use std::alloc::AllocError;
 
 /// A sort of days.
 #[derive(Clone, Copy)]
@@ -121,22 +121,9 @@ pub fn push_sheet(text: &mut String, sheet: &Sheet) -> Result<(), AllocError>
     push_sort(text, sheet, "without groups", Sort::WithoutGroups)
 }
 
-/// The models that have days in `sheet`.
-pub fn models_of(alloc: Global, sheet: &Sheet) -> Result<Vec<Model>, AllocError> {
-    let mut models = Vec::new(alloc);
-    for model in [Model::EnigmaI, Model::M3, Model::M4, Model::M209] {
-        if has_model(sheet, model) {
-            models.push(model)?;
-        }
-    }
-    Ok(models)
-}
-
-fn has_model(sheet: &Sheet, model: Model) -> bool {
-    for number in 1..32 {
-        if has_day(sheet, Sort::Of(model), number) {
-            return true;
-        }
-    }
-    false
+/// Whether `sheet` has a day for `model`.
+pub fn has_model(sheet: &Sheet, model: Model) -> bool
+    ensures { result ≡ has_model sheet.now model }
+{
+    (1..32).any(|number| has_day(sheet, Sort::Of(model), number))
 }

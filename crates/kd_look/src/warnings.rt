@@ -3,10 +3,10 @@ ghost use Rattle.std.specs.Prelude.{◌≡◌, ◌++◌, [], IfOk, MatchResult, 
 ghost use Rattle.std.specs.String.{string_bytes};
 ghost use Rattle.kd_sheet.specs.Document.{document_of};
 ghost use Rattle.kd_findings.specs.Warnings.{AreWarnings};
-ghost use Rattle.kd_look.specs.Warnings.{AreKeyWarnings, WarnsOfDays, has_mark, mark_words};
+ghost use Rattle.kd_look.specs.Warnings.{AreKeyWarnings, WarnsOfFile, WarnsOfMonth, has_mark, mark_words};
 
 use crate::alike::push_alike_days;
-use crate::few_pairs::push_few_pairs;
+use crate::few_days::push_few_days;
 use crate::file::File;
 use kd_findings::warning_lines;
 use kd_sheet::by_key::parse_table;
@@ -62,17 +62,17 @@ pub fn key_warnings(alloc: Global, bytes: &[u8], name: &str) -> Result<String, A
 
 /// The warnings about the days of `sheet`. Each warning is a line.
 fn sheet_warnings(alloc: Global, name: &str, sheet: &Sheet) -> Result<String, AllocError>
-    ensures { IfOk result (λ lines. WarnsOfDays name.now (string_bytes lines)) }
+    ensures { IfOk result (λ lines. WarnsOfMonth name.now sheet.now (string_bytes lines)) }
 {
     let mut lines = String::new(alloc);
     push_alike_days(&mut lines, alloc, name, sheet)?;
-    push_few_pairs(&mut lines, alloc, name, sheet)?;
+    push_few_days(&mut lines, alloc, name, sheet)?;
     Ok(lines)
 }
 
 /// The warnings about the days of a key sheet. Each warning is a line.
 pub fn day_warnings(alloc: Global, name: &str, file: &File) -> Result<String, AllocError>
-    ensures { IfOk result (λ lines. WarnsOfDays name.now (string_bytes lines)) }
+    ensures { IfOk result (λ lines. WarnsOfFile name.now file.now (string_bytes lines)) }
 {
     match file {
         File::Machine(_) => Ok(String::new(alloc)),

@@ -1,2 +1,4 @@
+pub mod Counts
 pub mod Items
+pub mod NearNames
 pub mod Shown

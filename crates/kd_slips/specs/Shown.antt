@@ -3,6 +3,8 @@
 -- Test: tests/cases/curator-look.toml
 use Rattle.std.specs.Prelude.{codes, ℕ, ◌++◌, ◌==◌, ◌&&◌, nat_le, not, Bool, List, length, decimal, if◌then◌else◌}
 use Rattle.std.specs.List.{list_all}
+use Rattle.kd_tables.specs.declared.model.Model.{Model}
+use Rattle.kd_tables.specs.declared.model.Model.TheVariants.{EnigmaI, M3, M4, M209}
 
 -- whether the byte isn't a control character
 abbrev pub is_printed : ℕ → Bool
@@ -15,3 +17,10 @@ can_be_shown text = nat_le (length text) 40 && list_all is_printed text
 unfoldable pub shown_text : List ℕ → List ℕ
 shown_text text = if can_be_shown text then codes "`" ++ text ++ codes "`"
     else codes "a text of " ++ decimal (length text) ++ codes " bytes"
+
+-- the model's name, with its article
+abbrev pub model_with_article : Model → List ℕ
+model_with_article EnigmaI = codes "an Enigma I"
+model_with_article M3 = codes "an M3"
+model_with_article M4 = codes "an M4"
+model_with_article M209 = codes "a Converter M-209"

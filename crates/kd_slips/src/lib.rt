@@ -1,12 +1,14 @@
-//! Says in words why a value in a machine file or a key sheet is refused.
+//! Says in words why a value in a machine file or a key sheet is refused, and which days have fewer pairs or groups.
 //!
 //! For each sort of value, a module has checks, which `kd_findings` calls. A check returns a `Slip` if it refuses the
 //! value.
 #![tactic(auto)]
 
 pub mod cables;
+pub mod counts;
 pub mod letters;
 pub mod models;
+pub mod near_names;
 pub mod numbers;
 pub mod pins;
 pub mod rings;

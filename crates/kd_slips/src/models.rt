@@ -1,8 +1,9 @@
 //! Refuses models, reflectors and wheels that the desk doesn't know, or that don't fit together.
-ghost use Rattle.std.specs.Prelude.{IfErr, IsErr, None};
+ghost use Rattle.std.specs.Prelude.{◌≡◌, IfErr, IsErr, None};
 ghost use Rattle.kd_sheet.specs.declared.fault.SheetFault.TheVariants.{BadValue, UnknownModel, WheelNotAllowed};
 ghost use Rattle.kd_sheet.specs.declared.fault.SheetFault.TheVariants.{WheelTwice};
 ghost use Rattle.kd_slips.specs.Items.{HasFault};
+ghost use Rattle.kd_slips.specs.Shown.{model_with_article};
 
 use crate::letters::in_capitals;
 use crate::slip::{Slip, refuse};
@@ -12,8 +13,10 @@ use kd_tables::{Model, Reflector, Wheel, allowed, in_box};
 use std::alloc::{AllocError, Global};
 use toml::{Table, Value};
 
-/// The model's name, with an article before it.
-pub fn model_name(model: Model) -> &'static str {
+/// The model's name, with its article.
+pub fn model_name(model: Model) -> &'static str
+    ensures { result.now ≡ model_with_article model }
+{
     match model {
         Model::EnigmaI => "an Enigma I",
         Model::M3 => "an M3",

@@ -10,8 +10,9 @@ use Rattle.kd_table.specs.Cells.{day_in, has_columns, is_faulty, row_cells, row_
 use Rattle.kd_table.specs.Columns.{cell_at, columns_of}
 use Rattle.kd_table.specs.Items.{is_blank}
 use Rattle.kd_table.specs.Options.{OptionTexts}
-use Rattle.kd_table.specs.Notes.{NextCell, NoCells, TellsCells, TellsPlacedRow, TellsText, cell_place, is_column_read, line_at, shown, unread_line, unread_note, unread_words, HasRowsNote, OfRows, TellsRow, TellsTable, row_place}
-use Rattle.kd_table.specs.Row.{IsDayOfRow, IsNoDay, row_values}
+use Rattle.kd_table.specs.Notes.{NextCell, NoCells, TellsCells, TellsPlacedRow, TellsText, cell_place, line_at, shown, unread_line, unread_note, unread_words, HasRowsNote, OfRows, TellsRow, TellsTable, row_place}
+use Rattle.kd_table.specs.NearNames.{is_misnamed}
+use Rattle.kd_table.specs.Row.{IsDayOfRow, IsNoDay, is_column_read, row_values}
 use Rattle.kd_table.specs.declared.cell.Cell.{Cell}
 use Rattle.kd_table.specs.declared.columns.Columns.{Columns}
 
@@ -147,12 +148,13 @@ pub of_text : (options : OptionTexts) (table text old new : List ℕ) → old �
 of_text options table text old new none is told = rw (is, none) told
 
 pub of_rows : (options : OptionTexts) (table : List ℕ) (head : List (List ℕ)) (old middle new : List ℕ) → old ≡ []
-    → ((missing : List (List ℕ)) × (middle ≡ old ++ (unread_note head ++ flat_map (line_at (codes "row 1: ")) missing)))
+    → ((missing : List (List ℕ)) × (middle ≡ old ++ (unread_note head ++ flat_map (line_at (codes "row 1: ")) missing))
+    × (is_misnamed (columns_of head) head ≡ true → 0 < length missing))
     → HasRowsNote options (columns_of head) head table middle new → TellsTable options table new
-of_rows options table head old middle new none (missing, first) has =
+of_rows options table head old middle new none (missing, first, named) has =
     let of_missing = flat_map (line_at (codes "row 1: ")) missing in
     let of_end = flat_map (line_at []) has.words in
     let is : new ≡ unread_note head ++ (of_missing ++ (has.text ++ of_end)) =
     has.appended ∙ ap (λ t. t ++ (has.text ++ of_end)) (first ∙ ap (λ t. t ++ (unread_note head ++ of_missing)) none)
     ∙ append_assoc (unread_note head) of_missing (has.text ++ of_end) in
-    rw is (OfRows head has.rows missing has.text has.words has.are has.told has.empty)
+    rw is (OfRows head has.rows missing has.text has.words has.are has.told has.empty named)

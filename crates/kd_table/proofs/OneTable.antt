@@ -8,9 +8,10 @@ use Rattle.csv.specs.declared.parser.State.{State}
 use Rattle.kd_state.specs.SheetDay.{Day, day_number}
 use Rattle.kd_table.specs.Columns.{columns_of}
 use Rattle.kd_table.specs.Laws.{MeansOrIsRefused, MeansOneList}
+use Rattle.kd_table.specs.NearNames.{is_misnamed}
 use Rattle.kd_table.specs.Options.{OptionTexts}
 use Rattle.kd_table.specs.Row.{IsDayOfRow, IsNoDay, is_blank_row, row_values}
-use Rattle.kd_table.specs.Table.{AreDaysOfRows, NoRows, BlankRow, DayRow, AreRows, HasRefusedRow, IsRefusedRow, IsRefusedTable, NoDays, NoFirstRow, RefusedRow, TableMeans, WrongQuotes, is_taken}
+use Rattle.kd_table.specs.Table.{AreDaysOfRows, NoRows, BlankRow, DayRow, AreRows, HasRefusedRow, IsRefusedRow, IsRefusedTable, Misnamed, NoDays, NoFirstRow, RefusedRow, TableMeans, WrongQuotes, is_taken}
 use Rattle.kd_table.specs.declared.columns.Columns.{Columns}
 
 -- ---- lists that are equal up to their ends
@@ -159,6 +160,10 @@ module _ (options : OptionTexts) (table : List ℕ) where
 
   means_or_is_refused : (days : List Day) → TableMeans options table days → IsRefusedTable options table → ⊥
   means_or_is_refused days means (WrongQuotes wrong) = let e : true ≡ false = sym means.quoted ∙ wrong in cc
+  means_or_is_refused days means (Misnamed head rows are misnamed) =
+      let e = one_rows table _ _ means.are are in
+      let same : means.head ≡ head = cc in
+      let wrong : true ≡ false = sym misnamed ∙ ap (λ h. is_misnamed (columns_of h) h) (sym same) ∙ means.named in cc
   means_or_is_refused days means (RefusedRow head rows are has) =
       refused_row days means.head head means.rows rows (one_rows table _ _ means.are are) means.described has
   means_or_is_refused days means (NoDays head rows are none) =

@@ -1,7 +1,7 @@
 -- The records of a table that were read so far.
-use Rattle.std.proofs.Common.{◌≡◌, ◌∙◌, ◌<◌, ◌≤◌, ◌-◌, ◌∷◌, ◌++◌, ℕ, List, [], Bor, Some, None, inl, true, false}
+use Rattle.std.proofs.Common.{◌≡◌, ◌∙◌, ◌+◌, ◌<◌, ◌≤◌, ◌-◌, ap, ◌∷◌, ◌++◌, ℕ, List, [], Bor, Some, None, inl, true, false}
 use Rattle.std.proofs.Common.{ap₂, arith, drop, get_or, length, map, refl, sym, take}
-use Rattle.std.proofs.lemmas.List.{take_all}
+use Rattle.std.proofs.lemmas.List.{map-append, take_all, take_more}
 use Rattle.std.specs.List.{slice_get}
 use Rattle.csv.specs.Reading.{ReadRecord, strip_bom}
 use Rattle.csv.specs.Records.{fields_of}
@@ -41,15 +41,20 @@ reads_end table rows old new is read = (
       (separated (separator_of table)) is.rest is.config is.source read,
 )
 
+-- the records up to one more
+pub one_longer : (rows : List ByteRecord) (index : ℕ) (row : ByteRecord) → index < length rows
+    → row ≡ get_or rows index row
+    → map fields_of (take (index + 1) rows) ≡ map fields_of (take index rows) ++ fields_of row ∷ []
+one_longer rows index row within is =
+    ap (λ (all : List ByteRecord). map fields_of all) (take_more rows index row within)
+    ∙ map-append fields_of (take index rows) (get_or rows index row ∷ [])
+    ∙ ap (λ (r : ByteRecord). map fields_of (take index rows) ++ fields_of r ∷ []) (sym is)
+
 -- ---- the first row
 
 pub no_row : (rows : List ByteRecord) → length rows < 1 → map fields_of rows ≡ []
 no_row [] none = refl
 no_row (row ∷ rows) none = absurd (omega (arith, none))
-
-pub none_first : (rows : List ByteRecord) → slice_get rows 0 ≡ None → map fields_of rows ≡ []
-none_first [] none = refl
-none_first (row ∷ rows) none = cc
 
 pub first_row : (rows : List ByteRecord) (first : ByteRecord) → 1 ≤ length rows → first ≡ get_or rows 0 first
     → map fields_of rows ≡ fields_of first ∷ map fields_of (take (length rows - 1) (drop 1 rows))

@@ -8,32 +8,42 @@ use Rattle.kd_sheet.specs.SheetText.{AreSheetDays, sheet_text}
 use Rattle.kd_sheet.specs.{SheetFile.sheet_of, Sheet.month_of}
 use Rattle.kd_table.specs.Columns.{columns_of}
 use Rattle.kd_table.specs.Rows.{is_well_quoted}
-use Rattle.kd_table.specs.Table.{AreRows, TableMeans, IsRefusedTable, RefusedRow, NoDays, NoFirstRow, IsRead, AreDaysOfRows, BlankRow, DayRow, NoRows, is_taken}
+use Rattle.kd_table.specs.Notes.{IsTaken, IsTakenOfRows}
+use Rattle.kd_table.specs.Table.{AreRefusedRows, AreRows, TableMeans, IsRefusedTable, Misnamed, RefusedRow, NoDays, AreDaysOfRows, BlankRow, DayRow, NoRows, is_taken}
 use Rattle.kd_table.specs.declared.columns.Columns.{Columns}
 use Rattle.kd_table.specs.declared.fault.SpreadsheetFault.{SpreadsheetFault}
 use Rattle.kd_table.specs.declared.fault.SpreadsheetFault.TheVariants.{NoMemory, Refused}
 use Rattle.kd_table.specs.Options.{OptionTexts}
 
 module _ (options : OptionTexts) (table : List ℕ) where
-  -- all rows were read, and none is refused
-  pub table_means : (rows : List (List (List ℕ))) (columns : Option Columns) (days : List Day)
-      → is_well_quoted table ≡ true → AreRows table rows → IsRead options rows columns days false → 0 < length days
-      → TableMeans options table days
-  table_means [] columns days quoted are is some =
-      let P : List Day → Type 0 = λ ds. 0 < length ds in absurd (let none = subst P is.1 some in omega arith)
-  table_means (head ∷ rows) columns days quoted are is some =
-      record { quoted = quoted; head = head; rows = rows; are = are; described = is.1; some = some }
+  -- what the rows mean, the table means
+  pub taken_of_rows : (head : List (List ℕ)) (rows : List (List (List ℕ))) (days : List Day) (note : List ℕ)
+      → is_well_quoted table ≡ true → AreRows table (head ∷ rows) → IsTakenOfRows options head rows days note
+      → IsTaken options table days note
+  taken_of_rows head rows days note quoted are is = record {
+    means = record {
+      quoted = quoted;
+      head = head;
+      rows = rows;
+      are = are;
+      named = is.named;
+      described = is.described;
+      some = is.some;
+    };
+    head = head;
+    has = (rows, are);
+    is = is.is;
+  }
 
-  pub table_refused : (rows : List (List (List ℕ))) (columns : Option Columns) (days : List Day) → AreRows table rows
-      → IsRead options rows columns days true → IsRefusedTable options table
-  table_refused [] columns days are is = absurd (false≢true (sym is.2))
-  table_refused (head ∷ rows) columns days are is = RefusedRow head rows are is.1
-
-  pub table_empty : (rows : List (List (List ℕ))) (columns : Option Columns) (days : List Day) → AreRows table rows
-      → IsRead options rows columns days false → length days ≡ 0 → IsRefusedTable options table
-  table_empty [] columns days are is none = NoFirstRow are
-  table_empty (head ∷ rows) columns [] are is none = NoDays head rows are is.1
-  table_empty (head ∷ rows) columns (day ∷ days) are is none = absurd (omega arith)
+  pub refused_of_rows : (head : List (List ℕ)) (rows : List (List (List ℕ))) → AreRows table (head ∷ rows)
+      → AreRefusedRows options head rows → IsRefusedTable options table
+  refused_of_rows head rows are refused = elim refused [
+    | inl misnamed ↦ Misnamed head rows are misnamed
+    | inr why ↦ elim why [
+      | inl has ↦ RefusedRow head rows are has
+      | inr none ↦ NoDays head rows are none
+    ]
+  ]
 
 -- days of rows are days of a sheet: each is legal, and has its own number
 sheet_days_more : (earlier days : List Day) (day : Day) → AreSheetDays earlier days → IsLegalDay day

@@ -11,6 +11,7 @@ pub mod Rows
 pub mod Table
 pub mod Records
 pub mod Cells
+pub mod NearNames
 pub mod RowNumbers
 pub mod Notes
 pub mod Head

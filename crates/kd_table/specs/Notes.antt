@@ -1,21 +1,23 @@
--- The notes on a table, on standard error. The notes on unread columns are defined to the byte.
--- The notes on a refused table have a line for each cell that can't be read. They also have a line for each row that
--- isn't a day, unless the table lacks a column that the row needs. Such a line begins with the place of the cell or the
--- row. No definition gives the words after the place.
+-- What is told of a table on standard error. The columns that aren't read, and the days with fewer pairs or groups than others,
+-- are told exactly. Of a refused table, each row that is no day has a line that begins with the row's place, and each cell that
+-- can't be read has one that begins with the cell's place. What follows the place is in words that no definition gives.
 -- Test: tests/cases/curator-sheet.toml
 use Rattle.std.specs.Prelude.{◌≡◌, ◌<◌, ◌+◌, ◌==◌, ◌&&◌, ◌||◌, codes, decimal, nat_lt, ℕ, Bool, true, false, List, [], ◌∷◌, ◌++◌, drop, flat_map, length, map, slice_get, take, Option, Some, None, IfSome, IsTrue, if◌then◌else◌}
 use Rattle.std.specs.Io.KnownBytes.{Appends}
-use Rattle.std.specs.List.{list_all, list_any, range_with_len}
+use Rattle.std.specs.List.{list_all, range_with_len}
 use Rattle.std.specs.Option.{option_map_or}
 use Rattle.kd_tables.specs.Ports.{Port}
+use Rattle.kd_state.specs.SheetDay.{Day}
+use Rattle.kd_slips.specs.Counts.{counts_of, few_lines}
 use Rattle.kd_table.specs.Cells.{column_of, day_in, has_columns, is_faulty, row_cells, row_model}
 use Rattle.kd_table.specs.Columns.{cell_at, columns_of}
 use Rattle.kd_table.specs.Items.{is_blank}
 use Rattle.kd_table.specs.Options.{OptionTexts}
-use Rattle.kd_table.specs.Row.{IsNoDay, is_blank_row, places_of, row_values}
+use Rattle.kd_table.specs.NearNames.{is_misnamed}
+use Rattle.kd_table.specs.Row.{IsNoDay, is_blank_row, is_column_read, row_values}
 use Rattle.kd_table.specs.RowNumbers.{row_numbers}
 use Rattle.kd_table.specs.Rows.{is_well_quoted}
-use Rattle.kd_table.specs.Table.{AreRows}
+use Rattle.kd_table.specs.Table.{AreDaysOfRows, AreRows, TableMeans}
 use Rattle.kd_table.specs.declared.cell.Cell.{Cell}
 use Rattle.kd_table.specs.declared.cell.Cell.TheVariants as cells
 use Rattle.kd_table.specs.declared.columns.Columns.{Columns}
@@ -51,13 +53,6 @@ line_at place words = place ++ words ++ 10 ∷ []
 
 -- ---- Columns that aren't read.
 
-abbrev pub is_at : ℕ → Option ℕ → Bool
-is_at place column = option_map_or (λ other. other == place) column false
-
--- whether the column at `place` is read
-abbrev pub is_column_read : Columns → ℕ → Bool
-is_column_read columns place = list_any (is_at place) (places_of columns) || list_any (is_at place) columns.pins
-
 abbrev pub unread_words : List ℕ
 unread_words = codes ": this column isn't read\n"
 
@@ -75,9 +70,24 @@ unread_note head = flat_map (unread_line head) (range_with_len 0 64)
 abbrev pub HasHead : List ℕ → List (List ℕ) → Type 0
 HasHead table head = (rows : List (List (List ℕ))) × AreRows table (head ∷ rows)
 
--- The notes on the unread columns of the table were written.
-abbrev pub TellsUnread : List ℕ → Port → Type 0
-TellsUnread table notes = (head : List (List ℕ)) × HasHead table head × TellsText notes (unread_note head)
+-- ---- A table that means days.
+
+-- the note on a table with this first row that means these days: on the columns that aren't read, and on the days that have
+-- fewer pairs, or fewer groups, than another day of their model
+unfoldable pub taken_note : List (List ℕ) → List Day → List ℕ
+taken_note head days = unread_note head ++ few_lines (codes "warning: ") (map counts_of days)
+
+-- The table means these days, and this is the note on it.
+pub record IsTaken (options : OptionTexts) (table : List ℕ) (days : List Day) (note : List ℕ) : Type 0 where
+  pub means : TableMeans options table days
+  pub head : List (List ℕ)
+  pub has : HasHead table head
+  pub is : note ≡ taken_note head days
+
+-- The table means days, and the note on it was written.
+abbrev pub TellsTaken : OptionTexts → List ℕ → Port → Type 0
+TellsTaken options table notes =
+    (days : List Day) × (note : List ℕ) × IsTaken options table days note × TellsText notes note
 
 -- ---- Faults.
 
@@ -153,11 +163,8 @@ quotes_note = codes "a quote isn't closed, or something follows the closing quot
 abbrev pub nothing_note : List ℕ
 nothing_note = codes "the table has no row with a day\n"
 
--- The notes on a refused table:
--- - If the table's quotes are wrong, a single line.
--- - If the table has no rows, a single line.
--- - Otherwise, the notes on unread columns, on missing columns, and on each row. If all rows under the first row are
---   blank, at least one line about the whole table.
+-- The note on a refused table: one line on wrong quotes, or on a table without rows. Otherwise, it tells which columns aren't
+-- read, which are missing or misnamed, tells of each row, and says if no row has anything.
 pub data TellsTable (options : OptionTexts) (table : List ℕ) : List ℕ → Type 0 where
   OfQuotes : is_well_quoted table ≡ false → TellsTable options table quotes_note
   OfNothing : AreRows table [] → TellsTable options table nothing_note
@@ -165,6 +172,7 @@ pub data TellsTable (options : OptionTexts) (table : List ℕ) : List ℕ → Ty
       (words : List (List ℕ)) → AreRows table (head ∷ rows)
       → TellsRows options (columns_of head) head (drop 1 (row_numbers table)) rows note
       → (list_all (is_blank_row (columns_of head)) rows ≡ true → 0 < length words)
+      → (is_misnamed (columns_of head) head ≡ true → 0 < length missing)
       → TellsTable options table
       (unread_note head ++ (flat_map (line_at (codes "row 1: ")) missing ++ (note ++ flat_map (line_at []) words)))
 
@@ -196,3 +204,11 @@ pub record HasRowsNote (options : OptionTexts) (columns : Columns) (head : List 
   pub appended : new ≡ old ++ (text ++ flat_map (line_at []) words)
   pub told : TellsRows options columns head (drop 1 (row_numbers table)) rows text
   pub empty : list_all (is_blank_row columns) rows ≡ true → 0 < length words
+
+-- The rows under the first row describe these days, at least one, no column is misnamed, and this is the note on the table.
+pub record IsTakenOfRows (options : OptionTexts) (head : List (List ℕ)) (rows : List (List (List ℕ))) (days : List Day)
+    (note : List ℕ) : Type 0 where
+  pub named : is_misnamed (columns_of head) head ≡ false
+  pub described : AreDaysOfRows options (columns_of head) rows days
+  pub some : 0 < length days
+  pub is : note ≡ taken_note head days

@@ -1,8 +1,8 @@
 -- The day in a row of a table.
 -- Test: tests/cases/curator-sheet.toml
-use Rattle.std.specs.Prelude.{◌≡◌, ◌-◌, ◌&&◌, ℕ, nat_le, Bool, List, [], ◌∷◌, length, Option, Some, None, ⊤, if◌then◌else◌}
-use Rattle.std.specs.List.{list_all, range_with_len}
-use Rattle.std.specs.Option.{option_map}
+use Rattle.std.specs.Prelude.{◌≡◌, ◌-◌, ◌==◌, ◌&&◌, ◌||◌, ℕ, nat_le, Bool, false, List, [], ◌∷◌, length, Option, Some, None, ⊤, if◌then◌else◌}
+use Rattle.std.specs.List.{list_all, list_any, range_with_len}
+use Rattle.std.specs.Option.{option_map, option_map_or}
 use Rattle.kd_tables.specs.declared.model.Model.{Model}
 use Rattle.kd_tables.specs.declared.model.Model.TheVariants.{M209}
 use Rattle.kd_state.specs.SheetDay.{Day, Rotor, Pin, IsLegalDay}
@@ -20,7 +20,14 @@ abbrev pub places_of : Columns → List (Option ℕ)
 places_of c =
     c.day ∷ c.model ∷ c.reflector ∷ c.wheels ∷ c.rings ∷ c.plugs ∷ c.window ∷ c.groups ∷ c.list ∷ c.bars ∷ []
 
--- whether a row is blank in all columns that are read
+abbrev pub is_at : ℕ → Option ℕ → Bool
+is_at place column = option_map_or (λ other. other == place) column false
+
+-- whether the column at `place` is read
+abbrev pub is_column_read : Columns → ℕ → Bool
+is_column_read columns place = list_any (is_at place) (places_of columns) || list_any (is_at place) columns.pins
+
+-- whether a row has nothing in the columns that are read
 abbrev pub is_blank_row : Columns → List (List ℕ) → Bool
 is_blank_row columns row =
     list_all (λ column. is_blank (cell_at column row)) (places_of columns)

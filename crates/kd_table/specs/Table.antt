@@ -6,6 +6,7 @@ use Rattle.csv.specs.Reading.{AreRecords, strip_bom}
 use Rattle.csv.specs.declared.parser.State.TheVariants as st
 use Rattle.kd_state.specs.SheetDay.{Day, day_number}
 use Rattle.kd_table.specs.Columns.{columns_of}
+use Rattle.kd_table.specs.NearNames.{is_misnamed}
 use Rattle.kd_table.specs.Row.{row_values, is_blank_row, IsDayOfRow, IsNoDay}
 use Rattle.kd_table.specs.Rows.{separated, separator_of, is_well_quoted}
 use Rattle.kd_table.specs.declared.columns.Columns.{Columns}
@@ -47,18 +48,21 @@ pub record HasRefusedRow (options : OptionTexts) (columns : Columns) (rows : Lis
 abbrev pub AreRows : List ℕ → List (List (List ℕ)) → Type 0
 AreRows table rows = AreRecords (separated (separator_of table)) st.StartRecord (strip_bom table) rows
 
--- The table means these days: its rows have these days, and there is at least one day.
+-- The table means these days: at least one, each described by a row. No column's name is nearly that of a missing column.
 pub record TableMeans (options : OptionTexts) (table : List ℕ) (days : List Day) : Type 0 where
   pub quoted : is_well_quoted table ≡ true
   pub head : List (List ℕ)
   pub rows : List (List (List ℕ))
   pub are : AreRows table (head ∷ rows)
+  pub named : is_misnamed (columns_of head) head ≡ false
   pub described : AreDaysOfRows options (columns_of head) rows days
   pub some : 0 < length days
 
--- The table is refused: its quotes are wrong, or a row is refused, or no row has a day.
+-- The table is refused: its quotes are wrong, a column is misnamed, one of its rows is refused, or its rows describe no day.
 pub data IsRefusedTable (options : OptionTexts) (table : List ℕ) : Type 0 where
   WrongQuotes : is_well_quoted table ≡ false → IsRefusedTable options table
+  Misnamed : (head : List (List ℕ)) (rows : List (List (List ℕ))) → AreRows table (head ∷ rows)
+      → is_misnamed (columns_of head) head ≡ true → IsRefusedTable options table
   RefusedRow : (head : List (List ℕ)) (rows : List (List (List ℕ))) → AreRows table (head ∷ rows)
       → HasRefusedRow options (columns_of head) rows → IsRefusedTable options table
   NoDays : (head : List (List ℕ)) (rows : List (List (List ℕ))) → AreRows table (head ∷ rows)
@@ -80,9 +84,7 @@ abbrev pub IsBodyRead : OptionTexts → Columns → List (List (List ℕ)) → L
 IsBodyRead options columns rows days false = AreDaysOfRows options columns rows days
 IsBodyRead options columns rows days true = HasRefusedRow options columns rows
 
--- The state after reading these rows. If there are no rows, there are no columns and no days. Otherwise the columns are
--- those that the first row names, and the other rows have the days, or one of them is refused.
-abbrev pub IsRead : OptionTexts → List (List (List ℕ)) → Option Columns → List Day → Bool → Type 0
-IsRead options [] columns days refused = (columns ≡ None) × (days ≡ []) × (refused ≡ false)
-IsRead options (head ∷ rows) columns days refused =
-    (columns ≡ Some (columns_of head)) × IsBodyRead options (columns_of head) rows days refused
+-- The table with these rows, of which the first is `head`, is refused for them.
+abbrev pub AreRefusedRows : OptionTexts → List (List ℕ) → List (List (List ℕ)) → Type 0
+AreRefusedRows options head rows = (is_misnamed (columns_of head) head ≡ true)
+    ⊎ (HasRefusedRow options (columns_of head) rows ⊎ AreDaysOfRows options (columns_of head) rows [])

@@ -1,4 +1,5 @@
-//! `SpreadsheetFault`: why no key sheet is made of a table.
+//! `SpreadsheetFault`: why a table isn't made a key sheet.
+use std::alloc::AllocError;
 use thiserror::Error;
 
 /// Why no key sheet, or only a prefix of it, is written.
@@ -13,4 +14,15 @@ pub enum SpreadsheetFault {
     /// Memory ran out while the table was read, or while notes were made.
     #[error("no memory")]
     NoMemory,
+}
+
+impl From<AllocError> for SpreadsheetFault {
+    ghost use Rattle.std.specs.Prelude.{◌≡◌};
+    ghost use Rattle.kd_table.specs.declared.fault.SpreadsheetFault.TheVariants as faults;
+
+    ghost from_gives = { λ _ fault. fault ≡ faults.NoMemory };
+
+    fn from(_: AllocError) -> SpreadsheetFault {
+        SpreadsheetFault::NoMemory
+    }
 }

@@ -8,6 +8,7 @@ mod fault;
 mod items;
 pub mod laws;
 mod names;
+mod near_names;
 mod notes;
 mod options;
 mod pin_row;

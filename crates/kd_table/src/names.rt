@@ -129,10 +129,11 @@ pub fn model_named(cell: &[u8]) -> Option<Model>
     model_among(&MODELS, cell)
 }
 
-/// The first of `wheels` with the name `word`.
-fn wheel_among(wheels: &[Wheel], word: &[u8]) -> Option<Wheel>
-    ensures { result ≡ find (λ wheel. is_named (wheel_text wheel) word.now) wheels.now }
+/// The wheel that `word` names.
+pub fn wheel_named(word: &[u8]) -> Option<Wheel>
+    ensures { result ≡ wheel_named word.now }
 {
+    let wheels = Model::M4.wheels();
     for wheel in wheels {
         if is_named(wheel.text().as_str(), word) {
             return Some(*wheel);
@@ -141,14 +142,7 @@ fn wheel_among(wheels: &[Wheel], word: &[u8]) -> Option<Wheel>
     None
 }
 
-/// The wheel with the name `word`.
-pub fn wheel_named(word: &[u8]) -> Option<Wheel>
-    ensures { result ≡ wheel_named word.now }
-{
-    wheel_among(Model::M4.wheels(), word)
-}
-
-/// The name of a reflector, after `UKW` (*Umkehrwalze*).
+/// The name of a reflector behind `UKW`, for *Umkehrwalze*.
 fn long_name(reflector: Reflector) -> &'static str
     ensures name { result.now ≡ codes "UKW" ++ reflector_text reflector }
     ensures short { length result.now ≤ 32 }
@@ -169,21 +163,15 @@ fn names_reflector(reflector: Reflector, cell: &[u8]) -> bool
     is_named(reflector.text().as_str(), cell) || is_named(long_name(reflector), cell)
 }
 
-/// The first of `reflectors` whose name is in `cell`.
-fn reflector_among(reflectors: &[Reflector], cell: &[u8]) -> Option<Reflector>
-    ensures { result ≡ find (λ reflector. names_reflector reflector cell.now) reflectors.now }
+/// The reflector of `model` that `cell` names. On an M4 the letter B means the thin reflector b.
+pub fn reflector_named(model: Model, cell: &[u8]) -> Option<Reflector>
+    ensures { result ≡ reflector_named model cell.now }
 {
+    let reflectors = model.reflectors();
     for reflector in reflectors {
         if names_reflector(*reflector, cell) {
             return Some(*reflector);
         }
     }
     None
-}
-
-/// The reflector of `model` whose name is in `cell`. On an M4, the letter B means the thin reflector b.
-pub fn reflector_named(model: Model, cell: &[u8]) -> Option<Reflector>
-    ensures { result ≡ reflector_named model cell.now }
-{
-    reflector_among(model.reflectors(), cell)
 }

@@ -1,10 +1,9 @@
-//! Writes notes on the faults of a table.
-//!
-//! It is proved which rows and cells have notes. The words of the notes are only tested.
-ghost use Rattle.std.specs.Prelude.{◌≡◌, ◌&&◌, ◌++◌, ◌∷◌, [], codes, flat_map, length, map, slice_get, ℕ, List, IfOk, IfSome};
+//! Tells in words what is wrong with a table. Which rows and cells are told is proved; the words aren't, but tests try them.
+ghost use Rattle.std.specs.Prelude.{◌≡◌, ◌<◌, ◌&&◌, ◌++◌, ◌∷◌, [], true, codes, flat_map, length, map, slice_get, ℕ, List, IfOk, IfSome};
 ghost use Rattle.csv.specs.Records.{fields_of};
 ghost use Rattle.kd_tables.specs.Ports.{port};
 ghost use Rattle.kd_table.specs.Notes.{line_at, unread_note, HasRowsNote, Tells, TellsRows, TellsTable, TellsText};
+ghost use Rattle.kd_table.specs.NearNames.{is_misnamed};
 ghost use Rattle.kd_table.specs.Options.{texts_of};
 ghost use Rattle.kd_table.specs.Row.{is_blank_row};
 ghost use Rattle.kd_table.specs.Table.{AreRows};
@@ -14,15 +13,16 @@ mod found;
 mod head;
 mod head_words;
 mod letter_words;
-mod near_names;
 mod note;
 mod row_note;
 mod row_numbers;
+mod taken;
 mod unread;
 mod words;
 
 use crate::columns::Columns;
 use crate::fault::SpreadsheetFault;
+use crate::near_names::is_misnamed;
 use crate::options::TableOptions;
 use crate::quotes::{is_well_quoted, separator_of, strip_bom};
 use crate::records::read_records;
@@ -30,13 +30,14 @@ use crate::row::is_blank_row;
 use csv::ByteRecord;
 use found::Found;
 use head::Head;
-use head_words::missing_columns;
+use head_words::head_words;
 use kd_tables::{Sink, put_all};
-use note::{push_bytes, push_due_words, push_line, push_words};
+use note::{push_bytes, push_due_words, push_line};
 use row_note::push_row;
 use row_numbers::RowNumbers;
 use std::alloc::Global;
-pub use unread::unread_note;
+pub use taken::taken_note;
+use unread::unread_note;
 use words::Words;
 
 /// The note on a table whose quotes are wrong.
@@ -53,14 +54,20 @@ pub fn put_note<N: Sink>(notes: &mut N, note: &[u8])
 /// The note on a table in which all rows under the first row are blank.
 const NO_DAY: &str = "the table has no row with a day";
 
-/// Appends the notes on unread columns, and on missing columns that every table needs.
+/// Said of a table of which a column is misnamed.
+const MISNAMED: &str = "the name of a column is nearly that of another, which isn't there";
+
+/// Appends the lines on the first row: the columns that aren't read, those that are misnamed, and those that any table needs and
+/// this one lacks.
 fn push_head(note: &mut Vec<u8>, head: &Head<'_>) -> Result<(), SpreadsheetFault>
     ensures { IfOk result (λ _. (missing : List (List ℕ)) × (note.new.items ≡ note.old.items
-        ++ (unread_note head.now.names ++ flat_map (line_at (codes "row 1: ")) missing))) }
+        ++ (unread_note head.now.names ++ flat_map (line_at (codes "row 1: ")) missing))
+        × (is_misnamed head.now.columns head.now.names ≡ true → 0 < length missing)) }
 {
     let unread = unread_note(head.alloc(), head.names())?;
     push_bytes(note, unread.as_slice())?;
-    push_words(note, b"row 1: ", &missing_columns(head))
+    let is_due = is_misnamed(head.columns(), head.names());
+    push_due_words(note, b"row 1: ", &head_words(head), is_due, MISNAMED)
 }
 
 /// Appends the notes on a row under the first row. A blank row has no notes.

@@ -1,6 +1,5 @@
-//! Checks the quotes of a table. The library `csv` doesn't refuse any table: after an open quote, it would read the
-//! rest as one cell.
-ghost use Rattle.std.specs.Prelude.{◌≡◌, find, if◌then◌else◌};
+//! Tests the quotes of a table. The library `csv` refuses nothing: it would read an open quote to the table's end.
+ghost use Rattle.std.specs.Prelude.{◌≡◌, if◌then◌else◌};
 ghost use Rattle.csv.specs.Reading.{strip_bom};
 ghost use Rattle.kd_table.specs.Rows.{is_separator, separator_of, ends_cell, quoting_after_byte, quoting_after, may_end, is_well_quoted};
 
@@ -26,26 +25,16 @@ fn is_separator(byte: u8) -> bool
     byte == b',' || byte == b';' || byte == b'\t'
 }
 
-/// The first byte of `table` that may separate cells.
-fn first_separator(table: &[u8]) -> Option<u8>
-    ensures { result ≡ find is_separator table.now }
-{
-    for byte in table {
-        if is_separator(*byte) {
-            return Some(*byte);
-        }
-    }
-    None
-}
-
-/// The separator of the cells of `table`: its first comma, semicolon or tab. If `table` has none of these, a comma.
+/// The first comma, semicolon or tab of `table`, which separates its cells; a comma if there is none.
 pub fn separator_of(table: &[u8]) -> u8
     ensures { result ≡ separator_of table.now }
 {
-    match first_separator(table) {
-        Some(byte) => byte,
-        None => b',',
+    for byte in table {
+        if is_separator(*byte) {
+            return *byte;
+        }
     }
+    b','
 }
 
 fn ends_cell(separator: u8, byte: u8) -> bool

@@ -2,23 +2,20 @@
 ghost use Rattle.std.specs.Prelude.{◌≡◌, ◌++◌, ◌∷◌, [], List, ℕ, IfOk, map};
 ghost use Rattle.csv.specs.Records.{fields_of};
 ghost use Rattle.kd_table.specs.Options.{texts_of};
-ghost use Rattle.kd_table.specs.Table.{is_taken, AreRows, IsBodyRead, IsRead};
+ghost use Rattle.kd_table.specs.Table.{is_taken, IsBodyRead};
 
 use crate::columns::Columns;
 use crate::fault::SpreadsheetFault;
 use crate::options::TableOptions;
-use crate::records::read_records;
 use crate::row::{is_blank_row, row_day};
 use csv::ByteRecord;
 use kd_state::SheetDay;
 use std::alloc::Global;
 
-/// What was read in the rows of a table so far.
+/// What was read of the rows under the first row.
 #[derive(Drop)]
 pub struct Reading {
-    /// The columns; `None` before the first row is read.
-    pub columns: Option<Columns>,
-    /// The days of the rows so far. No two days have the same number.
+    /// The days that rows describe, each with its own number.
     pub days: Vec<SheetDay>,
     /// Whether a row was refused.
     pub refused: bool,
@@ -63,56 +60,20 @@ fn read_body_row(
     Ok(refused)
 }
 
-fn read_row(
-    reading: &mut Reading,
-    options: &TableOptions<&[u8]>,
-    row: &ByteRecord,
-) -> Result<(), SpreadsheetFault>
-    ensures { IfOk result (λ _. (rows : List (List (List ℕ)))
-        → IsRead (texts_of options.now) rows reading.old.columns
-        reading.old.days.items reading.old.refused
-        → IsRead (texts_of options.now) (rows ++ fields_of row.now ∷ []) reading.new.columns
-        reading.new.days.items reading.new.refused) }
-{
-    match reading.columns {
-        None => reading.columns = Some(Columns::of_head(row)),
-        Some(columns) => {
-            let refused = reading.refused;
-            reading.refused = read_body_row(&mut reading.days, refused, options, &columns, row)?;
-        }
-    }
-    Ok(())
-}
-
-/// Reads these rows. The first row names the columns.
-fn read_all(
+/// Reads the rows under the first row.
+pub fn read_body(
     alloc: Global,
+    options: &TableOptions<&[u8]>,
+    columns: &Columns,
     rows: &[ByteRecord],
-    options: &TableOptions<&[u8]>,
 ) -> Result<Reading, SpreadsheetFault>
-    ensures { IfOk result (λ reading. IsRead (texts_of options.now) (map fields_of rows.now)
-        reading.columns reading.days.items reading.refused) }
+    ensures { IfOk result (λ reading. IsBodyRead (texts_of options.now) columns.now
+        (map fields_of rows.now) reading.days.items reading.refused) }
 {
-    let mut reading = Reading {
-        columns: None,
-        days: Vec::new(alloc),
-        refused: false,
-    };
+    let mut days = Vec::new(alloc);
+    let mut refused = false;
     for row in rows {
-        read_row(&mut reading, options, row)?;
+        refused = read_body_row(&mut days, refused, options, columns, row)?;
     }
-    Ok(reading)
-}
-
-/// Reads all rows of `table`.
-pub fn read_rows(
-    alloc: Global,
-    table: &[u8],
-    options: &TableOptions<&[u8]>,
-) -> Result<Reading, SpreadsheetFault>
-    ensures { IfOk result (λ reading. (rows : List (List (List ℕ))) × AreRows table.now rows
-        × IsRead (texts_of options.now) rows reading.columns reading.days.items reading.refused) }
-{
-    let rows = read_records(alloc, table)?;
-    read_all(alloc, rows.as_slice(), options)
+    Ok(Reading { days, refused })
 }

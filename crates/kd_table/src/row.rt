@@ -1,10 +1,11 @@
 //! Reads a row of a table as a day.
 ghost use Rattle.std.specs.Prelude.{◌≡◌, ◌-◌, MatchOption, Some};
 ghost use Rattle.csv.specs.Records.{fields_of};
-ghost use Rattle.std.specs.List.{list_all, range_with_len};
+ghost use Rattle.std.specs.List.{list_all, list_any, range_with_len};
 ghost use Rattle.kd_table.specs.{Columns.{cell_at}, Items.{is_blank}};
 ghost use Rattle.kd_table.specs.Options.{texts_of};
-ghost use Rattle.kd_table.specs.Row.{fits_columns, is_blank_row, places_of, row_values, IsDayOfRow, IsNoDay};
+ghost use Rattle.kd_table.specs.Row.{fits_columns, is_at, is_blank_row, is_column_read, places_of};
+ghost use Rattle.kd_table.specs.Row.{row_values, IsDayOfRow, IsNoDay};
 
 use crate::columns::{Columns, cell_at, cell_or};
 use crate::items::is_blank;
@@ -34,7 +35,34 @@ pub fn places_of(columns: &Columns) -> [Option<usize>; 10]
     ]
 }
 
-/// Whether `row` is blank in these columns.
+/// Whether the column is the one at `place`.
+fn is_at(place: usize, column: Option<usize>) -> bool
+    ensures { result ≡ is_at place column }
+{
+    match column {
+        Some(other) => other == place,
+        None => false,
+    }
+}
+
+/// Whether one of the columns is the one at `place`.
+fn is_among(place: usize, columns: &[Option<usize>]) -> bool
+    ensures { result ≡ list_any (is_at place) columns.now }
+{
+    match columns {
+        [column, rest @ ..] => is_at(place, *column) || is_among(place, rest),
+        [] => false,
+    }
+}
+
+/// Whether the column at `place` is read.
+pub fn is_column_read(columns: &Columns, place: usize) -> bool
+    ensures { result ≡ is_column_read columns.now place }
+{
+    is_among(place, &places_of(columns)) || is_among(place, &columns.pins)
+}
+
+/// Whether `row` has nothing in these columns.
 fn has_nothing(row: &ByteRecord, columns: &[Option<usize>]) -> bool
     ensures { result ≡ list_all (λ column. is_blank (cell_at column (fields_of row.now))) columns.now }
 {

@@ -1,50 +1,87 @@
-//! The command `sheet`: makes a key sheet from a table.
-ghost use Rattle.std.specs.Prelude.{◌≡◌, ◌≢◌, ◌⊎◌, ◌||◌, ◌∷◌, ℕ, Ok, Err, IfOk, IsErr, List, false};
+//! The command `sheet`: makes a key sheet of a table.
+ghost use Rattle.std.specs.Prelude.{◌≡◌, ◌≢◌, ◌⊎◌, ◌||◌, Ok, Err, IfOk, IsErr, List, false, map};
+ghost use Rattle.csv.specs.Records.{fields_of};
 ghost use Rattle.std.specs.Io.KnownBytes.{Appends};
 ghost use Rattle.kd_tables.specs.Writing.{TakesPrefix};
 ghost use Rattle.kd_state.specs.SheetDay.{Day};
 ghost use Rattle.kd_sheet.specs.{Sheet.{month_of}, SheetFile.{sheet_of}, SheetText.{sheet_text}};
 ghost use Rattle.kd_tables.specs.Ports.{port};
-ghost use Rattle.kd_table.specs.{Notes.{unread_note, HasHead, Tells, TellsRefused, TellsUnread}, Options.{texts_of}};
-ghost use Rattle.kd_table.specs.Table.{AreRows, TableMeans, IsRefusedTable, is_device};
+ghost use Rattle.kd_table.specs.Notes.{IsTaken, IsTakenOfRows, Tells, TellsRefused, TellsTaken};
+ghost use Rattle.kd_table.specs.Options.{texts_of};
+ghost use Rattle.kd_table.specs.Table.{AreRefusedRows, TableMeans, IsRefusedTable, is_device};
 ghost use Rattle.kd_table.specs.declared.fault.SpreadsheetFault.TheVariants as faults;
 
+use crate::columns::Columns;
 use crate::fault::SpreadsheetFault;
-use crate::notes::{put_note, refused_note, unread_note};
+use crate::near_names::is_misnamed;
+use crate::notes::{put_note, refused_note, taken_note};
 use crate::options::TableOptions;
 use crate::quotes::is_well_quoted;
-use crate::reading::{Reading, read_rows};
+use crate::reading::{Reading, read_body};
 use crate::records::read_records;
 use crate::sheet_writer::write_sheet;
+use csv::ByteRecord;
 use kd_state::SheetDay;
 use kd_tables::{Device, Sink};
 use std::alloc::Global;
 
+/// The days that a table means, and the note on the table.
+#[derive(Drop)]
+struct Taken {
+    days: Vec<SheetDay>,
+    note: Vec<u8>,
+}
+
+/// Reads the rows of a table, of which the first is `names`.
+fn take_rows(
+    alloc: Global,
+    options: &TableOptions<&[u8]>,
+    names: &ByteRecord,
+    rows: &[ByteRecord],
+) -> Result<Taken, SpreadsheetFault>
+    ensures taken { IfOk result (λ taken. IsTakenOfRows (texts_of options.now) (fields_of names.now)
+        (map fields_of rows.now) taken.days.items taken.note.items) }
+    ensures refused { result ≡ Err faults.Refused
+        → AreRefusedRows (texts_of options.now) (fields_of names.now) (map fields_of rows.now) }
+    ensures unwritten { is_device result ≡ false }
+{
+    let columns = Columns::of_head(names);
+    if is_misnamed(&columns, names) {
+        return Err(SpreadsheetFault::Refused);
+    }
+    let Ok(Reading { days, refused }) = read_body(alloc, options, &columns, rows) else {
+        return Err(SpreadsheetFault::NoMemory);
+    };
+    if refused || days.is_empty() {
+        return Err(SpreadsheetFault::Refused);
+    }
+    match taken_note(alloc, names, days.as_slice()) {
+        Ok(note) => Ok(Taken { days, note }),
+        Err(_) => Err(SpreadsheetFault::NoMemory),
+    }
+}
+
 /// Reads a table as the days of a key sheet.
-fn read_days(
+fn take_table(
     alloc: Global,
     table: &[u8],
     options: &TableOptions<&[u8]>,
-) -> Result<Vec<SheetDay>, SpreadsheetFault>
-    ensures days { IfOk result (λ days. TableMeans (texts_of options.now) table.now days.items) }
+) -> Result<Taken, SpreadsheetFault>
+    ensures taken { IfOk result (λ taken. IsTaken (texts_of options.now) table.now
+        taken.days.items taken.note.items) }
     ensures refused { result ≡ Err faults.Refused → IsRefusedTable (texts_of options.now) table.now }
     ensures unwritten { is_device result ≡ false }
 {
     if !is_well_quoted(table) {
         return Err(SpreadsheetFault::Refused);
     }
-    let reading = match read_rows(alloc, table, options) {
-        Ok(reading) => reading,
-        Err(_) => return Err(SpreadsheetFault::NoMemory),
+    let Ok(records) = read_records(alloc, table) else {
+        return Err(SpreadsheetFault::NoMemory);
     };
-    let Reading { days, refused, .. } = reading;
-    if refused {
-        return Err(SpreadsheetFault::Refused);
+    match records.as_slice() {
+        [names, rows @ ..] => take_rows(alloc, options, names, rows),
+        [] => Err(SpreadsheetFault::Refused),
     }
-    if days.is_empty() {
-        return Err(SpreadsheetFault::Refused);
-    }
-    Ok(days)
 }
 
 /// Writes the notes on the table, if `fault` is `Refused`. Returns `fault`, or `NoMemory` if memory runs out for the
@@ -70,24 +107,12 @@ fn tell_refused<N: Sink>(
     fault
 }
 
-/// The notes on the unread columns of a table.
-fn note_of_columns(alloc: Global, table: &[u8]) -> Result<Vec<u8>, SpreadsheetFault>
-    requires { (head : List (List ℕ)) × (rows : List (List (List ℕ))) × AreRows table.now (head ∷ rows) }
-    ensures note { IfOk result (λ note. (head : List (List ℕ)) × HasHead table.now head
-        × (note.items ≡ unread_note head)) }
-{
-    let rows = read_records(alloc, table)?;
-    match rows.first() {
-        Some(head) => unread_note(alloc, head),
-        None => Ok(Vec::new(alloc)),
-    }
-}
-
-/// Writes the key sheet with the days of `table`. If the table isn't refused, `notes` gets a line for each unread column.
+/// Writes the key sheet that the days of `table` make.
 ///
-/// On `Refused`, the table is refused: nothing is written, and `notes` gets lines about the table's faults. On
-/// `Device`, the sink has taken a prefix of the sheet. On `NoMemory`, nothing is written, and lines may be missing in
-/// `notes`.
+/// `Refused` if the table is refused: nothing is written, and `notes` gets a line for each fault. On `Device`, the sink
+/// has taken a prefix of the sheet. `notes` gets a line for each column that isn't read, too, and for each day of a table that
+/// isn't refused which has fewer pairs or groups than another day of its model. On `NoMemory`, nothing is written, and `notes`
+/// may lack lines.
 pub fn run_sheet<W: Sink, N: Sink>(
     alloc: Global,
     table: &[u8],
@@ -104,20 +129,17 @@ pub fn run_sheet<W: Sink, N: Sink>(
         × TakesPrefix (W.taken sink.old) (W.taken sink.new) (sheet_text days) }
     ensures untouched { IsErr result → is_device result ≡ false → sink.new ≡ sink.old }
     ensures told { Tells (port N.taken N.has_failed notes.old notes.new) }
-    ensures unread { result ≢ Err faults.Refused → result ≢ Err faults.NoMemory
-        → TellsUnread table.now (port N.taken N.has_failed notes.old notes.new) }
+    ensures noted { result ≢ Err faults.Refused → result ≢ Err faults.NoMemory
+        → TellsTaken (texts_of options.now) table.now (port N.taken N.has_failed notes.old notes.new) }
     ensures explained { result ≡ Err faults.Refused
         → TellsRefused (texts_of options.now) table.now (port N.taken N.has_failed notes.old notes.new) }
     ensures failed { W.has_failed sink.new ≡ (W.has_failed sink.old || is_device result) }
 {
-    let days = match read_days(alloc, table, options) {
-        Ok(days) => days,
+    let Taken { days, note } = match take_table(alloc, table, options) {
+        Ok(taken) => taken,
         Err(fault) => return Err(tell_refused(fault, alloc, table, options, notes)),
     };
-    match note_of_columns(alloc, table) {
-        Ok(note) => put_note(notes, note.as_slice()),
-        Err(_) => return Err(SpreadsheetFault::NoMemory),
-    }
+    put_note(notes, note.as_slice());
     match write_sheet(sink, days.as_slice()) {
         Ok(()) => Ok(()),
         Err(Device) => Err(SpreadsheetFault::Device),

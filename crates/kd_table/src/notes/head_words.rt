@@ -1,11 +1,11 @@
-//! The words that say which columns a table lacks, or why its first row has no column names.
+//! Says which columns a table lacks, which are misnamed, or why its first row names none.
 use super::head::Head;
-use super::near_names::near_column;
 use super::note::option_name;
 use super::words::Words;
 use crate::cell::{Cell, cells_of, column_of, has_text, is_optional};
 use crate::columns::{Columns, cell_at, english_name, german_name, short_name};
 use crate::names::is_named;
+use crate::near_names::{ALL_CELLS, is_near_name, near_column};
 use crate::row::places_of;
 use kd_tables::Model;
 
@@ -21,23 +21,44 @@ static OFTEN_NAMED: [Cell; 5] = [
     Cell::Bars,
 ];
 
-/// Names the columns that every table needs, but this table lacks. If the first row has no column names, says why.
-pub fn missing_columns(head: &Head<'_>) -> Words {
-    if names_none(head.columns()) {
-        let mut lines = Words::new();
-        lines.tell(nameless_words(cell_at(head.names(), Some(0))));
-        return lines;
+/// Says which columns are misnamed, and which the table lacks that any table needs, or why its first row names none.
+pub fn head_words(head: &Head<'_>) -> Words {
+    let mut lines = Words::new();
+    for cell in &ALL_CELLS {
+        tell_near(&mut lines, head, *cell);
     }
-    missing_among(head, &NEEDED)
+    if !names_none(head.columns()) {
+        tell_missing(&mut lines, head, &NEEDED);
+    } else if lines.is_empty() {
+        lines.tell(nameless_words(cell_at(head.names(), Some(0))));
+    }
+    lines
 }
 
 /// Names the columns that a day of `model` needs, but this table lacks. If the first row has no column names, says
 /// nothing.
 pub fn missing_of_model(head: &Head<'_>, model: Model) -> Words {
-    if names_none(head.columns()) {
-        return Words::new();
+    let mut lines = Words::new();
+    if !names_none(head.columns()) {
+        tell_missing(&mut lines, head, cells_of(model));
     }
-    missing_among(head, cells_of(model))
+    lines
+}
+
+/// Asks whether the column of `cell` was meant by a name that is nearly its own, if the table lacks the column.
+fn tell_near(lines: &mut Words, head: &Head<'_>, cell: Cell) {
+    if column_of(head.columns(), cell).is_none()
+        && let Some(column) = near_column(head.columns(), head.names(), cell)
+    {
+        let name = cell_at(head.names(), Some(column));
+        lines.begin();
+        lines.add("did you mean ");
+        lines.add(meant_name(cell, name));
+        lines.add(" by ");
+        lines.add_cell(name);
+        lines.add("? If not, give this column another name");
+        lines.end();
+    }
 }
 
 /// Whether the first row names none of the columns that are read.
@@ -79,15 +100,27 @@ fn says_separator(cell: &[u8]) -> bool {
     is_named("sep=", start)
 }
 
-/// Names each column of `cells` that is needed, but missing in the table.
-fn missing_among(head: &Head<'_>, cells: &[Cell]) -> Words {
-    let mut lines = Words::new();
+/// The name of the column of `cell` that was meant by `name`, which is nearly it.
+fn meant_name(cell: Cell, name: &[u8]) -> &'static str {
+    if is_near_name(name, english_name(cell)) {
+        english_name(cell)
+    } else if is_near_name(name, german_name(cell)) {
+        german_name(cell)
+    } else {
+        short_name(cell)
+    }
+}
+
+/// Says which columns of `cells` the table lacks, but for those that are misnamed.
+fn tell_missing(lines: &mut Words, head: &Head<'_>, cells: &[Cell]) {
     for cell in cells {
-        if !is_optional(*cell) && !has_text(head.options(), head.columns(), *cell) {
-            missing_column(&mut lines, head, *cell);
+        if !is_optional(*cell)
+            && !has_text(head.options(), head.columns(), *cell)
+            && near_column(head.columns(), head.names(), *cell).is_none()
+        {
+            missing_column(lines, head, *cell);
         }
     }
-    lines
 }
 
 /// Says that the table lacks the column of `cell`.
@@ -103,22 +136,10 @@ fn missing_column(lines: &mut Words, head: &Head<'_>, cell: Cell) {
         lines.add(" nor an option ");
         lines.add(option);
     }
-    ask_for_name(lines, head, cell);
     lines.end();
 }
 
-/// If the name of a column is nearly a name of the column of `cell`, asks whether this column was meant.
-fn ask_for_name(lines: &mut Words, head: &Head<'_>, cell: Cell) {
-    if let Some(column) = near_column(head, cell) {
-        lines.add(": did you mean ");
-        lines.add(name_of(head, cell));
-        lines.add(" by ");
-        lines.add_cell(cell_at(head.names(), Some(column)));
-        lines.add("?");
-    }
-}
-
-/// The name of the column of `cell`, in the language in which the table's columns are named.
+/// The name of the column of `cell`, in the language of the table.
 fn name_of(head: &Head<'_>, cell: Cell) -> &'static str {
     if is_german(head) {
         german_name(cell)

@@ -16,9 +16,7 @@ use std::alloc::Global;
 pub fn push_bytes(note: &mut Vec<u8>, bytes: &[u8]) -> Result<(), SpreadsheetFault>
     ensures { IfOk result (λ _. note.new.items ≡ note.old.items ++ bytes.now) }
 {
-    if note.extend_from_slice(bytes).is_err() {
-        return Err(SpreadsheetFault::NoMemory);
-    }
+    note.extend_from_slice(bytes)?;
     Ok(())
 }
 

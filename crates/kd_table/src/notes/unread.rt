@@ -1,44 +1,19 @@
-//! The notes on unread columns.
-ghost use Rattle.std.specs.Prelude.{◌≡◌, ◌++◌, ◌+◌, ◌≤◌, ◌||◌, flat_map, IfOk};
-ghost use Rattle.std.specs.List.{list_any, range_with_len};
+//! The note on the columns that aren't read.
+ghost use Rattle.std.specs.Prelude.{◌≡◌, ◌++◌, ◌+◌, ◌≤◌, flat_map, IfOk};
+ghost use Rattle.std.specs.List.{range_with_len};
 ghost use Rattle.csv.specs.Records.{fields_of};
 ghost use Rattle.kd_table.specs.Columns.{columns_of};
-ghost use Rattle.kd_table.specs.Notes.{is_at, is_column_read, unread_line, unread_note};
+ghost use Rattle.kd_table.specs.Notes.{unread_line, unread_note};
 
 use super::note::{push_bytes, push_shown};
 use crate::columns::{Columns, cell_at};
 use crate::fault::SpreadsheetFault;
 use crate::items::is_blank;
-use crate::row::places_of;
+use crate::row::is_column_read;
 use csv::ByteRecord;
 use std::alloc::Global;
 
-fn is_at(place: usize, column: Option<usize>) -> bool
-    ensures { result ≡ is_at place column }
-{
-    match column {
-        Some(other) => other == place,
-        None => false,
-    }
-}
-
-fn is_among(place: usize, columns: &[Option<usize>]) -> bool
-    ensures { result ≡ list_any (is_at place) columns.now }
-{
-    match columns {
-        [column, rest @ ..] => is_at(place, *column) || is_among(place, rest),
-        [] => false,
-    }
-}
-
-/// Whether the column at `place` is read.
-pub fn is_column_read(columns: &Columns, place: usize) -> bool
-    ensures { result ≡ is_column_read columns.now place }
-{
-    is_among(place, &places_of(columns)) || is_among(place, &columns.pins)
-}
-
-/// Appends the note on the column at `place`, if the column has a name, but isn't read.
+/// Appends the line on the column at `place`, if it has a name, and isn't read.
 fn push_unread_line(
     note: &mut Vec<u8>,
     columns: &Columns,

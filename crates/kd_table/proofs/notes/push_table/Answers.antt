@@ -27,7 +27,7 @@ push_rows-requires c =
 pub returns : goal.returns
 returns c =
     let rows = rw (c.new-head.ensures, c.of_head-columns.ensures) at c.push_rows.ensures in
-    let pushed = rw c.new-head.ensures at c.in_ok-push_head.ensures in
+    let pushed = rw (c.new-head.ensures, c.of_head-columns.ensures) at c.in_ok-push_head.ensures in
     IfOk-weaker c.push_rows.result _ _ (λ done has. of_rows (texts_of c.args.options.now) c.args.table.now
     (fields_of c.names-item.result) _ _ _ c.requires pushed has)
     rows

@@ -6,13 +6,13 @@ use Rattle.kd_table.proofs.sheet.run_sheet.Goals as goal
 pub returns-in-Err-clause-refused : goal.returns-in-Err-clause-refused
 returns-in-Err-clause-refused g c = λ same.
     let e = still_refused c.in-Err.fault c.tell_refused.result c.tell_refused.ensures.fault (same_fault _ _ same) in
-    c.read_days.ensures.refused (c.in-Err.is ∙ ap (λ fault. Err fault) e)
+    c.take_table.ensures.refused (c.in-Err.is ∙ ap (λ fault. Err fault) e)
 
 pub returns-in-Ok-write_sheet-clause-sheet : goal.returns-in-Ok-write_sheet-clause-sheet
 returns-in-Ok-write_sheet-clause-sheet g c =
     let written = rw c.as_slice-2.ensures.value at c.in-Ok-write_sheet.ensures.text.whole in (
-      c.in-Ok.days.items,
-      c.in-Ok.ensures.days,
+      c.in-Ok.taken.days.items,
+      c.in-Ok.ensures.taken.means,
       written,
-      read_back (texts_of c.args.options.now) c.args.table.now c.in-Ok.days.items c.in-Ok.ensures.days,
+      read_back (texts_of c.args.options.now) c.args.table.now c.in-Ok.taken.days.items c.in-Ok.ensures.taken.means,
     )

@@ -1,7 +1,0 @@
-use Rattle.std.specs.String.{string_bytes}
-use Rattle.kd_look.specs.Warnings.{WarnsOfDays}
-use Rattle.kd_look.proofs.few_pairs.push_few_pairs.Given as goal
-
-abbrev pub invariant-loop-number : goal.invariant-loop-number
-invariant-loop-number l = WarnsOfDays l.name (string_bytes l.initial.lines)
-    → WarnsOfDays l.name (string_bytes l.lines)

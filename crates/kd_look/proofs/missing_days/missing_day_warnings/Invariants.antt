@@ -1,0 +1,9 @@
+use Rattle.std.proofs.Common.{◌≡◌, map, take}
+use Rattle.std.specs.{List.{flat_map}, String.{string_bytes}}
+use Rattle.kd_look.specs.MissingDays.{known_of, missing_lines}
+use Rattle.kd_look.proofs.missing_days.missing_day_warnings.Given as goal
+
+-- the lines on the files so far
+abbrev pub invariant-loop-file : goal.invariant-loop-file
+invariant-loop-file l = string_bytes l.lines
+    ≡ flat_map (missing_lines (map known_of l.files)) (map known_of (take l.file-index l.files))

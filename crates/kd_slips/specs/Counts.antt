@@ -1,0 +1,63 @@
+-- Days that have fewer pairs, or fewer groups, than another day of their model: a line for each.
+-- Test: tests/cases/curator-sheet.toml
+use Rattle.std.specs.Prelude.{codes, decimal, ℕ, nat_lt, ◌==◌, ◌&&◌, not, Bool, List, [], ◌++◌, find, flat_map, length, Option, if◌then◌else◌}
+use Rattle.std.specs.List.{list_any}
+use Rattle.std.specs.Option.{option_map_or}
+use Rattle.kd_tables.specs.contracts.model.ModelPartialEq.TheImpl as model_eq
+use Rattle.kd_tables.specs.declared.model.Model.TheVariants.{M209}
+use Rattle.kd_state.specs.SheetDay.{Day, Rotor, Pin}
+use Rattle.kd_slips.specs.declared.counts.Counted.{Counted}
+use Rattle.kd_slips.specs.declared.counts.Counted.TheVariants.{Groups, Pairs}
+use Rattle.kd_slips.specs.declared.counts.DayCounts.{DayCounts}
+
+-- how many pairs and groups a day has; a Converter's day has none
+abbrev pub counts_of : Day → DayCounts
+counts_of (Rotor values) = record {
+  day = values.day;
+  model = values.model;
+  pairs = length values.pairs;
+  groups = length values.groups;
+}
+counts_of (Pin values) = record { day = values.day; model = M209; pairs = 0; groups = 0 }
+
+abbrev pub count : Counted → DayCounts → ℕ
+count Pairs day = day.pairs
+count Groups day = day.groups
+
+-- whether the other day is for the same model, and has more
+abbrev pub has_more : Counted → DayCounts → DayCounts → Bool
+has_more counted day other =
+    (model_eq.ghosts).eq other.model day.model && nat_lt (count counted day) (count counted other)
+
+-- whether the other day has more, and no day of its model has more than it
+abbrev pub has_most : Counted → List DayCounts → DayCounts → DayCounts → Bool
+has_most counted days day other = has_more counted day other && not (list_any (has_more counted other) days)
+
+-- what is counted, of which there is one
+abbrev pub noun : Counted → List ℕ
+noun Pairs = codes " pair"
+noun Groups = codes " group"
+
+-- how many there are, such as `no pairs`, `1 pair`, `2 pairs`
+unfoldable pub count_words : Counted → ℕ → List ℕ
+count_words counted number =
+    (if number == 0 then codes "no" else decimal number) ++ noun counted ++ (if number == 1 then [] else codes "s")
+
+-- the line on a day, and on another day of its model that has most
+unfoldable pub few_words : List ℕ → Counted → DayCounts → DayCounts → List ℕ
+few_words start counted day most =
+    start ++ codes "day " ++ decimal day.day ++ codes " has " ++ count_words counted (count counted day)
+    ++ codes ", and day " ++ decimal most.day ++ codes " has " ++ decimal (count counted most) ++ codes "\n"
+
+-- the line on a day, if it has fewer than another day of its model
+abbrev pub few_line : List ℕ → List DayCounts → DayCounts → Counted → List ℕ
+few_line start days day counted =
+    option_map_or (few_words start counted day) (find (has_most counted days day) days) []
+
+-- the lines on a day: on its pairs, and on its groups
+unfoldable pub day_lines : List ℕ → List DayCounts → DayCounts → List ℕ
+day_lines start days day = few_line start days day Pairs ++ few_line start days day Groups
+
+-- the lines on all days, each of which begins with `start`
+abbrev pub few_lines : List ℕ → List DayCounts → List ℕ
+few_lines start days = flat_map (day_lines start days) days

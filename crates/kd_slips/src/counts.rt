@@ -1,0 +1,194 @@
+//! Finds days that have fewer pairs, or fewer groups, than another day of their model.
+ghost use Rattle.std.specs.Prelude.{◌≡◌, ◌++◌, decimal, find, OnOk, IfOk};
+ghost use Rattle.std.specs.List.{list_any};
+ghost use Rattle.std.specs.String.{string_bytes};
+ghost use Rattle.kd_slips.specs.Counts.{count, count_words, counts_of, day_lines, few_line, few_lines, few_words};
+ghost use Rattle.kd_slips.specs.Counts.{has_more, has_most, noun};
+
+use itoa::Buffer;
+use kd_state::SheetDay;
+use kd_tables::Model;
+use std::alloc::{AllocError, Global};
+
+/// What is counted of a day.
+#[derive(Clone, Copy)]
+pub enum Counted {
+    Pairs,
+    Groups,
+}
+
+/// A day, with its number of pairs and of groups.
+#[derive(Clone, Copy)]
+pub struct DayCounts {
+    pub day: u8,
+    pub model: Model,
+    pub pairs: usize,
+    pub groups: usize,
+}
+
+/// The number of pairs and of groups of a day. A Converter's day has none.
+pub fn counts_of(day: &SheetDay) -> DayCounts
+    ensures { result ≡ counts_of day.now }
+{
+    DayCounts {
+        day: day.day(),
+        model: day.model(),
+        pairs: day.pairs().unwrap_or(&[]).len(),
+        groups: day.groups().unwrap_or(&[]).len(),
+    }
+}
+
+/// How many there are of what is counted.
+fn count(counted: Counted, day: &DayCounts) -> usize
+    ensures { result ≡ count counted day.now }
+{
+    match counted {
+        Counted::Pairs => day.pairs,
+        Counted::Groups => day.groups,
+    }
+}
+
+/// Whether `other` is for the model of `day`, and has more.
+fn has_more(counted: Counted, day: &DayCounts, other: &DayCounts) -> bool
+    ensures { result ≡ has_more counted day.now other.now }
+{
+    other.model == day.model && count(counted, day) < count(counted, other)
+}
+
+/// Whether one of `days` is for the model of `day`, and has more.
+fn is_topped(counted: Counted, day: &DayCounts, days: &[DayCounts]) -> bool
+    ensures { result ≡ list_any (has_more counted day.now) days.now }
+{
+    match days {
+        [other, rest @ ..] => has_more(counted, day, other) || is_topped(counted, day, rest),
+        [] => false,
+    }
+}
+
+/// Whether `other` has more than `day`, and none of `days` has more than `other`.
+fn has_most(counted: Counted, days: &[DayCounts], day: &DayCounts, other: &DayCounts) -> bool
+    ensures { result ≡ has_most counted days.now day.now other.now }
+{
+    has_more(counted, day, other) && !is_topped(counted, other, days)
+}
+
+/// The first day of `rest` that has more than `day`, and than which none of `days` has more.
+fn find_most(
+    counted: Counted,
+    days: &[DayCounts],
+    day: &DayCounts,
+    rest: &[DayCounts],
+) -> Option<DayCounts>
+    ensures { result ≡ find (has_most counted days.now day.now) rest.now }
+{
+    match rest {
+        [other, rest @ ..] => {
+            if has_most(counted, days, day, other) {
+                Some(*other)
+            } else {
+                find_most(counted, days, day, rest)
+            }
+        }
+        [] => None,
+    }
+}
+
+/// Appends `title` and a number.
+#[tactic(auto, using(std::proofs::Common::append_assoc))]
+fn push_titled(text: &mut String, title: &str, number: usize) -> Result<(), AllocError>
+    ensures { OnOk result (string_bytes text.new
+        ≡ string_bytes text.old ++ title.now ++ decimal number) }
+{
+    let mut buffer = Buffer::new();
+    text.push_str(title)?;
+    text.push_str(buffer.format(number))
+}
+
+/// What is counted, of which there is one.
+fn noun(counted: Counted) -> &'static str
+    ensures { result.now ≡ noun counted }
+{
+    match counted {
+        Counted::Pairs => " pair",
+        Counted::Groups => " group",
+    }
+}
+
+/// Appends how many there are, such as `no pairs`.
+#[tactic(auto, using(std::proofs::Common::append_assoc), unfolding(crate::specs::Counts::count_words))]
+fn push_count(text: &mut String, counted: Counted, number: usize) -> Result<(), AllocError>
+    ensures { OnOk result (string_bytes text.new
+        ≡ string_bytes text.old ++ count_words counted number) }
+{
+    if number == 0 {
+        text.push_str("no")?;
+    } else {
+        push_titled(text, "", number)?;
+    }
+    text.push_str(noun(counted))?;
+    text.push_str(if number == 1 { "" } else { "s" })
+}
+
+/// Appends the line on `day`, and on `most`, a day of its model that has most.
+#[tactic(auto, using(std::proofs::Common::append_assoc), unfolding(crate::specs::Counts::few_words))]
+fn push_words(
+    lines: &mut String,
+    start: &str,
+    counted: Counted,
+    day: &DayCounts,
+    most: &DayCounts,
+) -> Result<(), AllocError>
+    ensures { OnOk result (string_bytes lines.new
+        ≡ string_bytes lines.old ++ few_words start.now counted day.now most.now) }
+{
+    lines.push_str(start)?;
+    push_titled(lines, "day ", usize::from(day.day))?;
+    lines.push_str(" has ")?;
+    push_count(lines, counted, count(counted, day))?;
+    push_titled(lines, ", and day ", usize::from(most.day))?;
+    push_titled(lines, " has ", count(counted, most))?;
+    lines.push_str("\n")
+}
+
+/// Appends the line on `day`, if another of `days` for its model has more.
+fn push_few(
+    lines: &mut String,
+    start: &str,
+    days: &[DayCounts],
+    day: &DayCounts,
+    counted: Counted,
+) -> Result<(), AllocError>
+    ensures { OnOk result (string_bytes lines.new
+        ≡ string_bytes lines.old ++ few_line start.now days.now day.now counted) }
+{
+    match find_most(counted, days, day, days) {
+        Some(most) => push_words(lines, start, counted, day, &most),
+        None => Ok(()),
+    }
+}
+
+/// Appends the lines on `day`: on its pairs, and on its groups.
+#[tactic(auto, using(std::proofs::Common::append_assoc), unfolding(crate::specs::Counts::day_lines))]
+fn push_day(
+    lines: &mut String,
+    start: &str,
+    days: &[DayCounts],
+    day: &DayCounts,
+) -> Result<(), AllocError>
+    ensures { OnOk result (string_bytes lines.new
+        ≡ string_bytes lines.old ++ day_lines start.now days.now day.now) }
+{
+    push_few(lines, start, days, day, Counted::Pairs)?;
+    push_few(lines, start, days, day, Counted::Groups)
+}
+
+/// The lines on all days that have fewer pairs, or fewer groups, than another day of their model. Each begins with `start`.
+pub fn few_lines(alloc: Global, start: &str, days: &[DayCounts]) -> Result<String, AllocError>
+    ensures { IfOk result (λ lines. string_bytes lines ≡ few_lines start.now days.now) }
+{
+    let mut lines = String::new(alloc);
+    for day in days {
+        push_day(&mut lines, start, days, day)?;
+    }
+    Ok(lines)
+}

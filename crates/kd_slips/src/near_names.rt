@@ -1,0 +1,64 @@
+//! Compares names that are perhaps mistyped.
+ghost use Rattle.std.specs.Prelude.{◌≡◌, ◌≤◌, length};
+ghost use Rattle.kd_slips.specs.NearNames.{alike_at_end, alike_at_start, in_common, is_near, larger, smaller};
+
+/// How many letters are alike at the starts of two names. Capital and small letters are alike.
+fn alike_at_start(name: &[u8], known: &[u8]) -> usize
+    ensures value { result ≡ alike_at_start name.now known.now }
+    ensures few { result ≤ length name.now }
+{
+    let [letter, name @ ..] = name else {
+        return 0;
+    };
+    let [other, known @ ..] = known else {
+        return 0;
+    };
+    if !letter.eq_ignore_ascii_case(other) {
+        return 0;
+    }
+    alike_at_start(name, known) + 1
+}
+
+/// How many letters are alike at the ends of two names.
+fn alike_at_end(name: &[u8], known: &[u8]) -> usize
+    ensures value { result ≡ alike_at_end name.now known.now }
+    ensures few { result ≤ length name.now }
+{
+    let [name @ .., letter] = name else {
+        return 0;
+    };
+    let [known @ .., other] = known else {
+        return 0;
+    };
+    if !letter.eq_ignore_ascii_case(other) {
+        return 0;
+    }
+    alike_at_end(name, known) + 1
+}
+
+/// How many letters of each name are alike at the start or at the end.
+fn in_common(name: &[u8], known: &[u8]) -> usize
+    ensures value { result ≡ in_common name.now known.now }
+    ensures few { result ≤ length name.now }
+{
+    let most = if name.len() <= known.len() {
+        name.len()
+    } else {
+        known.len()
+    };
+    let alike = alike_at_start(name, known) + alike_at_end(name, known);
+    if alike <= most { alike } else { most }
+}
+
+/// Whether two names differ in one stretch alone, which has at most `slips` letters in each of them.
+#[tactic(auto, unfolding(crate::specs::NearNames::is_near))]
+pub fn is_near(slips: u8, name: &[u8], known: &[u8]) -> bool
+    ensures { result ≡ is_near slips name.now known.now }
+{
+    let most = if name.len() <= known.len() {
+        known.len()
+    } else {
+        name.len()
+    };
+    most <= in_common(name, known) + usize::from(slips)
+}

@@ -1,5 +1,0 @@
-use Rattle.std.proofs.Common.{length}
-use Rattle.kd_table.proofs.notes.near_names.+alike_at_start.Given as goal
-
-abbrev pub decreases-alike_at_start : goal.decreases-alike_at_start
-decreases-alike_at_start l = length l.known.now

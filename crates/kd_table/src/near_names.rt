@@ -1,0 +1,89 @@
+//! Finds columns that aren't read, and whose names are nearly those of columns that a table lacks.
+ghost use Rattle.std.specs.Prelude.{◌≡◌};
+ghost use Rattle.std.specs.List.{list_any};
+ghost use Rattle.csv.specs.Records.{fields_of};
+ghost use Rattle.kd_table.specs.NearNames.{is_meant, is_misnamed, is_near_column, is_near_name, lacks_near, near_column};
+
+use crate::cell::{Cell, column_of};
+use crate::columns::{COLUMNS, Columns, cell_at, english_name, german_name, short_name};
+use crate::row::is_column_read;
+use csv::ByteRecord;
+use kd_slips::near_names::is_near;
+
+/// All cells that a row may have.
+pub static ALL_CELLS: [Cell; 16] = [
+    Cell::Day,
+    Cell::Model,
+    Cell::Reflector,
+    Cell::Wheels,
+    Cell::Rings,
+    Cell::Window,
+    Cell::Plugs,
+    Cell::Groups,
+    Cell::List,
+    Cell::Pins1,
+    Cell::Pins2,
+    Cell::Pins3,
+    Cell::Pins4,
+    Cell::Pins5,
+    Cell::Pins6,
+    Cell::Bars,
+];
+
+/// Whether `name` is nearly `known`: but for one letter, or two letters of a name with at least five.
+pub fn is_near_name(name: &[u8], known: &str) -> bool
+    ensures { result ≡ is_near_name name.now known.now }
+{
+    let slips = if known.len() < 5 { 1 } else { 2 };
+    is_near(slips, name, known.as_bytes())
+}
+
+/// Whether `name` is nearly a name of the column of `cell`.
+fn is_near_column(cell: Cell, name: &[u8]) -> bool
+    ensures { result ≡ is_near_column cell name.now }
+{
+    is_near_name(name, english_name(cell))
+        || is_near_name(name, german_name(cell))
+        || is_near_name(name, short_name(cell))
+}
+
+/// Whether the column at `place` isn't read, and has nearly the name of the column of `cell`.
+fn is_meant(columns: &Columns, head: &ByteRecord, cell: Cell, place: usize) -> bool
+    ensures { result ≡ is_meant columns.now (fields_of head.now) cell place }
+{
+    !is_column_read(columns, place) && is_near_column(cell, cell_at(head, Some(place)))
+}
+
+/// The first column that isn't read, and that has nearly the name of the column of `cell`.
+pub fn near_column(columns: &Columns, head: &ByteRecord, cell: Cell) -> Option<usize>
+    ensures { result ≡ near_column columns.now (fields_of head.now) cell }
+{
+    (0..COLUMNS).find(|place| is_meant(columns, head, cell, *place))
+}
+
+/// Whether the table lacks the column of `cell`, and has one with nearly its name.
+fn lacks_near(columns: &Columns, head: &ByteRecord, cell: Cell) -> bool
+    ensures { result ≡ lacks_near columns.now (fields_of head.now) cell }
+{
+    column_of(columns, cell).is_none() && near_column(columns, head, cell).is_some()
+}
+
+/// Whether the table lacks one of the columns of `cells`, and has one with nearly its name.
+fn lacks_near_any(columns: &Columns, head: &ByteRecord, cells: &[Cell]) -> bool
+    ensures { result ≡ list_any (lacks_near columns.now (fields_of head.now)) cells.now }
+{
+    match cells {
+        [cell, rest @ ..] => {
+            lacks_near(columns, head, *cell) || lacks_near_any(columns, head, rest)
+        }
+        [] => false,
+    }
+}
+
+/// Whether the table lacks a column, and has one with nearly its name.
+#[tactic(auto, unfolding(crate::specs::NearNames::is_misnamed))]
+pub fn is_misnamed(columns: &Columns, head: &ByteRecord) -> bool
+    ensures { result ≡ is_misnamed columns.now (fields_of head.now) }
+{
+    lacks_near_any(columns, head, &ALL_CELLS)
+}
