@@ -28,7 +28,7 @@ pub fn is_known(keys: &[Key], name: &str) -> bool
     keys.iter().any(|key| key.name() == name)
 }
 
-/// The key of `keys` that is named `name` elsewhere.
+/// The key in `keys` that has `name` as another name.
 fn named_elsewhere(keys: &[Key], name: &str) -> Option<Key> {
     for (other, key) in &OTHER_NAMES {
         if *other == name && keys.contains(key) {

@@ -38,11 +38,11 @@ abbrev pub AreReports : List NamedText → List ℕ → Type 0
 AreReports [] text = text ≡ []
 AreReports (file ∷ rest) text = BeginsWith (IsReport file.name file.bytes) (λ others. AreReports rest others) text
 
--- the file's name, and what the file says
+-- the file's name, and the file's content, if it has no fault
 abbrev pub known_text : NamedText → KnownFile
 known_text file = record { name = file.name; file = result_ok (file_of file.bytes) }
 
--- The text has a report on each of the files, and then the warnings on machines for which no sheet has a day.
+-- The text has a report on each file. Then come the warnings about machines for which no key sheet has a day.
 pub record IsWholeReport (files : List NamedText) (text : List ℕ) : Type 0 where
   pub reports : List ℕ
   pub made : AreReports files reports

@@ -49,7 +49,7 @@ model_words month model = sort_words month (model_text model) (sorts.Of model)
 abbrev pub has_model : List (Option Day) → Model → Bool
 has_model month model = list_any (has_day month (sorts.Of model)) (range_with_len 1 31)
 
--- what a key sheet says: for each model its days, and the days without groups
+-- the words for a key sheet: the days of each model, and the days without groups
 unfoldable pub sheet_words : List (Option Day) → List ℕ
 sheet_words month =
     model_words month EnigmaI ++ model_words month M3 ++ model_words month M4 ++ model_words month M209

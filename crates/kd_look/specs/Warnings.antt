@@ -43,25 +43,26 @@ pub record WarnsOfDays (name text : List ℕ) : Type 0 where
   pub words : List (List ℕ)
   pub are : ArePieces (IsDayLine name) words text
 
--- how many pairs and groups day `number` has, if the sheet has this day
+-- the list with the numbers of pairs and groups of day `number`; empty if the sheet doesn't have this day
 abbrev pub counts_on : List (Option Day) → ℕ → List DayCounts
 counts_on month number = option_map_or (λ day. counts_of day ∷ []) (day_of month number) []
 
--- how many pairs and groups the days of a sheet have, in the order of their numbers
+-- the numbers of pairs and groups of a sheet's days, in the order of the days
 abbrev pub counts_in : List (Option Day) → List DayCounts
 counts_in month = flat_map (counts_on month) (range_with_len 1 31)
 
--- the warnings of days that have fewer pairs, or fewer groups, than another day of their model
+-- the warnings about days that have fewer pairs, or fewer groups, than another day of their model
 unfoldable pub few_day_words : List ℕ → List (Option Day) → List ℕ
 few_day_words name month = few_lines (name ++ codes ": warning: ") (counts_in month)
 
--- The text warns of the days of a sheet: of days that are alike, and of those with fewer pairs or groups than others.
+-- The text has the warnings about a sheet's days: about days that are alike, then about days that have fewer pairs or
+-- groups than another day of their model.
 pub record WarnsOfMonth (name : List ℕ) (month : List (Option Day)) (text : List ℕ) : Type 0 where
   pub alike : List ℕ
   pub of_alike : WarnsOfDays name alike
   pub whole : text ≡ alike ++ few_day_words name month
 
--- The text warns of the days of a file, if the file is a key sheet.
+-- The text has the warnings about the days of a file. It is empty if the file isn't a key sheet.
 abbrev pub WarnsOfFile : List ℕ → File → List ℕ → Type 0
 WarnsOfFile name (files.Machine machine) text = text ≡ []
 WarnsOfFile name (files.Sheet month) text = WarnsOfMonth name month text

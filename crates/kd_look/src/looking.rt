@@ -1,4 +1,4 @@
-//! `look_at`: says in words what files say, or what is wrong with them.
+//! `look_at`: describes files in words, or names their faults.
 ghost use Rattle.std.specs.Prelude.{◌≡◌, ◌||◌, ◌++◌, ◌∷◌, [], map, Err, IfOk, OnOk};
 ghost use Rattle.std.specs.String.{string_bytes};
 ghost use Rattle.kd_tables.specs.Ports.{port};
@@ -55,7 +55,7 @@ impl From<Device> for LookFault {
     }
 }
 
-/// Appends the report on `file`, and what the file says to `known`.
+/// Appends the report on `file` to `text`, and the file's content to `known`.
 fn push_report<'f>(
     text: &mut String,
     known: &mut Vec<ReadFile<'f>>,
@@ -81,7 +81,7 @@ fn push_report<'f>(
     Ok(outcome)
 }
 
-/// Appends the reports on `files`, and what each of them says to `known`.
+/// Appends the reports on `files` to `text`, and the files' contents to `known`.
 fn push_reports<'f>(
     text: &mut String,
     known: &mut Vec<ReadFile<'f>>,

@@ -18,7 +18,7 @@ unfoldable pub shown_text : List ℕ → List ℕ
 shown_text text = if can_be_shown text then codes "`" ++ text ++ codes "`"
     else codes "a text of " ++ decimal (length text) ++ codes " bytes"
 
--- the model's name, with its article
+-- the model's name, with an article before it
 abbrev pub model_with_article : Model → List ℕ
 model_with_article EnigmaI = codes "an Enigma I"
 model_with_article M3 = codes "an M3"

@@ -13,7 +13,7 @@ use kd_tables::{Model, Reflector, Wheel, allowed, in_box};
 use std::alloc::{AllocError, Global};
 use toml::{Table, Value};
 
-/// The model's name, with its article.
+/// The model's name, with an article before it.
 pub fn model_name(model: Model) -> &'static str
     ensures { result.now ≡ model_with_article model }
 {

@@ -1,6 +1,8 @@
--- What is told of a table on standard error. The columns that aren't read, and the days with fewer pairs or groups than others,
--- are told exactly. Of a refused table, each row that is no day has a line that begins with the row's place, and each cell that
--- can't be read has one that begins with the cell's place. What follows the place is in words that no definition gives.
+-- The notes on a table, on standard error. The notes on unread columns, and the warnings about days with few pairs or
+-- groups, are defined to the byte.
+-- The notes on a refused table have a line for each cell that can't be read. They also have a line for each row that
+-- isn't a day, unless the table lacks a column that the row needs. Such a line begins with the place of the cell or the
+-- row. No definition gives the words after the place.
 -- Test: tests/cases/curator-sheet.toml
 use Rattle.std.specs.Prelude.{◌≡◌, ◌<◌, ◌+◌, ◌==◌, ◌&&◌, ◌||◌, codes, decimal, nat_lt, ℕ, Bool, true, false, List, [], ◌∷◌, ◌++◌, drop, flat_map, length, map, slice_get, take, Option, Some, None, IfSome, IsTrue, if◌then◌else◌}
 use Rattle.std.specs.Io.KnownBytes.{Appends}
@@ -72,19 +74,19 @@ HasHead table head = (rows : List (List (List ℕ))) × AreRows table (head ∷ 
 
 -- ---- A table that means days.
 
--- the note on a table with this first row that means these days: on the columns that aren't read, and on the days that have
--- fewer pairs, or fewer groups, than another day of their model
+-- The note on a table that isn't refused, with the first row `head` and these days. It has the notes on unread columns,
+-- and the warnings about days that have fewer pairs, or fewer groups, than another day of their model.
 unfoldable pub taken_note : List (List ℕ) → List Day → List ℕ
 taken_note head days = unread_note head ++ few_lines (codes "warning: ") (map counts_of days)
 
--- The table means these days, and this is the note on it.
+-- The table means these days, and `note` is the note on the table.
 pub record IsTaken (options : OptionTexts) (table : List ℕ) (days : List Day) (note : List ℕ) : Type 0 where
   pub means : TableMeans options table days
   pub head : List (List ℕ)
   pub has : HasHead table head
   pub is : note ≡ taken_note head days
 
--- The table means days, and the note on it was written.
+-- The table means days, and the note on the table was written.
 abbrev pub TellsTaken : OptionTexts → List ℕ → Port → Type 0
 TellsTaken options table notes =
     (days : List Day) × (note : List ℕ) × IsTaken options table days note × TellsText notes note
@@ -163,8 +165,12 @@ quotes_note = codes "a quote isn't closed, or something follows the closing quot
 abbrev pub nothing_note : List ℕ
 nothing_note = codes "the table has no row with a day\n"
 
--- The note on a refused table: one line on wrong quotes, or on a table without rows. Otherwise, it tells which columns aren't
--- read, which are missing or misnamed, tells of each row, and says if no row has anything.
+-- The notes on a refused table:
+-- - If the table's quotes are wrong, a single line.
+-- - If the table has no rows, a single line.
+-- - Otherwise, the notes on unread columns, on misnamed or missing columns, and on each row. If a column is misnamed,
+--   there is at least one line about columns. If all rows under the first row are blank, there is at least one line
+--   about the whole table.
 pub data TellsTable (options : OptionTexts) (table : List ℕ) : List ℕ → Type 0 where
   OfQuotes : is_well_quoted table ≡ false → TellsTable options table quotes_note
   OfNothing : AreRows table [] → TellsTable options table nothing_note
@@ -205,7 +211,8 @@ pub record HasRowsNote (options : OptionTexts) (columns : Columns) (head : List 
   pub told : TellsRows options columns head (drop 1 (row_numbers table)) rows text
   pub empty : list_all (is_blank_row columns) rows ≡ true → 0 < length words
 
--- The rows under the first row describe these days, at least one, no column is misnamed, and this is the note on the table.
+-- The rows under the first row have these days, of which there is at least one. No column is misnamed, and `note` is
+-- the note on the table.
 pub record IsTakenOfRows (options : OptionTexts) (head : List (List ℕ)) (rows : List (List (List ℕ))) (days : List Day)
     (note : List ℕ) : Type 0 where
   pub named : is_misnamed (columns_of head) head ≡ false

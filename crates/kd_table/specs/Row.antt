@@ -27,7 +27,7 @@ is_at place column = option_map_or (λ other. other == place) column false
 abbrev pub is_column_read : Columns → ℕ → Bool
 is_column_read columns place = list_any (is_at place) (places_of columns) || list_any (is_at place) columns.pins
 
--- whether a row has nothing in the columns that are read
+-- whether a row is blank in all columns that are read
 abbrev pub is_blank_row : Columns → List (List ℕ) → Bool
 is_blank_row columns row =
     list_all (λ column. is_blank (cell_at column row)) (places_of columns)

@@ -48,7 +48,7 @@ pub record HasRefusedRow (options : OptionTexts) (columns : Columns) (rows : Lis
 abbrev pub AreRows : List ℕ → List (List (List ℕ)) → Type 0
 AreRows table rows = AreRecords (separated (separator_of table)) st.StartRecord (strip_bom table) rows
 
--- The table means these days: at least one, each described by a row. No column's name is nearly that of a missing column.
+-- The table means these days: its rows have these days, and there is at least one day. No column is misnamed.
 pub record TableMeans (options : OptionTexts) (table : List ℕ) (days : List Day) : Type 0 where
   pub quoted : is_well_quoted table ≡ true
   pub head : List (List ℕ)
@@ -58,7 +58,7 @@ pub record TableMeans (options : OptionTexts) (table : List ℕ) (days : List Da
   pub described : AreDaysOfRows options (columns_of head) rows days
   pub some : 0 < length days
 
--- The table is refused: its quotes are wrong, a column is misnamed, one of its rows is refused, or its rows describe no day.
+-- The table is refused: its quotes are wrong, or a column is misnamed, or a row is refused, or no row has a day.
 pub data IsRefusedTable (options : OptionTexts) (table : List ℕ) : Type 0 where
   WrongQuotes : is_well_quoted table ≡ false → IsRefusedTable options table
   Misnamed : (head : List (List ℕ)) (rows : List (List (List ℕ))) → AreRows table (head ∷ rows)
@@ -84,7 +84,8 @@ abbrev pub IsBodyRead : OptionTexts → Columns → List (List (List ℕ)) → L
 IsBodyRead options columns rows days false = AreDaysOfRows options columns rows days
 IsBodyRead options columns rows days true = HasRefusedRow options columns rows
 
--- The table with these rows, of which the first is `head`, is refused for them.
+-- A table with the first row `head` and the other rows `rows` is refused, because a column is misnamed, or a row is
+-- refused, or no row has a day.
 abbrev pub AreRefusedRows : OptionTexts → List (List ℕ) → List (List (List ℕ)) → Type 0
 AreRefusedRows options head rows = (is_misnamed (columns_of head) head ≡ true)
     ⊎ (HasRefusedRow options (columns_of head) rows ⊎ AreDaysOfRows options (columns_of head) rows [])

@@ -129,7 +129,7 @@ pub fn model_named(cell: &[u8]) -> Option<Model>
     model_among(&MODELS, cell)
 }
 
-/// The wheel that `word` names.
+/// The wheel with the name `word`.
 pub fn wheel_named(word: &[u8]) -> Option<Wheel>
     ensures { result ≡ wheel_named word.now }
 {
@@ -142,7 +142,7 @@ pub fn wheel_named(word: &[u8]) -> Option<Wheel>
     None
 }
 
-/// The name of a reflector behind `UKW`, for *Umkehrwalze*.
+/// The name of a reflector, after `UKW` (*Umkehrwalze*).
 fn long_name(reflector: Reflector) -> &'static str
     ensures name { result.now ≡ codes "UKW" ++ reflector_text reflector }
     ensures short { length result.now ≤ 32 }
@@ -163,7 +163,7 @@ fn names_reflector(reflector: Reflector, cell: &[u8]) -> bool
     is_named(reflector.text().as_str(), cell) || is_named(long_name(reflector), cell)
 }
 
-/// The reflector of `model` that `cell` names. On an M4 the letter B means the thin reflector b.
+/// The reflector of `model` whose name is in `cell`. On an M4, the letter B means the thin reflector b.
 pub fn reflector_named(model: Model, cell: &[u8]) -> Option<Reflector>
     ensures { result ≡ reflector_named model cell.now }
 {

@@ -1,4 +1,6 @@
-//! Tells in words what is wrong with a table. Which rows and cells are told is proved; the words aren't, but tests try them.
+//! Writes notes on the faults of a table.
+//!
+//! It is proved which rows and cells have notes. The words of the notes are only tested.
 ghost use Rattle.std.specs.Prelude.{◌≡◌, ◌<◌, ◌&&◌, ◌++◌, ◌∷◌, [], true, codes, flat_map, length, map, slice_get, ℕ, List, IfOk, IfSome};
 ghost use Rattle.csv.specs.Records.{fields_of};
 ghost use Rattle.kd_tables.specs.Ports.{port};
@@ -54,11 +56,10 @@ pub fn put_note<N: Sink>(notes: &mut N, note: &[u8])
 /// The note on a table in which all rows under the first row are blank.
 const NO_DAY: &str = "the table has no row with a day";
 
-/// Said of a table of which a column is misnamed.
+/// The note on a table with a misnamed column, if there are no other words about it.
 const MISNAMED: &str = "the name of a column is nearly that of another, which isn't there";
 
-/// Appends the lines on the first row: the columns that aren't read, those that are misnamed, and those that any table needs and
-/// this one lacks.
+/// Appends the notes on unread columns, on misnamed columns, and on missing columns that every table needs.
 fn push_head(note: &mut Vec<u8>, head: &Head<'_>) -> Result<(), SpreadsheetFault>
     ensures { IfOk result (λ _. (missing : List (List ℕ)) × (note.new.items ≡ note.old.items
         ++ (unread_note head.now.names ++ flat_map (line_at (codes "row 1: ")) missing))

@@ -1,4 +1,5 @@
-//! Tests the quotes of a table. The library `csv` refuses nothing: it would read an open quote to the table's end.
+//! Checks the quotes of a table. The library `csv` doesn't refuse any table: after an open quote, it would read the
+//! rest as one cell.
 ghost use Rattle.std.specs.Prelude.{◌≡◌, if◌then◌else◌};
 ghost use Rattle.csv.specs.Reading.{strip_bom};
 ghost use Rattle.kd_table.specs.Rows.{is_separator, separator_of, ends_cell, quoting_after_byte, quoting_after, may_end, is_well_quoted};
@@ -25,7 +26,7 @@ fn is_separator(byte: u8) -> bool
     byte == b',' || byte == b';' || byte == b'\t'
 }
 
-/// The first comma, semicolon or tab of `table`, which separates its cells; a comma if there is none.
+/// The separator of the cells of `table`: its first comma, semicolon or tab. If `table` has none of these, a comma.
 pub fn separator_of(table: &[u8]) -> u8
     ensures { result ≡ separator_of table.now }
 {

@@ -12,10 +12,10 @@ use csv::ByteRecord;
 use kd_state::SheetDay;
 use std::alloc::Global;
 
-/// What was read of the rows under the first row.
+/// What was read in the rows under the first row.
 #[derive(Drop)]
 pub struct Reading {
-    /// The days that rows describe, each with its own number.
+    /// The days of the rows. No two days have the same number.
     pub days: Vec<SheetDay>,
     /// Whether a row was refused.
     pub refused: bool,
