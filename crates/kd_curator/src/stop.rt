@@ -1,4 +1,4 @@
-//! `Stop`: why the program stops without success. It gives the exit status, and the text on standard error.
+//! `Stop`: why the program stops without success. A `Stop` gives the exit status, and the text on standard error.
 ghost use Rattle.std.specs.Prelude.{◌≡◌, ◌≤◌, ◌+◌, ◌++◌};
 ghost use Rattle.arrayvec.specs.ArrayString.{array_string_len};
 ghost use Rattle.kd_tables.specs.Ports.{port};

@@ -1,11 +1,11 @@
-//! The names of unread keys, and the known keys that may have been meant by them.
+//! The names of unread keys, and the known keys that these names may mean.
 ghost use Rattle.std.specs.Prelude.{◌≡◌};
 ghost use Rattle.kd_findings.specs.Unread.{is_name_of};
 
 use kd_sheet::Key;
 use kd_slips::near_names::is_near;
 
-/// Other names for keys, each with the key. They are used in other files, or are in common use.
+/// Other names for keys, each with the key. Other files have these names, or they are in common use.
 const OTHER_NAMES: [(&str, Key); 12] = [
     ("plugs", Key::Cables),
     ("plugboard", Key::Cables),

@@ -59,8 +59,8 @@ telling_line counted came (Some short) = if explains counted came short then Som
 abbrev pub part_line : DamagedPart → Option ShortLine
 part_line part = telling_line (heading_count part.numbers) part.came part.short_line
 
--- Whether the heading's count may be wrong. It may be wrong if the heading is damaged. It may also be wrong if it
--- differs from the number of letters that came, and no short line explains the difference.
+-- Whether the heading's count may be wrong: the heading is damaged, or its count differs from the number of letters
+-- that came, and no short line explains the difference.
 abbrev pub is_count_doubted : Result DamagedText PartDamage → Option ShortLine → Bool
 is_count_doubted (Ok shown) line = false
 is_count_doubted (Err damages.HeadingDamaged) line = true

@@ -1,4 +1,4 @@
--- How the letters of a body are tested and deciphered if some of them were lost.
+-- How the letters of a body are tested and deciphered, if some of these letters were lost.
 -- Test: tests/messages-as-worked
 use Rattle.std.specs.Prelude.{◌≡◌, ◌⊎◌, ◌↔◌, ℕ, ◌-◌, List, [], ◌∷◌, length, map, take, drop, Any, IsTrue}
 use Rattle.std.specs.Prelude.{Option, Some, None, Ok}

@@ -50,7 +50,7 @@ PartsReadHaveNumbers =
     → IsPartAnswer s p part (Ok read) → AreNumbersRead s (first_line part) found
     → (numbers : PartNumbers) × (found ≡ Some numbers) × (numbers.part ≡ p.number) × (numbers.parts ≡ read.parts)
 
--- If `receive` reads a form, this crate cuts it into the same parts.
+-- If `receive` reads a form, this crate cuts the form into the same parts.
 abbrev pub FormsReadHaveTheirParts : Type 0
 FormsReadHaveTheirParts =
     (s : Day) (form text : List ℕ) → IsTextOf s form text → form_parts form ≡ parts_of form

@@ -38,7 +38,7 @@ abbrev pub copied_letter : DamagedPart → DamagedText → ℕ → DamagedPart �
 copied_letter read shown place other =
     letter_of_copy (is_same_part read.numbers other.numbers) shown place (shown_text other)
 
--- the first letter or, if it is lost, the second
+-- the first letter or, if it is lost, the second letter
 abbrev pub letter_or : Option ℕ → Option ℕ → Option ℕ
 letter_or (Some letter) other = Some letter
 letter_or None other = other

@@ -92,8 +92,8 @@ abbrev pub are_covered : List DamagedPart → List DamagedPart → Bool
 are_covered all [] = true
 are_covered all (part ∷ parts) = is_covered all part && are_covered all parts
 
--- Whether the parts are shown as one message. Taken two by two, they can always be of one message, and no received
--- letter is left out.
+-- Whether the parts are shown as one message. Any two of them can always be of one message, and no received letter is
+-- left out.
 abbrev pub is_one_message : List DamagedPart → Bool
 is_one_message parts = are_of_one_message parts && are_covered parts parts
 

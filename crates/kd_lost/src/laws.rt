@@ -15,9 +15,9 @@ pub fn parts_read_are_shown_whole()
     ensures numbers { PartsReadHaveNumbers }
 {}
 
-/// If `receive` reads a form, this crate cuts it into the same parts, and reads the same text, without a warning.
+/// If `receive` reads a form, this crate cuts the form into the same parts, and reads the same text, without a warning.
 ///
-/// Nothing before the form's first heading is passed over.
+/// No line before the form's first heading is passed over.
 pub fn forms_read_are_shown_whole()
     ensures tidy { FormsReadAreTidy }
     ensures parts { FormsReadHaveTheirParts }

@@ -58,7 +58,7 @@ RowsAreDeciphered =
 
 -- ---- Whole messages.
 
--- the letters of a part's text; none if there is no part, or it isn't read
+-- the letters of a part's text; none if there is no part, or the part isn't read
 abbrev pub letters_of_part : Option DamagedPart → List (Option ℕ)
 letters_of_part None = []
 letters_of_part (Some part) = letters_in part.text
@@ -135,7 +135,7 @@ IsClear part = All (λ byte. IsFalse (is_lost byte) × (meant_byte byte ≡ byte
 
 -- Let a form be one whole message, with no lost letter, no small letter, no tab, and no heading with needless blanks.
 -- Then there are parts of the form, one for each number and in the order of the numbers, that `desk receive` reads as a
--- form. It gives the text that the page shows.
+-- form. `desk receive` gives the text that the page shows.
 abbrev pub WholeMessagesAreRead : Type 0
 WholeMessagesAreRead =
     (s : Day) (form : List ℕ) (parts : List DamagedPart) → AreFormParts s form parts

@@ -1,5 +1,5 @@
--- How the page shows a part without a number. Its heading is damaged, or it is an order in place of a form. It isn't
--- read.
+-- How the page shows a part without a number. Either the part's heading is damaged, or the part is an order in place of
+-- a form. Such a part isn't read.
 use Rattle.std.specs.Prelude.{decimal, ℕ, ◌==◌, if◌then◌else◌, List, [], ◌∷◌, ◌++◌}
 use Rattle.kd_tables.specs.declared.model.Model.{Model}
 use Rattle.kd_tables.specs.declared.model.Model.TheVariants as models

@@ -196,7 +196,7 @@ pub data IsReceivePageAnswer (l : Language) (s : Day) (form : List ℕ) (sink : 
   FormNotRead : (fault : DamagedFormFault) → IsFormFault (damaged_parts_of form) fault
       → answer ≡ Err (page_fault fault) → IsUntouched sink → IsReceivePageAnswer l s form sink answer
 
--- `Told` holds of the notes for standard error, or the form wasn't read: it has too many parts, or memory is short.
+-- `Told` holds of the notes for standard error. If the form has too many parts, or memory is short, there may be none.
 pub data IsFormNoted (l : Language) (s : Day) (form : List ℕ) (Told : List ℕ → Type 0)
     (answer : Result Bool ReceivePageFault) : Type 0 where
   Noted : (parts : List DamagedPart) → AreFormParts s form parts → Told (receive_notes l s parts)

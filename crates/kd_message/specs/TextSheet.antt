@@ -299,8 +299,8 @@ asked_words l part (damages.KeyLetterLost number) = key_letter_groups l part.cam
 asked_words l part damages.KeyNotOnWheel = indicator_groups l part.came
 asked_words l part damages.NoInternalKey = indicator_groups l part.came
 
--- The paragraph about a part that isn't read, for the reason `reason`. It has the checkbox to ask for a repetition;
--- `words` say what to repeat.
+-- The paragraph about a part that isn't read: the reason `reason`, and the checkbox to ask for a repetition. `words`
+-- say what to repeat.
 unfoldable pub unread_text : Language → PartName → List ℕ → List ℕ → List ℕ
 unread_text l name reason words =
     text_in l texts.UNREAD ++ reason ++ texts.REASON_END.now ++ ask_text l name.part words

@@ -1,5 +1,5 @@
-//! How the page shows a part without a number. Its heading is damaged, or it is an order in place of a form. It isn't
-//! read.
+//! How the page shows a part without a number. Either the part's heading is damaged, or the part is an order in place
+//! of a form. Such a part isn't read.
 ghost use Rattle.std.specs.Prelude.{◌≡◌};
 ghost use Rattle.kd_pictures.specs.Drawing.{Draws};
 ghost use Rattle.kd_message.specs.LoneParts.{damaged_heading, heading_example, listed_lone, lone_ask, lone_asked};

@@ -454,7 +454,7 @@ fn draw_listed_unread<W: Sink>(sink: &mut W, language: Language, name: PartName)
     );
 }
 
-/// Writes the sheet for a part, if it is read.
+/// Writes the sheet for a part, if the part is read.
 fn draw_worked<W: Sink>(
     sink: &mut W,
     language: Language,

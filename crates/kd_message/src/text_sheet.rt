@@ -126,7 +126,7 @@ fn draw_heading_words<W: Sink>(sink: &mut W, numbers: &PartNumbers)
     draw_count(sink, usize::from(numbers.parts));
 }
 
-/// Writes how often a part came, if it came more than once.
+/// Writes how often a part came, if the part came more than once.
 pub(crate) fn draw_came<W: Sink>(sink: &mut W, language: Language, times: usize)
     ensures { Draws W.taken W.has_failed sink.old sink.new (came_text language times) }
 {

@@ -18,13 +18,14 @@ pub const LIST_OF_SEVERAL: Text = (
     "<nav class=sheets aria-label=\"Blätter\">\n<ul>\n",
 );
 
-/// A part in the list of the sheets. Its values are the number of its sheet, its own number, and the number of parts.
+/// A part in the list of the sheets. The values are the number of the part's sheet, the part's number, and the number
+/// of parts.
 pub const LISTED_PART: Text = (
     "<li><a href=\"#part-~\">Part ~ of ~</a>\n",
     "<li><a href=\"#part-~\">Teil ~ von ~</a>\n",
 );
 
-/// A part that isn't read, in the list of the sheets. Its values are its number and the number of parts.
+/// A part that isn't read, in the list of the sheets. The values are the part's number and the number of parts.
 pub const LISTED_UNREAD: Text = (
     "<li><a href=\"#text\">Part ~ of ~</a>, not read\n",
     "<li><a href=\"#text\">Teil ~ von ~</a>, nicht lesbar\n",
@@ -73,8 +74,8 @@ pub const LIST_END_WITH_TEXT: Text = (
     "<li><a href=\"#text\">Klartext</a>\n</ul>\n</nav>\n",
 );
 
-/// The head of the sheet with the text, and the head of each part on it. The sheet's values are the model and the day.
-/// A part's values are its number, the number of parts, the model, and the day.
+/// The head of the sheet with the text; its values are the model and the day. Then the head of each part on this sheet;
+/// its values are the part's number, the number of parts, the model, and the day.
 pub const TEXT_SHEET: Text = (
     "<article id=text class=form>\n<header>\n<h1>~, day ~: text</h1>\n<p class=fields><span>From</span><span>Time</span><span>Read by</span></p>\n</header>\n",
     "<article id=text class=form>\n<header>\n<h1>~, Tag ~: Klartext</h1>\n<p class=fields><span>Von</span><span>Uhrzeit</span><span>Entschlüsselt durch</span></p>\n</header>\n",
@@ -152,8 +153,8 @@ pub const ITS_KEYS: Text = (
     "Grundstellung und Schlüssel des Spruchkopfs",
 );
 
-/// What to ask for if no group is short: the count, if it is damaged. If it is wrong, the count and, once the count is
-/// confirmed, the lines of the body.
+/// What to ask for if no group is short. For a damaged count, this is the count. For a wrong count, it is the count
+/// and, once the count is confirmed, the lines of the body.
 pub const ITS_COUNT: Text = ("its count", "Buchstabenzahl");
 
 pub const ITS_COUNT_OR_LINES: Text = (

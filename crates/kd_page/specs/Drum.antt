@@ -26,7 +26,7 @@ abbrev pub has_lug : Place × Place → Place → Bool
 has_lug bar place = is_same_place bar.0 place || is_same_place bar.1 place
 
 -- The mark of a place of a bar. The first argument says whether the place has a lug before the settings, the second
--- whether it has a lug after them.
+-- whether the place has a lug after the settings.
 abbrev pub cell_mark : Bool → Bool → Option Mark
 cell_mark true true = Some LugStays
 cell_mark true false = Some LugLeaves

@@ -56,8 +56,8 @@ again_all separator has_number m =
 abbrev pub letters_again : Parts → List ℕ
 letters_again m = if is_converter (model_of m) then again_all (codes " ") false m else again_all (codes ", ") true m
 
--- The note at the end of the page. It has the number of settings, and a line to write down the letters when the machine
--- is put away.
+-- The note at the end of the page. It has the number of settings, and a line on which to write the letters when the
+-- machine is put away.
 abbrev pub note_text : Language → Model → List Setting → List ℕ
 note_text l model settings =
     filled (if is_converter model then text_in l texts.NOTE_PIN else text_in l texts.NOTE_ROTOR)

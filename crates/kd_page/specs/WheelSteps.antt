@@ -72,7 +72,7 @@ rings_step page =
     let count = count_at (step_spot Rings) page.settings in
     if count == 0 then idle_text page.language words.Rings else some_rings_text page count
 
--- `reflector`, unless it is the reflector after the settings, too
+-- `reflector`, unless the machine still has it after the settings
 abbrev pub unless_same : Reflector → Option Reflector → Option Reflector
 unless_same reflector other =
     if option_map_or (same_reflector reflector) other false then None else Some reflector

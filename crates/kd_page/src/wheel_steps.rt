@@ -206,7 +206,7 @@ fn lone_wheel(machine: &Machine, other: &Machine, slot: u8) -> Option<Wheel>
     }
 }
 
-/// The reflector before the settings, unless it is the same after them.
+/// The reflector before the settings, unless the machine still has it after the settings.
 fn boxed_reflector(page: &Page<'_>) -> Option<Reflector>
     ensures { result ≡ boxed_reflector page.now }
 {

@@ -1,4 +1,4 @@
--- The sheet for one part of a message, by which an operator enciphers or deciphers it.
+-- The sheet with which an operator enciphers or deciphers one part of a message.
 use Rattle.std.specs.Prelude.{decimal, ℕ, Bool, if◌then◌else◌, List, [], ◌∷◌, ◌++◌, length, map, take, drop}
 use Rattle.kd_tables.specs.declared.model.Model.{Model}
 use Rattle.kd_tables.specs.declared.model.Model.TheVariants.{EnigmaI, M3, M4, M209}

@@ -1,4 +1,4 @@
-//! The sheet for one part of a message, by which an operator enciphers or deciphers it.
+//! The sheet with which an operator enciphers or deciphers one part of a message.
 ghost use Rattle.std.specs.Prelude.{◌≡◌, ◌+◌, ◌≤◌, length};
 ghost use Rattle.kd_state.specs.EngineKey.{IsWindow};
 ghost use Rattle.kd_state.specs.OwnKeys.{sheet_key};

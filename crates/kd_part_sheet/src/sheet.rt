@@ -6,7 +6,7 @@ ghost use Rattle.kd_part_sheet.specs.Sheet.{for_sheet};
 use crate::texts::SheetText;
 use kd_pictures::Language;
 
-/// The sheet of a part. It is for sending or receiving the part, on a rotor machine or on a Converter.
+/// A sheet for sending or receiving a part, on a rotor machine or on a Converter.
 #[derive(Clone, Copy)]
 pub enum Sheet {
     RotorSend,

@@ -145,8 +145,8 @@ free_socket letter = filled texts.FREE.now (
     decimal (socket_x letter) ∷ decimal (label_y letter) ∷ letter_text letter
     ∷ decimal (socket_x letter) ∷ decimal (socket_y letter) ∷ [])
 
--- The socket of a letter: free, or with a cable's plug. If machine `n` doesn't have this plug there, it is drawn as a
--- plug that moves.
+-- The socket of a letter: free, or with a cable's plug. A plug that machine `n` doesn't have there is drawn as a plug
+-- that moves.
 abbrev pub socket_holding : Plugs → Parts → ℕ → Option ℕ → List ℕ
 socket_holding plugs n letter None = free_socket letter
 socket_holding plugs n letter (Some number) =

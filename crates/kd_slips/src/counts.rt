@@ -72,7 +72,7 @@ fn has_most(counted: Counted, days: &[DayCounts], day: &DayCounts, other: &DayCo
     has_more(counted, day, other) && !is_topped(counted, other, days)
 }
 
-/// The first day of `rest` that has more than `day`, unless a day of the same model in `days` has still more.
+/// The first day of `rest` that has more than `day`, while no day of the same model in `days` has still more.
 fn find_most(
     counted: Counted,
     days: &[DayCounts],

@@ -62,7 +62,7 @@ pub fn near_column(columns: &Columns, head: &ByteRecord, cell: Cell) -> Option<u
     (0..COLUMNS).find(|place| is_meant(columns, head, cell, *place))
 }
 
-/// Whether the table lacks the column of `cell`, and the name of an unread column is nearly a name of this column.
+/// Whether the table lacks the column of `cell`, and an unread column's name is nearly a name of this column.
 fn lacks_near(columns: &Columns, head: &ByteRecord, cell: Cell) -> bool
     ensures { result ≡ lacks_near columns.now (fields_of head.now) cell }
 {
