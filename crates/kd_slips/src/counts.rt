@@ -38,7 +38,7 @@ pub fn counts_of(day: &SheetDay) -> DayCounts
     }
 }
 
-/// The day's number of pairs or of groups, whichever are counted.
+/// The day's number of pairs or of groups, as `counted` says.
 fn count(counted: Counted, day: &DayCounts) -> usize
     ensures { result ≡ count counted day.now }
 {
@@ -48,14 +48,14 @@ fn count(counted: Counted, day: &DayCounts) -> usize
     }
 }
 
-/// Whether `other` is for the same model as `day`, and has more pairs or groups, whichever are counted.
+/// Whether `other` is for the same model as `day`, and has more pairs or more groups, as `counted` says.
 fn has_more(counted: Counted, day: &DayCounts, other: &DayCounts) -> bool
     ensures { result ≡ has_more counted day.now other.now }
 {
     other.model == day.model && count(counted, day) < count(counted, other)
 }
 
-/// Whether one of `days` is for the same model as `day`, and has more pairs or groups, whichever are counted.
+/// Whether one of `days` is for the same model as `day`, and has more pairs or more groups, as `counted` says.
 fn is_topped(counted: Counted, day: &DayCounts, days: &[DayCounts]) -> bool
     ensures { result ≡ list_any (has_more counted day.now) days.now }
 {
@@ -150,8 +150,8 @@ fn push_words(
     lines.push_str("\n")
 }
 
-/// Appends the warning about `day`, if another day of the same model in `days` has more pairs or groups, whichever are
-/// counted.
+/// Appends the warning about `day`, if another day of the same model in `days` has more pairs or more groups, as
+/// `counted` says.
 fn push_few(
     lines: &mut String,
     start: &str,
