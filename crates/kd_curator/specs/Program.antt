@@ -238,9 +238,8 @@ abbrev pub TellsOfMessage : MessageKind → Port → Type 0
 TellsOfMessage kinds.Order errors = IsLeftAlone errors
 TellsOfMessage kinds.Form errors = Tells errors
 
--- What was written to standard error before a refusal's text. The command `sheet` may have written notes on a table's
--- unread columns and faults. The command `receive` may have written notes on a form. Any other command has written
--- nothing.
+-- What was written to standard error before a refusal's text. The command `sheet` may have written notes on a table.
+-- The command `receive` may have written notes on a form. Any other command has written nothing.
 abbrev pub HasTold : NamedCommand → Port → Type 0
 HasTold (commands.Sheet table options) errors = Tells errors
 HasTold (commands.Message machine sheet message task) errors = TellsOfMessage task.kind errors

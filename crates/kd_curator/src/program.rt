@@ -46,10 +46,9 @@ use std::convert::AsStr;
 ///
 /// Returns the exit status and the sink. The status is 0 for success, 2 if the words don't mean a command, and 1 for a
 /// refusal. With status 1 or 2, a text that says why is written to `errors`. If the text is about a file, it ends with
-/// the file's name, as the words have it. Notes may stand before this text: the command `sheet` writes notes on a
-/// table's faults and unread columns, and the command `receive` on what is wrong with a form. Each file is read once,
-/// in the order of the command line. If a file can't be read, `new_files` is asked why, no later file is asked for, and
-/// nothing is written to `sink`.
+/// the file's name, as the words have it. Before this text, notes may be written to `errors`: by the command `sheet` on
+/// a table, and by the command `receive` on a form. Each file is read once, in the order of the command line. If a file
+/// can't be read, `new_files` is asked why, no later file is asked for, and nothing is written to `sink`.
 ///
 /// If the words name an output file, nothing is written to `sink`. The output goes to a new file in `new_files`. The
 /// new file gets the output file's name exactly if the whole output was written.

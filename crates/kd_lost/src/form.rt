@@ -36,8 +36,8 @@ pub enum DamagedFormFault {
 ///
 /// A part begins at each line that is taken for a heading. Such a line begins like `PART`, and has a digit, a slash or
 /// a lost sign in place of its number. Lines before the first heading are passed over, unless one of these lines may
-/// belong to a part: it begins like `PART`, or with two groups of five letters. A form that `receive` reads is cut into
-/// the same parts as there.
+/// belong to a part: it begins like `PART`, or with two groups of five letters. If `receive` reads a form, it cuts the
+/// form into the same parts as this function.
 pub fn read_damaged_form(
     alloc: Global,
     day: &SheetDay,
