@@ -41,14 +41,15 @@ fn run_on_host<E: Sink>(
     status
 }
 
-/// The command line, and the language of pages.
+/// The command line, and the language in which pages are written.
 fn words_and_language(rt: &HostRuntime) -> Result<(Vec<String>, Language), Stop> {
     let words = words(rt)?;
     let language = language(rt)?;
     Ok((words, language))
 }
 
-/// The language of pages, from the environment variable `LANG`. It is English if `LANG` is missing, or isn't UTF-8.
+/// The language in which pages are written, from the environment variable `LANG`. It is English if `LANG` is missing,
+/// or isn't UTF-8.
 fn language(rt: &HostRuntime) -> Result<Language, Stop> {
     match env::var(rt, "LANG") {
         Ok(locale) => Ok(language_of(locale.as_str())),

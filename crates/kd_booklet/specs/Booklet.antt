@@ -12,31 +12,34 @@ use Rattle.kd_state.specs.Setting.{Leads}
 use Rattle.kd_state.specs.TwoCiphers.{IsReady}
 use Rattle.kd_booklet.specs.declared.day_plan.DayPlan.{DayPlan}
 
--- The text is the pages of the days that are planned, of the key sheet in the file `sheet`. The first page is for machine
--- `m`; each later page is for the machine that the settings of the page before it lead to.
+-- The text has the pages of the planned days, and nothing else. `sheet` is the name of the key sheet's file. The first
+-- page is for machine `m`. Each later page is for the machine to which the settings of the previous page lead.
 abbrev pub ArePages : Language → List ℕ → Parts → List DayPlan → List ℕ → Type 0
 ArePages l sheet m [] text = text ≡ []
 ArePages l sheet m (plan ∷ plans) text = (n : Parts) × (more : List ℕ) × Leads m plan.settings.items n
     × (text ≡ day_text (page_of l sheet plan.day m n plan.settings.items) ++ more) × ArePages l sheet n plans more
 
--- a planned day as an item of the list of days, with its number of settings
+-- a planned day in the list of days, with the number of settings on this day
 abbrev pub listed_day : DayPlan → ListedDay
 listed_day plan = record { day = plan.day; settings = length plan.settings.items }
 
--- The text is the file with the pages of these days in language `l`: the list of the days, and then their pages.
+-- The text is the file with the pages of these days in language `l`: the list of the days, then the pages. `sheet` is
+-- the name of the key sheet's file. The first page is for machine `m`.
 pub record IsBooklet (l : Language) (sheet : List ℕ) (m : Parts) (first : DayPlan) (others : List DayPlan)
     (text : List ℕ) : Type 0 where
   pub pages : List ℕ
   pub are_pages : ArePages l sheet m (first ∷ others) pages
   pub whole : text ≡ file_text l (model_of m) sheet (listed_day first) (map listed_day others) pages
 
--- The settings of the plan lead from machine `m` to machine `n`, which is ready. They are few enough for a page.
+-- The settings of the plan lead from machine `m` to machine `n`. Machine `n` is ready, and the settings are few enough
+-- for a page.
 pub record IsDrawable (m : Parts) (plan : DayPlan) (n : Parts) : Type 0 where
   pub leads : Leads m plan.settings.items n
   pub ready : IsReady n
   pub few : length plan.settings.items ≤ 192
 
--- Each day's page can be drawn. It starts from the machine to which the plan of the day before leads.
+-- Each day's page can be drawn. The first page starts from machine `m`, each later page from the machine to which the
+-- previous plan leads.
 abbrev pub AreDrawable : Parts → List DayPlan → Type 0
 AreDrawable m [] = Unit {0}
 AreDrawable m (plan ∷ plans) = (n : Parts) × IsDrawable m plan n × AreDrawable n plans

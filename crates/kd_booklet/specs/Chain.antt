@@ -1,4 +1,4 @@
--- The plans of several days: each starts from the machine as the day before left it.
+-- The plans of several days: each plan starts from the machine as the previous plan leaves it.
 -- Code: `add_plans` plans one day after another, and stops at the first day that can't be planned.
 -- Test: tests/cases/curator-pages.toml
 use Rattle.std.specs.Prelude.{◌≡◌, ◌≢◌, ◌⊎◌, ℕ, List, [], ◌∷◌, ◌++◌, Option, Some, None}
@@ -12,21 +12,21 @@ use Rattle.kd_booklet.specs.declared.fault.DayFault.{DayFault}
 use Rattle.kd_booklet.specs.declared.fault.NoPlan.{NoPlan}
 use Rattle.kd_booklet.specs.declared.fault.NoPlan.TheVariants.{NoSuchDay, OtherModel}
 
--- The month has day `number`. The plan is for this day, and leads from machine `m` to machine `n`.
+-- The month has the day `number`. The plan is for this day, and leads from machine `m` to machine `n`.
 pub record IsPlanOf (month : List (Option Day)) (m : Parts) (number : ℕ) (plan : DayPlan) (n : Parts) : Type 0 where
   pub s : Day
   pub of_month : day_of month number ≡ Some s
   pub plans : IsDayPlan m s plan n
 
 -- The plans are for the days `numbers`, in the same order. The first plan starts from machine `m`. Each later plan
--- starts from the machine to which the plan before it leads.
+-- starts from the machine to which the previous plan leads.
 abbrev pub ArePlanned : List (Option Day) → Parts → List ℕ → List DayPlan → Type 0
 ArePlanned month m [] [] = Unit {0}
 ArePlanned month m (number ∷ numbers) (plan ∷ plans) =
     (n : Parts) × IsPlanOf month m number plan n × ArePlanned month n numbers plans
 ArePlanned month m numbers plans = ⊥
 
--- The reason why a day can't be planned. The sheet doesn't have the day, or the day and the machine are of different
+-- The reason why a day can't be planned: the sheet doesn't have the day, or the day and the machine are of different
 -- models.
 abbrev pub LacksDay : Model → List (Option Day) → ℕ → NoPlan → Type 0
 LacksDay model month number NoSuchDay = day_of month number ≡ None
@@ -45,7 +45,7 @@ IsFirstFault model month (number ∷ numbers) fault =
 
 -- ---- Plans that are added one by one. No public contract cites this definition.
 
--- `new` has the plans of `old`, then plans of the days `numbers`. The first of these starts from machine `m`.
+-- `new` has the plans of `old`, then plans of the days `numbers`. The first of the added plans starts from machine `m`.
 pub record AddsPlans (month : List (Option Day)) (m : Parts) (numbers : List ℕ) (old new : List DayPlan) : Type 0 where
   pub plans : List DayPlan
   pub planned : ArePlanned month m numbers plans

@@ -1,4 +1,4 @@
--- What a plan says about a day's settings, and about the machine to which they lead.
+-- What a plan says about a day's settings, and about the machine to which these settings lead.
 -- Test: tests/cases/curator-pages.toml
 use Rattle.std.specs.Prelude.{◌≡◌, ◌≤◌, List, length}
 use Rattle.kd_state.specs.declared.machine.parts.Parts.{Parts}
@@ -12,14 +12,14 @@ use Rattle.kd_page.specs.PageOrder.{IsPinOrder, IsRotorOrder, page_boxes}
 use Rattle.kd_booklet.specs.HandList.{IsHandList}
 use Rattle.kd_booklet.specs.declared.day_plan.DayPlan.{DayPlan}
 
--- The settings are in the order in which a page for the machine has their checkboxes.
+-- The settings are in the order of their checkboxes on a page for the machine.
 abbrev pub IsPageOrder : Parts → List Setting → Type 0
 IsPageOrder (Rotor m) settings = IsRotorOrder settings
 IsPageOrder (Pin m) settings = IsPinOrder settings
 
--- The settings are a shortest list from machine `m` to day `s`, in the order in which a page has their checkboxes. They
--- lead from `m` to machine `n`. Machine `n` is set as the day says, shows the day's letters, and enciphers as the day
--- asks.
+-- The settings are a shortest list from machine `m` to day `s`, in the order of their checkboxes on a page. They lead
+-- from machine `m` to machine `n`. Machine `n` is set as the day says, shows the day's letters, and enciphers as the
+-- day asks.
 pub record IsDayPlan (m : Parts) (s : Day) (plan : DayPlan) (n : Parts) : Type 0 where
   pub number : plan.day ≡ day_number s
   pub by_hand : IsHandList m s plan.settings.items

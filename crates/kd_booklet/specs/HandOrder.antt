@@ -1,4 +1,5 @@
--- An order of a card's settings that suits an operator: rings first, while the wheels are out, and windows last.
+-- An order of a card's settings that suits an operator: rings are set first, while the wheels are out, and windows
+-- last.
 use Rattle.std.specs.Prelude.{Bool, true, false, not, List, [], ◌∷◌, ◌++◌, filter, if◌then◌else◌, IsTrue}
 use Rattle.std.specs.Prelude.{IsPermutation}
 use Rattle.std.specs.List.{list_all}
@@ -23,7 +24,7 @@ is_same_stage _ _ = false
 abbrev pub is_at_stage : Stage → Setting → Bool
 is_at_stage stage x = is_same_stage (stage_of x) stage
 
--- The settings in an order that suits an operator. Rings come first, window letters last, and all other settings
+-- The settings in an order that suits an operator: rings come first, window letters last, and all other settings
 -- between them.
 abbrev pub in_hand_order : List Setting → List Setting
 in_hand_order xs =
@@ -39,11 +40,11 @@ seats_before_turning [] = true
 seats_before_turning (x ∷ xs) =
     if is_at_stage Windows x then list_all (λ y. not (is_seat y)) xs else seats_before_turning xs
 
--- The reordered list has the same settings. If no wheel is seated after the first window is turned, both lists lead to
--- the same machine.
+-- The reordered list has the same settings as the list.
 abbrev pub HandOrderIsPermutation : Type 0
 HandOrderIsPermutation = (xs : List Setting) → IsPermutation xs (in_hand_order xs)
 
+-- If no wheel is seated after the first window is turned, the list and the reordered list lead to the same machine.
 abbrev pub HandOrderLeads : Type 0
 HandOrderLeads =
     (m n : Parts) (xs : List Setting) → IsTrue (seats_before_turning xs) → Leads m xs n → Leads m (in_hand_order xs) n

@@ -1,4 +1,4 @@
-//! The plans of several days: each starts from the machine as the day before left it.
+//! The plans of several days: each plan starts from the machine as the previous plan leaves it.
 ghost use Rattle.std.specs.Prelude.{◌≡◌, ◌+◌, ◌≤◌, length, IfErr, IfOk, OnOk};
 ghost use Rattle.arrayvec.specs.ArrayVec.{array_vec_len};
 ghost use Rattle.kd_state.specs.Machine.{model_of};
@@ -15,9 +15,10 @@ use kd_state::{Machine, SheetDay};
 /// The plans of several days.
 pub type DayPlans = ArrayVec<DayPlan, 31>;
 
-/// Plans the days `numbers`. Each plan starts from the machine as the day before left it.
+/// Plans the days `numbers`. The first plan starts from `machine`, each later plan from the machine as the previous
+/// plan leaves it.
 ///
-/// The fault names the first day that the sheet doesn't have, or that is of another model than the machine.
+/// The fault names the first day that the sheet doesn't have, or that is for another model than the machine's.
 pub fn plan_days(machine: &Machine, sheet: &Sheet, numbers: &[u8]) -> Result<DayPlans, DayFault>
     requires { length numbers.now ≤ 31 }
     ensures planned { IfOk result
@@ -50,7 +51,8 @@ fn add_plans(
     add_plans(plans, &after, sheet, numbers)
 }
 
-/// The day `number` of the sheet, if the sheet has it, and it is of the machine's model. Otherwise the reason why not.
+/// The day `number` of the sheet, if the day is for the machine's model. The fault says that the sheet doesn't have the
+/// day, or that the models differ.
 pub fn day_of_model<'a>(
     machine: &Machine,
     sheet: &'a Sheet,

@@ -1,4 +1,4 @@
-//! A day's settings, and the machine to which they lead.
+//! A day's settings, and the machine to which these settings lead.
 ghost use Rattle.std.specs.Prelude.{◌≡◌};
 ghost use Rattle.kd_state.specs.Machine.{model_of};
 ghost use Rattle.kd_state.specs.SheetDay.{day_model};

@@ -3,7 +3,7 @@
 /// Why a day can't be planned.
 #[derive(Clone, Copy, Debug, PartialEq, Eq)]
 pub enum NoPlan {
-    /// The sheet has no such day.
+    /// The sheet doesn't have the day.
     NoSuchDay,
     /// The machine and the sheet's day are of different models.
     OtherModel,

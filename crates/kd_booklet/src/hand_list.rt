@@ -9,7 +9,7 @@ use kd_card::Card;
 use kd_plan::plan;
 use kd_state::{Machine, Settings, SheetDay};
 
-/// Plans a shortest card from `machine` to `day`, and returns its settings. Rings come first, window letters last.
+/// Plans a shortest card from `machine` to `day`, and returns its settings: rings come first, window letters last.
 pub(crate) fn plan_by_hand(machine: &Machine, day: &SheetDay) -> Settings
     requires { model_of machine.now ≡ day_model day.now }
     ensures { IsHandList machine.now day.now result.items }

@@ -1,8 +1,8 @@
-//! Laws about the order of a day's settings, and about what they change.
+//! Laws about the order of a day's settings, and about the things that the settings change.
 ghost use Rattle.kd_booklet.specs.HandOrder.{HandOrderIsPermutation, HandOrderLeads};
 ghost use Rattle.kd_booklet.specs.SettingChanges.{DaySettingsChangeThings};
 
-/// A list in the order that suits an operator has the same settings.
+/// A list in the order that suits an operator has the same settings as before.
 ///
 /// If no wheel is seated after the first window is turned, the list leads to the same machine in both orders.
 pub fn hand_order_leads_alike()

@@ -1,5 +1,5 @@
-//! A booklet: the pages of several days, which are planned one after another. Each has its settings in the order of a
-//! page.
+//! A booklet: the pages of several days, which are planned one after another. Each page has the day's settings in the
+//! order of their checkboxes.
 #![tactic(auto)]
 
 mod chain;

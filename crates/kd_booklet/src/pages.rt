@@ -16,9 +16,9 @@ use kd_page::{Language, ListedDay, Page, draw, draw_day, draw_foot, draw_head};
 use kd_state::{Machine, Parts, carry_all};
 use kd_tables::{Device, Sink};
 
-/// Writes the pages of the days that are planned, in this language: first `first`, and then `others`.
+/// Writes a file with the pages of the planned days `first` and `others`, in `language`.
 ///
-/// The days are of the key sheet in the file `sheet`.
+/// `sheet` is the name of the key sheet's file.
 pub fn write_pages<W: Sink>(
     sink: &mut W,
     language: Language,
@@ -94,7 +94,7 @@ fn list_days(listed: &mut ArrayVec<ListedDay, 31>, plans: &[DayPlan])
     }
 }
 
-/// A planned day as an item of the list of days, with its number of settings.
+/// A planned day in the list of days, with the number of settings on this day.
 fn listed_day(plan: &DayPlan) -> ListedDay
     ensures { result ≡ listed_day plan.now }
 {
@@ -124,7 +124,7 @@ fn draw_plan<W: Sink>(
     after
 }
 
-/// Draws the pages of days that are planned, of which the first is for `machine`.
+/// Draws the pages of planned days. The first page is for `machine`.
 fn draw_plans<W: Sink>(
     sink: &mut W,
     language: Language,

@@ -1,4 +1,4 @@
-//! An order of a card's settings that suits an operator: rings first, and window letters last.
+//! An order of a card's settings that suits an operator: rings come first, and window letters last.
 ghost use Rattle.std.specs.Prelude.{◌≡◌, ◌+◌, ◌≤◌, ◌++◌, filter, length, ◌==◌};
 ghost use Rattle.arrayvec.specs.ArrayVec.{array_vec_len};
 ghost use Rattle.kd_booklet.specs.HandOrder.{in_hand_order, is_at_stage, stage_of};
@@ -6,8 +6,8 @@ ghost use Rattle.kd_booklet.specs.HandOrder.{in_hand_order, is_at_stage, stage_o
 use arrayvec::ArrayVec;
 use kd_state::{Setting, Settings};
 
-/// The stage at which an operator makes a setting. Rings are set first, while the wheels are out. Windows are set last,
-/// after all other parts.
+/// A stage of an operator's work. Rings are set first, while the wheels are out. Windows are set last, after all other
+/// parts.
 #[derive(Clone, Copy, PartialEq, Eq)]
 pub(crate) enum Stage {
     Rings,
@@ -15,8 +15,8 @@ pub(crate) enum Stage {
     Windows,
 }
 
-/// `settings` in an order that suits an operator. Rings come first, window letters last, and all other settings between
-/// them. Within each stage, the order stays.
+/// `settings` in an order that suits an operator: rings come first, window letters last, and all other settings between
+/// them. Within a stage, settings keep their order.
 #[tactic(auto, using(crate::proofs::HandOrders::few_at_stages))]
 pub(crate) fn hand_order(settings: &Settings) -> Settings
     ensures { result.items ≡ in_hand_order settings.now.items }
@@ -28,7 +28,7 @@ pub(crate) fn hand_order(settings: &Settings) -> Settings
     ordered
 }
 
-/// Appends the settings of one stage. Their order stays.
+/// Appends the settings of one stage, in the order in which they stand in `settings`.
 fn push_stage(ordered: &mut Settings, stage: Stage, settings: &[Setting])
     requires { array_vec_len ordered.old + length (filter (is_at_stage stage) settings.now) ≤ 192 }
     ensures items { ordered.new.items ≡ ordered.old.items ++ filter (is_at_stage stage) settings.now }

@@ -10,14 +10,14 @@ use Rattle.kd_curator.specs.declared.blame.Remark.{Remark}
 use Rattle.kd_curator.specs.declared.blame.Remark.TheVariants.{KeySheet, MachineFile, MachineForSheet, Named, Order}
 use Rattle.kd_curator.specs.declared.blame.Remark.TheVariants.{SheetForMachine, TooLong, Unread}
 
--- the words for a file that can't be read
+-- the words that say why a file can't be read; the file's name stands after them
 abbrev pub why_words : WhyUnread → List ℕ
 why_words NotThere = codes ": there is no file "
 why_words Folder = codes ": not a file, but the folder "
 why_words NotAllowed = codes ": you may not read "
 why_words Other = codes ": can't read "
 
--- the words of a remark, which stand between a refusal's text and the file's name
+-- the words of a remark; a refusal's text stands before them, and the file's name after them
 abbrev pub remark_words : Remark → List ℕ
 remark_words (Unread why) = why_words why
 remark_words TooLong = codes ": too many bytes in "
@@ -28,11 +28,11 @@ remark_words MachineForSheet = codes ": a key sheet is needed here, not the mach
 remark_words Order = codes ": in the order "
 remark_words Named = codes ": "
 
--- what is said of the file at this place, counted from 0
+-- this remark on the file at this place among the command's files, counted from 0
 abbrev pub blame_on : ℕ → Remark → Option Blame
 blame_on place remark = Some (record { place = place; remark = remark })
 
--- What is said of the file at this place that couldn't be read, given what the folders tell. If memory ran out, nothing.
+-- The remark on the file at this place, which couldn't be read for the reason `why`. `None` if memory ran out.
 abbrev pub unread_blame : ℕ → FileFault → WhyUnread → Option Blame
 unread_blame place files.Device why = blame_on place (Unread why)
 unread_blame place files.ReadTooLong why = blame_on place TooLong

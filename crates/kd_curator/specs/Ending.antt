@@ -21,20 +21,20 @@ abbrev pub day_prefix : Option ℕ → List ℕ
 day_prefix None = []
 day_prefix (Some day) = codes "day " ++ decimal day ++ codes ": "
 
--- a refusal, without what it says of a file
+-- the text of a refusal, without the remark on a file
 abbrev pub refusal_text : Refused → List ℕ
 refusal_text refused = day_prefix refused.day ++ (codes "refused " ++ page_fault_text refused.fault)
 
--- the end of a refusal's line: what it says of a file, if of any, with the file's name, from `names`
+-- the end of a refusal's line: the remark on a file, if there is one, with the file's name, which is in `names`
 abbrev pub refusal_end : List (List ℕ) → Option Blame → List ℕ
 refusal_end names None = 10 ∷ []
 refusal_end names (Some blame) = remark_words blame.remark ++ (text_at names blame.place ++ 10 ∷ [])
 
--- the line on standard error for a refusal, given the names of the command's files
+-- the line on standard error for a refusal; `names` are the names of the command's files
 unfoldable pub refusal_line : List (List ℕ) → Refused → List ℕ
 refusal_line names refused = refusal_text refused ++ refusal_end names refused.blame
 
--- what is written to standard error: a text for a `Stop`, or no bytes if all went well
+-- the text on standard error: why the program stops; empty if all went well
 abbrev pub error_text : List (List ℕ) → Result (Unit {0}) Stop → List ℕ
 error_text names (Ok done) = []
 error_text names (Err (stops.Usage text)) = string_bytes text
@@ -46,35 +46,35 @@ status_of (Ok done) = 0
 status_of (Err (stops.Usage text)) = 2
 status_of (Err (stops.Refused refused)) = 1
 
--- The program ends with the text and the exit status for `answer`, or with a prefix of the text if standard error
--- failed. `names` are those of the command's files.
+-- The program ends with the text and the exit status for `answer`. Standard error took the text or, if standard error
+-- failed, a prefix of the text. `names` are the names of the command's files.
 abbrev pub EndsAs : List (List ℕ) → Result (Unit {0}) Stop → Port → ℕ → Type 0
 EndsAs names answer errors status = EndsWithLine (error_text names answer) (status_of answer) errors status
 
--- what the answer says of a file, if of any
+-- the answer's remark on a file, if there is one
 abbrev pub blame_of : Result (Unit {0}) Stop → Option Blame
 blame_of (Err (stops.Refused refused)) = refused.blame
 blame_of _ = None
 
--- the program's answer, if a command gave this answer
+-- the program's answer after a command that gave this answer
 abbrev pub stop_after : Result (Unit {0}) Refused → Result (Unit {0}) Stop
 stop_after (Ok done) = Ok done
 stop_after (Err refused) = Err (stops.Refused refused)
 
--- Memory ran out before a file was asked for.
+-- The program stops because memory ran out before a file was asked for.
 abbrev pub memory_stop : Stop
 memory_stop = stops.Refused (refused_whole (Unread NoMemory))
 
 -- ---- Why the words of the command line can't be read.
 
--- The program stops with the text that says that a word isn't UTF-8.
+-- The program stops with the message that a word isn't UTF-8.
 abbrev pub IsWordsText : Stop → Type 0
 IsWordsText (stops.Usage text) =
     string_bytes text ≡ codes "error: a word of the command line isn't UTF-8" ++ 10 ∷ []
 IsWordsText _ = ⊥
 
 -- Why the program stops if the words can't be read. The kind of the error says whether memory ran out, or a word isn't
--- UTF-8. Memory may also run out for the text.
+-- UTF-8. If a word isn't UTF-8, memory may also run out for the text that says so.
 abbrev pub IsWordsStop : ErrorKind → Stop → Type 0
 IsWordsStop OutOfMemory stop = stop ≡ memory_stop
 IsWordsStop _ stop = (stop ≡ memory_stop) ⊎ IsWordsText stop

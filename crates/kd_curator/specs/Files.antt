@@ -29,20 +29,20 @@ contents_of held (name ∷ names) = do
   rest ← contents_of held names
   Ok (bytes ∷ rest)
 
--- the text at this place, counted from 0: the bytes of a file, or its name
+-- the text at this place of the list, counted from 0: the bytes of a file, or a file's name; empty if there is none
 abbrev pub text_at : List (List ℕ) → ℕ → List ℕ
 text_at texts place = get_or texts place []
 
--- the names, in place of the borrowed names
+-- the names, with plain texts in place of borrowed texts
 abbrev pub unborrowed_names : List (Bor (List ℕ)) → List (List ℕ)
 unborrowed_names names = map (λ name. name.now) names
 
 -- ---- What inner functions read. No public contract cites these definitions.
 
--- what was read, behind what had been read before
+-- the texts `before`, and after them the texts that were read
 abbrev pub behind : List (List ℕ) → Result (List (List ℕ)) FileFault → Result (List (List ℕ)) FileFault
 behind before read = result_map_both (λ texts. before ++ texts) (λ fault. fault) read
 
--- these bytes, if all files could be read
+-- the list `texts`, if all files could be read; otherwise the fault
 abbrev pub all_read : List (List ℕ) → Result (Unit {0}) FileFault → Result (List (List ℕ)) FileFault
 all_read texts answer = result_map_both (λ done. texts) (λ fault. fault) answer

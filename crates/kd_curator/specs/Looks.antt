@@ -1,4 +1,4 @@
--- What the command `look` writes, and when it refuses.
+-- What the command `look` writes, and when the command refuses.
 -- Test: tests/cases/curator-look.toml
 use Rattle.std.specs.Prelude.{◌≡◌, ℕ, List, [], ◌∷◌, Result, Ok, Err}
 use Rattle.kd_tables.specs.Ports.{Port}
@@ -10,21 +10,21 @@ use Rattle.kd_curator.specs.Refusals.{refused_look, refused_whole}
 use Rattle.kd_curator.specs.declared.fault.PageFault.TheVariants.{FaultyFile}
 use Rattle.kd_curator.specs.declared.fault.Refused.{Refused}
 
--- the files with these names and bytes
+-- the list of files with these names and these bytes
 abbrev pub named_texts : List (List ℕ) → List (List ℕ) → List NamedText
 named_texts (name ∷ names) (bytes ∷ texts) = record { name = name; bytes = bytes } ∷ named_texts names texts
 named_texts [] texts = []
 named_texts (name ∷ names) [] = []
 
--- The answer of the command `look`. It is a refusal if a file has a fault, or if the report couldn't be written
+-- The answer of the command `look`. The command is refused if a file has a fault, or if the report wasn't written
 -- completely.
 abbrev pub look_answer : Result Outcome LookFault → Result (Unit {0}) Refused
 look_answer (Ok Faultless) = Ok tt
 look_answer (Ok (Faulty fault)) = Err (refused_whole FaultyFile)
 look_answer (Err fault) = Err (refused_look fault)
 
--- A report on the files was written, or memory ran out. If the device failed, only a prefix of the report was written.
--- If a file has a fault, the command is refused after the report.
+-- A report on the files was written, or memory ran out. If the sink failed, only a prefix of the report was written. If
+-- a file has a fault, the command is refused after the report.
 pub record Looks (files : List NamedText) (sink : Port) (answer : Result (Unit {0}) Refused) : Type 0 where
   pub told : Result Outcome LookFault
   pub looks : IsLookAnswer files sink told

@@ -1,4 +1,4 @@
--- How a machine and a key sheet are found in their files, and what is done with the machine, or with both.
+-- The machine in a machine file, and the month in a key sheet, with the answers of commands that read these files.
 -- Test: tests/cases/curator-pages.toml, tests/cases/curator-files.toml
 use Rattle.std.specs.Prelude.{◌≡◌, ◌⊎◌, ℕ, Bool, true, false, List, Option, is_some, Result, Ok, Err, MatchResult}
 use Rattle.std.specs.Result.{result_map_both}
@@ -22,59 +22,66 @@ use Rattle.kd_curator.specs.Refusals.{refused_in, refused_whole}
 abbrev pub refused_memory : Refused
 refused_memory = refused_whole (File NoMemory)
 
--- The answer is that memory ran out, which may always happen.
+-- The answer is that memory ran out. This answer is allowed for all files.
 abbrev pub LacksMemory : {A : Type 0} → Result A Refused → Type 0
 LacksMemory answer = answer ≡ Err refused_memory
 
--- whether a document is a key sheet, where a machine file is needed, or the other way around
+-- whether a document is a key sheet if a machine file is needed, or a machine file if a key sheet is needed
 abbrev pub is_other_document : Needed → Members → Bool
 is_other_document needs.Machine document = is_some (entries_of document)
 is_other_document needs.Sheet document = is_machine_file document
 
--- whether the test holds of a document, if there is one
+-- whether there is a document, and `test` holds of it
 abbrev pub holds_of : (Members → Bool) → Result Members SheetFault → Bool
 holds_of test (Ok document) = test document
 holds_of test (Err fault) = false
 
--- whether a file's bytes are a document of the other kind than is needed
+-- whether a file is a key sheet if a machine file is needed, or a machine file if a key sheet is needed
 unfoldable pub is_other_file : Needed → List ℕ → Bool
 is_other_file needed bytes = holds_of (is_other_document needed) (document_of bytes)
 
--- what is said of a file, given what is needed in it, and whether it is of the other kind
+-- The remark on a file with a fault. `needed` says whether a machine file or a key sheet is needed. The second argument
+-- says whether the file is the other of the two.
 abbrev pub file_remark : Needed → Bool → Remark
 file_remark needs.Machine false = MachineFile
 file_remark needs.Machine true = SheetForMachine
 file_remark needs.Sheet false = KeySheet
 file_remark needs.Sheet true = MachineForSheet
 
--- the refusal of the file at this place, for its first fault
+-- the refusal for the first fault of the file at this place among the command's files
 abbrev pub refused_file : Needed → ℕ → List ℕ → SheetFault → Refused
 refused_file needed place bytes fault = refused_in place (file_remark needed (is_other_file needed bytes)) (File fault)
 
 abbrev pub or_refused : {A : Type 0} → (SheetFault → Refused) → Result A SheetFault → Result A Refused
 or_refused refused read = result_map_both (λ value. value) refused read
 
--- the machine of a machine file, the first of a command's files, or its first fault
+-- the machine in a machine file, which is the command's first file; or the refusal for the file's first fault
 abbrev pub machine_in : List ℕ → Result Parts Refused
 machine_in bytes = or_refused (refused_file needs.Machine 0 bytes) (machine_of bytes)
 
--- the month of a key sheet at this place among a command's files, or its first fault
+-- the month in a key sheet, which is at this place among the command's files; or the refusal for the sheet's first
+-- fault
 abbrev pub month_in : ℕ → List ℕ → Result (List (Option Day)) Refused
 month_in place bytes = or_refused (refused_file needs.Sheet place bytes) (sheet_of bytes)
 
--- The machine in a machine file, and the month in a key sheet. If they can't be read, the first fault of the two files.
+-- The machine in a machine file, and the month in a key sheet. If one of the two files can't be read, the first fault.
 unfoldable pub machine_and_month : List ℕ → List ℕ → Result (Parts × List (Option Day)) Refused
 machine_and_month machine sheet = do
   m ← machine_in machine
   month ← month_in 1 sheet
   Ok (m, month)
 
--- What is found in files satisfies `Holds`; or the answer is their first fault. Or memory ran out.
+-- One of these is so:
+-- - A value is found in the files, and `Holds` holds of it.
+-- - The answer is the refusal for the files' first fault.
+-- - The answer is that memory ran out.
 abbrev pub IsAnswerOn : {A : Type 0} → Result A Refused → (A → Type 0) → Result (Unit {0}) Refused → Type 0
 IsAnswerOn found Holds answer = MatchResult found Holds (λ refused. answer ≡ Err refused) ⊎ LacksMemory answer
 
--- `Holds` holds of the machine and the month. Or the answer is the first fault of the two files. Or the answer is that
--- memory ran out.
+-- One of these is so:
+-- - The two files have a machine and a month, and `Holds` holds of both.
+-- - The answer is the first fault of the two files.
+-- - The answer is that memory ran out.
 abbrev pub IsAnswerOnSheet : List ℕ → List ℕ → (Parts → List (Option Day) → Type 0) → Result (Unit {0}) Refused
     → Type 0
 IsAnswerOnSheet machine sheet Holds answer =

@@ -1,4 +1,4 @@
--- The output file that the option `-o` names: it is there exactly if the whole output was written.
+-- The output file that the option `-o` names: the file is there exactly if the whole output was written.
 -- Code: the command writes to a new file under another name. This file then gets its own name, or is removed.
 -- Test: tests/new-files
 use Rattle.std.specs.Prelude.{codes, ◌≡◌, ◌⊎◌, ℕ, Bool, true, false, List, [], ◌∷◌, ◌++◌, Option, Some, None, option_map}
@@ -18,7 +18,7 @@ use Rattle.kd_curator.specs.Files.{names_of}
 use Rattle.kd_curator.specs.Program.{HasEnded, IsRun, at_first, at_last, is_whole}
 use Rattle.kd_curator.specs.declared.stop.Stop.{Stop}
 
--- the words that say why there is no new file; the name of the file follows them
+-- the words that say why there is no new file; the file's name stands after them
 abbrev pub unwritten_words : NewFileFault → List ℕ
 unwritten_words new_files.Taken = codes "refused because there is already a file "
 unwritten_words new_files.Device = codes "refused " ++ (refusal_name refusals.Device ++ codes ": can't write ")
@@ -28,8 +28,8 @@ unwritten_words new_files.NoMemory = codes "refused " ++ (refusal_name refusals.
 abbrev pub unwritten_line : List ℕ → NewFileFault → List ℕ
 unwritten_line name fault = unwritten_words fault ++ (name ++ 10 ∷ [])
 
--- The command's output went to a new file, which was empty. `written` is this file before and after the command. The
--- command's answer is `answer`. The file didn't take the bytes `left`.
+-- The command's output went to a new file, which was empty before. `written` is this file before and after the command.
+-- `answer` is the command's answer. The bytes `left` are those that the file didn't take.
 pub record IsRunToFile (l : Language) (words : List (List ℕ)) (known : Option (List ℕ → Option (List ℕ)))
     (asked : List AskedName) (before : Option FilesByName) (written errors : Port) (left : List ℕ)
     (answer : Result (Unit {0}) Stop) : Type 0 where
@@ -37,10 +37,14 @@ pub record IsRunToFile (l : Language) (words : List (List ℕ)) (known : Option 
   pub fresh : written.had_failed ≡ false
   pub run : IsRun l words known asked written (Unit {0}) errors left answer
 
--- How the program ends whose command line names the file `name` for its output. The command's files have the names
--- `names`. `before` and `after` are the files before and after the call. `NotBegun`: no new file could be made, and no file was read. `Published`: all was written
--- that the answer says, and the new file `name` has it. `Discarded`: the command was refused before all was written.
--- `Unwritten`: a write failed, or the file couldn't get its name. In all cases but `Published`, the files are as before.
+-- How the program ends if the command line names the output file `name`. `names` are the names of the command's files.
+-- `before` are all files before the call, `after` all files after the call.
+-- - `NotBegun`: no new file could be made, and no file was read.
+-- - `Published`: the whole output was written, and is in the new file `name`.
+-- - `Discarded`: the command stopped before the whole output was written, and no write failed.
+-- - `Unwritten`: a write failed, or the file couldn't get its name.
+--
+-- In all cases but `Published`, the files are as before.
 pub data EndsWithFile (l : Language) (words : List (List ℕ)) (known : Option (List ℕ → Option (List ℕ)))
     (asked : List AskedName) (before after : Option FilesByName) (name : List ℕ) (names : List (List ℕ)) (errors : Port)
     (status : ℕ) : Type 0 where
@@ -63,13 +67,15 @@ pub data EndsWithFile (l : Language) (words : List (List ℕ)) (known : Option (
       → (fault : NewFileFault) → EndsWithLine (unwritten_line name fault) 1 (at_last errors told failed) status
       → EndsWithFile l words known asked before after name names errors status
 
--- Why the output goes to the sink. The words name no output file, or they don't mean a command, or memory ran out.
+-- The output goes to the sink for one of these reasons: the words name no output file, the words don't mean a command,
+-- or memory ran out.
 abbrev pub GoesToSink : List (List ℕ) → Result (Unit {0}) Stop → Type 0
 GoesToSink words answer =
     (output_of words ≡ None) ⊎ (IsNoCommandLine words ⊎ (answer ≡ Err memory_stop))
 
--- How the program ends. `ToSink`: the output went to the sink, and no file was made. `ToFile`: the words name the
--- output file `name`, and the sink is untouched.
+-- How the program ends.
+-- - `ToSink`: the output went to the sink, and no file was made.
+-- - `ToFile`: the words name the output file `name`, and the sink is untouched.
 pub data RunsTo (l : Language) (words : List (List ℕ)) (known : Option (List ℕ → Option (List ℕ)))
     (asked : List AskedName) (before after : Option FilesByName) (sink : List ℕ → Port) (Untouched : Type 0)
     (errors : Port) (status : ℕ) : Type 0 where
@@ -86,9 +92,9 @@ pub data RunsTo (l : Language) (words : List (List ℕ)) (known : Option (List �
 abbrev pub IsMeantBySome : NamedCommand → Type 0
 IsMeantBySome command = (words : List (List ℕ)) × IsCommandLineOf words command
 
--- How a command that wrote `bytes` to a new file changes the files from `before` to `after`. The first Bool says
--- whether a write failed, the second whether the whole output was written. If it was, and there is no fault, there is a
--- new file with the name `name`. Otherwise, the files are as before.
+-- How a command that wrote `bytes` to a new file changes the files from `before` to `after`. `failed` says whether a
+-- write failed. The next argument says whether the whole output was written. If it was written, and there is no fault,
+-- there is a new file with the name `name`. Otherwise, the files are as before.
 abbrev pub EndsFile : Option FilesByName → Option FilesByName → List ℕ → Option (List ℕ) → Bool → Bool
     → Result (Unit {0}) NewFileFault → Type 0
 EndsFile before after name bytes failed true (Ok done) = AddsFile before after name bytes

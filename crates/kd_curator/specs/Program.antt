@@ -1,5 +1,5 @@
 -- The program: which command the words mean, which files are read, and what is written.
--- Code: `run_curator` parses the words; `run_command` reads the files, and carries the command out.
+-- Code: `run_curator` parses the words; `run_command` reads the files, and carries out the command.
 -- Test: tests/cases/curator-pages.toml
 use Rattle.std.specs.Prelude.{◌≡◌, ◌⊎◌, ◌+◌, ◌≤◌, ◌||◌, not, ℕ, Bool, true, false, List, [], ◌∷◌, length, Option, None, IfSome}
 use Rattle.std.specs.Prelude.{Result, Ok, Err, IsTrue, unwrap_or}
@@ -46,28 +46,28 @@ use Rattle.kd_curator.specs.declared.fault.Refused.{Refused}
 use Rattle.kd_curator.specs.declared.stop.Stop.{Stop}
 use Rattle.kd_curator.specs.declared.stop.Stop.TheVariants as stops
 
--- What a task writes from the bytes of a machine file and of a key sheet, whose file has this name. Its words are in
--- language `l`, unless the task has another.
+-- The task writes its output and gives this answer, if the machine file and the key sheet have these bytes. `name` is
+-- the name of the key sheet's file. Words are in language `l`, unless the task asks for another language.
 abbrev pub DoesTask : Language → Task → List ℕ → List ℕ → List ℕ → Port → Result (Unit {0}) Refused → Type 0
 DoesTask l (tasks.Page days chosen) name machine sheet sink answer = IsAnswerOnSheet machine sheet
     (λ m month. WritesPages (unwrap_or chosen l) name month m (wanted_days days (model_of m) month) sink answer) answer
 DoesTask l (tasks.List day) name machine sheet sink answer = IsAnswerOnSheet machine sheet
     (λ m month. WritesList month m day sink answer) answer
 
--- The output for a message of this kind is written, and `answer` is the answer.
+-- The output for a message of this kind is written, and `answer` is the command's answer.
 abbrev pub WritesMessage : MessageKind → Language → List (Option Day) → Parts → ℕ → List ℕ → Port
     → Result (Unit {0}) Refused → Type 0
 WritesMessage kinds.Order l month m number order sink answer = WritesSendPage l month m number order sink answer
 WritesMessage kinds.Form l month m number form sink answer = WritesReceivePage l month m number form sink answer
 
--- The task has the bytes of a machine file, a key sheet and a message. It writes its output, and gives this answer.
--- Words are in language `l`, unless the task asks for another language.
+-- The task writes its output and gives this answer, if the machine file, the key sheet and the message have these
+-- bytes. Words are in language `l`, unless the task asks for another language.
 abbrev pub WorksMessage : Language → MessageTask → List ℕ → List ℕ → List ℕ → Port → Result (Unit {0}) Refused → Type 0
 WorksMessage l task machine sheet message sink answer = IsAnswerOnSheet machine sheet
     (λ m month. WritesMessage task.kind (unwrap_or task.language l) month m task.day message sink answer) answer
 
--- What a command writes from the bytes of its files, in their order. Its words are in language `l`, unless the command
--- has another.
+-- The command writes its output and gives this answer, if its files have the bytes `texts`, in the order of the files.
+-- Words are in language `l`, unless the command asks for another language.
 abbrev pub DoesCommand : Language → NamedCommand → List (List ℕ) → Port → Result (Unit {0}) Refused → Type 0
 DoesCommand l (commands.OnMachine machine sheet task) texts sink answer =
     DoesTask l task sheet (text_at texts 0) (text_at texts 1) sink answer
@@ -83,38 +83,38 @@ DoesCommand l (commands.Look files) texts sink answer =
 DoesCommand l (commands.EmptySheet model days) texts sink answer =
     WritesText refused_device (empty_month_text model days) sink answer
 
--- Nothing was written to the port, and it didn't fail in the meantime.
+-- Nothing was written to the port, and the port didn't fail in the meantime.
 pub record IsLeftAlone (p : Port) : Type 0 where
   pub same : p.has ≡ p.had
   pub failed : p.has_failed ≡ p.had_failed
 
 -- ---- The program's answer.
 
--- Whether the whole output was written. This is so after success. It is also so if files that were looked at have
--- faults, or if a form isn't read completely.
+-- Whether the whole output was written. This is so in three cases: the program succeeds, or files that were looked at
+-- have faults, or a form isn't one whole message.
 abbrev pub is_whole : Result (Unit {0}) Stop → Bool
 is_whole (Ok done) = true
 is_whole (Err (stops.Refused refused)) = is_after_all refused.fault
 is_whole (Err (stops.Usage text)) = false
 
--- The answer after a flush. It is `first` if no bytes are left. It is `Device` if the sink didn't take the bytes
--- `left`.
+-- The answer after a flush. If no bytes are left, it is `first`. If the sink didn't take the bytes `left`, it is
+-- `Device`.
 abbrev pub IsFlushed : List ℕ → Result (Unit {0}) Stop → Result (Unit {0}) Stop → Type 0
 IsFlushed left first answer =
     ((answer ≡ first) × (left ≡ [])) ⊎ ((answer ≡ Err (stops.Refused refused_device)) × (1 ≤ length left))
 
--- The answer after a command. If there was a flush, as the Bool says, it is the answer after the flush. Otherwise it is
--- `first`.
+-- The answer after a command. The first argument says whether there was a flush. If there was, the answer is the answer
+-- after the flush; otherwise it is `first`.
 abbrev pub AnswersAfter : Bool → List ℕ → Result (Unit {0}) Stop → Result (Unit {0}) Stop → Type 0
 AnswersAfter true left first answer = IsFlushed left first answer
 AnswersAfter false left first answer = answer ≡ first
 
 -- The program's answer after a command with the answer `first`. If the whole output was written, the gathered bytes are
--- passed on. `left` are the bytes that the sink didn't take. If there are any, the answer is `Device`.
+-- passed on to the sink. `left` are the bytes that the sink didn't take; if there are any, the answer is `Device`.
 abbrev pub IsAnswerAfterFlush : List ℕ → Result (Unit {0}) Stop → Result (Unit {0}) Stop → Type 0
 IsAnswerAfterFlush left first answer = AnswersAfter (is_whole first) left first answer
 
--- A command gave the answer `told`, for which `Does` holds. After it, the program's answer is `answer`.
+-- A command gave the answer `told`, for which `Does` holds. Then the program's answer is `answer`.
 pub record IsTold (Does : Result (Unit {0}) Refused → Type 0) (left : List ℕ) (answer : Result (Unit {0}) Stop)
     : Type 0 where
   pub told : Result (Unit {0}) Refused
@@ -126,10 +126,13 @@ abbrev pub is_usage : Result (Unit {0}) Stop → Bool
 is_usage (Err (stops.Usage text)) = true
 is_usage _ = false
 
--- How a command line is carried out. `Carried`: its command was carried out, with the bytes `texts` of its files.
--- `FileUnread`: a file of the command couldn't be read, the last that was asked for, and the answer says so of the file at
--- this place. `Shown`: the words ask for help or for the version. `OtherWords`: the words mean no command.
--- `NoMemory`: memory ran out before a file was asked for.
+-- How a command line is carried out.
+-- - `Carried`: the line's command was carried out, with the bytes `texts` of its files.
+-- - `FileUnread`: a file of the command couldn't be read. It is the last file that was asked for, and the answer has a
+--   remark on it.
+-- - `Shown`: the words ask for help or for the version.
+-- - `OtherWords`: the words don't mean a command.
+-- - `NoMemory`: memory ran out before a file was asked for.
 pub data CarriesOut (l : Language) (words : List (List ℕ)) (known : Option (List ℕ → Option (List ℕ))) (asked : List AskedName)
     (sink : Port) (left : List ℕ) (answer : Result (Unit {0}) Stop) : Type 0 where
   Carried : (command : NamedCommand) → IsCommandLineOf words command → (texts : List (List ℕ))
@@ -162,9 +165,10 @@ is_stopped_before_writing (Ok done) = false
 is_stopped_before_writing (Err (stops.Refused refused)) = not (comes_after_writing refused.fault)
 is_stopped_before_writing (Err stop) = true
 
--- The notes that were on standard error before the program's answer was known. There may be notes on a table, if the
--- words mean the command `sheet`, and the table was read. There may be notes on a form, if the words mean `receive`,
--- and the files were read. Otherwise there are none.
+-- The notes that were on standard error before the program's answer was known.
+-- - If the words mean the command `sheet`, and the table was read, there may be notes on the table.
+-- - If the words mean the command `receive`, and the files were read, there may be notes on the form.
+-- - Otherwise there are no notes.
 pub data HasNotes (words : List (List ℕ)) (asked : List AskedName) (errors : Port) : Type 0 where
   NoNotes : IsLeftAlone errors → HasNotes words asked errors
   TableNotes : (table : List ℕ) (options : OptionTexts) → IsCommandLineOf words (commands.Sheet table options)
@@ -173,9 +177,11 @@ pub data HasNotes (words : List (List ℕ)) (asked : List AskedName) (errors : P
       → IsCommandLineOf words (commands.Message machine sheet message task) → task.kind ≡ kinds.Form
       → AreAskedFor (machine ∷ sheet ∷ message ∷ []) [] asked true → Tells errors → HasNotes words asked errors
 
--- The program's answer to a command line. `carried`: how the command line is carried out. `untouched`: if the program
--- stops before it writes, the sink is untouched. `failed`: the sink has failed if the answer says so, or if it had
--- failed before, and only then. `noted`: the notes on standard error, before the text for the answer.
+-- The program's answer to a command line.
+-- - `carried`: how the command line is carried out.
+-- - `untouched`: if the program stops before it writes, the sink is untouched.
+-- - `failed`: the sink has failed exactly if it had failed before, or the answer says that a write failed.
+-- - `noted`: the notes on standard error, which stand before the text for the answer.
 pub record IsRun (l : Language) (words : List (List ℕ)) (known : Option (List ℕ → Option (List ℕ))) (asked : List AskedName)
     (sink : Port) (Untouched : Type 0) (errors : Port) (left : List ℕ) (answer : Result (Unit {0}) Stop)
     : Type 0 where
@@ -184,7 +190,7 @@ pub record IsRun (l : Language) (words : List (List ℕ)) (known : Option (List 
   pub failed : sink.has_failed ≡ (sink.had_failed || is_stopped_by_device answer)
   pub noted : HasNotes words asked errors
 
--- A sink before and after a call. The gathered bytes `left`, which the sink hasn't taken, count as taken.
+-- A sink before and after a call. The bytes `left` were gathered, but not taken by the sink; here, they count as taken.
 abbrev pub port_with_untaken : {P : Type 0} → (P → Option (List ℕ)) → (P → Bool) → P → P → List ℕ → Port
 port_with_untaken bytes failed old new left = record {
   had = bytes old;
@@ -193,7 +199,7 @@ port_with_untaken bytes failed old new left = record {
   has_failed = failed new;
 }
 
--- Standard error from the start of the call until the answer was known. By then, standard error had taken `told`.
+-- Standard error from the start of the call until the answer was known. Until then, standard error had taken `told`.
 abbrev pub at_first : Port → Option (List ℕ) → Bool → Port
 at_first errors told failed = record errors { has = told; has_failed = failed }
 
@@ -201,14 +207,14 @@ at_first errors told failed = record errors { has = told; has_failed = failed }
 abbrev pub at_last : Port → Option (List ℕ) → Bool → Port
 at_last errors told failed = record errors { had = told; had_failed = failed }
 
--- The files of the command that the words mean have these names; or the answer says nothing of a file.
+-- `names` are the names of the files of the command that the words mean, or the answer has no remark on a file.
 abbrev pub AreNamesFor : List (List ℕ) → List (List ℕ) → Result (Unit {0}) Stop → Type 0
 AreNamesFor words names answer =
     ((command : NamedCommand) × IsCommandLineOf words command × (names ≡ names_of command)) ⊎ (blame_of answer ≡ None)
 
--- The program's answer satisfies `IsSo`, and the program ended with the text and the exit status for this answer.
--- `left` are the gathered bytes that the sink didn't take. `told` and `failed` are what standard error had taken when
--- the answer was known, and whether it had failed. `names` are those of the command's files.
+-- `IsSo` holds of the program's answer, and the program ends with the text and the exit status for this answer. The
+-- sink didn't take the gathered bytes `left`. When the answer was known, standard error had taken the bytes `told`, and
+-- `failed` says whether it had failed. `names` are the names of the command's files.
 pub record HasEnded (words : List (List ℕ)) (IsSo : Port → List ℕ → Result (Unit {0}) Stop → Type 0) (errors : Port)
     (status : ℕ) : Type 0 where
   pub left : List ℕ
@@ -222,18 +228,18 @@ pub record HasEnded (words : List (List ℕ)) (IsSo : Port → List ℕ → Resu
 
 -- ---- What inner functions require and tell. No public contract cites these definitions.
 
--- A sheet to fill in has at most 31 days.
+-- If the command writes a sheet to fill in, the sheet has at most 31 days.
 abbrev pub HasMonth : NamedCommand → Type 0
 HasMonth (commands.EmptySheet model days) = days ≤ 31
 HasMonth _ = Unit {0}
 
--- Any notes on a form may have been written to standard error. For an order, none were.
+-- For a form, any notes may have been written to standard error. For an order, nothing was written to it.
 abbrev pub TellsOfMessage : MessageKind → Port → Type 0
 TellsOfMessage kinds.Order errors = IsLeftAlone errors
 TellsOfMessage kinds.Form errors = Tells errors
 
--- What a command tells on standard error, beside the reason of a refusal: `sheet` tells the columns that it doesn't read,
--- and a table's faults; `receive` tells what is wrong with a form. Other commands tell nothing.
+-- What was written to standard error before a refusal's text. The command `sheet` may have written notes on a table.
+-- The command `receive` may have written notes on a form. Any other command has written nothing.
 abbrev pub HasTold : NamedCommand → Port → Type 0
 HasTold (commands.Sheet table options) errors = Tells errors
 HasTold (commands.Message machine sheet message task) errors = TellsOfMessage task.kind errors

@@ -42,19 +42,20 @@ page_fault_text faults.TooManyParts = codes "because the form has more than 255 
 page_fault_text faults.NotWhole = codes "in part: the form isn't read as one whole message of the day"
 page_fault_text faults.Device = refusal_name refusals.Device
 
--- a refusal that is of no day, or of the only one, and says nothing of a file
+-- a refusal that names no day, and has no remark on a file
 abbrev pub refused_whole : PageFault → Refused
 refused_whole fault = record { day = None; blame = None; fault = fault }
 
--- a refusal for a fault of the file at this place among the command's files
+-- a refusal for this fault, with a remark on the file at this place among the command's files
 abbrev pub refused_in : ℕ → Remark → PageFault → Refused
 refused_in place remark fault = record { day = None; blame = blame_on place remark; fault = fault }
 
--- the refusal for the file at this place that couldn't be read, given what the folders tell
+-- the refusal for the file at this place, which couldn't be read for the reason `why`
 abbrev pub refused_unread : ℕ → FileFault → WhyUnread → Refused
 refused_unread place fault why = record { day = None; blame = unread_blame place fault why; fault = faults.Unread fault }
 
--- the file that has a fault of a message: the machine file, a command's first file, or the order, its third
+-- The remark on the file that has a fault of a message: on the machine file, which is the command's first file, or on
+-- the order, which is the third. `None` if memory ran out.
 abbrev pub message_blame : FormFault → Option Blame
 message_blame forms.NoMemory = None
 message_blame forms.NotReady = blame_on 0 MachineFile
@@ -65,12 +66,12 @@ message_blame _ = blame_on 2 Order
 abbrev pub refused_message : FormFault → Refused
 refused_message fault = record { day = None; blame = message_blame fault; fault = faults.Message fault }
 
--- the fault of a refusal, if a day can't be planned for this reason
+-- the fault that a refusal names if a day can't be planned, for the reason why it can't
 abbrev pub fault_of_plan : NoPlan → PageFault
 fault_of_plan plans.NoSuchDay = faults.NoSuchDay
 fault_of_plan plans.OtherModel = faults.OtherModel
 
--- The refusal of a day that can't be planned. If several days were asked for, it names the day.
+-- The refusal of a day that can't be planned. If several days were asked for, the refusal names the day.
 abbrev pub day_refusal : Bool → DayFault → Refused
 day_refusal several fault = record {
   day = if several then Some fault.day else None;
@@ -82,16 +83,14 @@ abbrev pub is_device_fault : PageFault → Bool
 is_device_fault faults.Device = true
 is_device_fault _ = false
 
--- Whether a refusal for this fault comes after output was written. Either a write failed, or the whole output was
--- written.
+-- Whether a refusal for this fault comes after output was written: a write failed, or the whole output was written.
 abbrev pub comes_after_writing : PageFault → Bool
 comes_after_writing faults.Device = true
 comes_after_writing faults.FaultyFile = true
 comes_after_writing faults.NotWhole = true
 comes_after_writing _ = false
 
--- Whether a refusal for this fault comes after the whole output was written. The output is a report on files, or the
--- page of a form.
+-- Whether a refusal for this fault comes after the whole output was written: a report on files, or the page of a form.
 abbrev pub is_after_all : PageFault → Bool
 is_after_all faults.FaultyFile = true
 is_after_all faults.NotWhole = true
@@ -100,12 +99,12 @@ is_after_all _ = false
 abbrev pub refused_device : Refused
 refused_device = refused_whole faults.Device
 
--- whether the answer is a refusal because a write failed
+-- whether the answer is a refusal because of a failed write
 abbrev pub is_device : Result (Unit {0}) Refused → Bool
 is_device (Ok done) = false
 is_device (Err refused) = is_device_fault refused.fault
 
--- why no page for sending is written, as a refusal
+-- the refusal of the command `send` that names this fault
 abbrev pub refused_send : SendPageFault → Refused
 refused_send (sends.Order fault) = refused_message fault
 refused_send sends.Device = refused_device

@@ -1,4 +1,4 @@
--- What `run_list` writes, and when it refuses.
+-- What `run_list` writes, and when `run_list` refuses.
 use Rattle.std.specs.Prelude.{◌≡◌, ℕ, false, List, Option, Result, Err, OnOk}
 use Rattle.kd_tables.specs.Ports.{Port}
 use Rattle.kd_state.specs.declared.machine.parts.Parts.{Parts}
@@ -12,9 +12,11 @@ use Rattle.kd_booklet.specs.declared.fault.DayFault.{DayFault}
 use Rattle.kd_curator.specs.Refusals.{day_refusal, refused_device}
 use Rattle.kd_curator.specs.declared.fault.Refused.{Refused}
 
--- Either the day can't be planned, and the answer says why. Or the settings of a plan for the day were written, in the
--- order of a page. If the device failed, only a prefix of them was written. The plan leads from machine `m` to machine
--- `n`. The whole text is read back as its settings.
+-- The cases of `run_list`, for the day `number`:
+-- - `NoList`: the day can't be planned, and the answer says why.
+-- - `Settings`: the settings of a plan for the day were written, in the order of a page. If the sink failed, only a
+--   prefix of their text was written. The plan leads from machine `m` to machine `n`. If the whole text was written, it
+--   is read back as these settings.
 pub data WritesList (month : List (Option Day)) (m : Parts) (number : ℕ) (sink : Port)
     (answer : Result (Unit {0}) Refused) : Type 0 where
   NoList : (fault : DayFault) → IsDayFault (model_of m) month number fault

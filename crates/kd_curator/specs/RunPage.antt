@@ -1,4 +1,4 @@
--- What `run_page` writes, and when it refuses.
+-- What `run_page` writes, and when `run_page` refuses.
 use Rattle.std.specs.Prelude.{◌≡◌, ℕ, nat_lt, Bool, true, false, List, [], ◌∷◌, filter, length, Option, Some, None}
 use Rattle.std.specs.Prelude.{Result, Err}
 use Rattle.std.specs.List.{range_with_len}
@@ -27,11 +27,11 @@ is_same_model M4 M4 = true
 is_same_model M209 M209 = true
 is_same_model _ _ = false
 
--- whether the month has the day `number`, and this day is of the model
+-- whether the month has the day `number`, and this day is for the model
 unfoldable pub has_day_of : Model → List (Option Day) → ℕ → Bool
 has_day_of model month number = option_map_or (λ s. is_same_model (day_model s) model) (day_of month number) false
 
--- the days that are asked for; if no days are named, all days of the month that are of the model
+-- the days that are asked for; if no days are named, all days that the month has for the model
 abbrev pub wanted_days : Option (List ℕ) → Model → List (Option Day) → List ℕ
 wanted_days (Some days) model month = days
 wanted_days None model month = filter (has_day_of model month) (range_with_len 1 31)
@@ -43,8 +43,10 @@ pub record IsDayRefusal (model : Model) (month : List (Option Day)) (numbers : L
   pub first : IsFirstFault model month numbers fault
   pub told : refused ≡ day_refusal (nat_lt 1 (length numbers)) fault
 
--- There are no days; or the first day that can't be planned was refused. Or the pages of all days were written, with the
--- name of the sheet's file, or a prefix of them if the device failed.
+-- The cases of `run_page`, for the days `numbers`. `name` is the name of the key sheet's file.
+-- - `NoDays`: there are no days.
+-- - `NoPage`: a day can't be planned, and the first such day is refused.
+-- - `Pages`: the pages of all days were written. If the sink failed, only a prefix of the pages was written.
 pub data WritesPages (l : Language) (name : List ℕ) (month : List (Option Day)) (m : Parts) (numbers : List ℕ)
     (sink : Port) (answer : Result (Unit {0}) Refused) : Type 0 where
   NoDays : numbers ≡ [] → answer ≡ Err (refused_whole NoSuchDay) → WritesPages l name month m numbers sink answer

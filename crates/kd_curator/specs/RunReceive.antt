@@ -1,4 +1,4 @@
--- What `run_receive` writes, and when it refuses.
+-- What `run_receive` writes, and when `run_receive` refuses.
 use Rattle.std.specs.Prelude.{◌≡◌, ◌⊎◌, ◌≤◌, false, ℕ, List, None, Option, Some, Result, Ok, Err, IsErr, length}
 use Rattle.std.specs.Io.KnownBytes.{Appends}
 use Rattle.kd_tables.specs.Ports.{Port}
@@ -24,15 +24,18 @@ pub record IsFormRead (m : Parts) (s : Day) (form : List ℕ) (parts : List Dama
   pub read : AreFormParts s form parts
   pub few : length (damaged_parts_of form) ≤ 255
 
--- The answer after the page of these parts was written. It is success exactly if the parts are one whole message of the
--- day.
+-- The answer after the page of these parts was written. The command succeeds exactly if the parts are one whole message
+-- of the day.
 abbrev pub IsReceivedAs : List DamagedPart → Result (Unit {0}) Refused → Type 0
 IsReceivedAs parts answer =
     (IsWhole parts × (answer ≡ Ok tt)) ⊎ (¬ (IsWhole parts) × (answer ≡ Err (refused_whole NotWhole)))
 
--- `NoDay`: the sheet doesn't have the day. `OffKey`: the machine isn't ready, or isn't on the day's key. `NotRead`: the
--- form has too many parts, or memory ran out. `Page`: the page of the form's parts was written. `Cut`: only a prefix of
--- the page was written, since the device failed.
+-- The cases of `run_receive`, for the day `number`:
+-- - `NoDay`: the sheet doesn't have the day.
+-- - `OffKey`: the machine isn't ready, or isn't on the day's key.
+-- - `NotRead`: the form has too many parts, or memory ran out.
+-- - `Page`: the page of the form's parts was written.
+-- - `Cut`: only a prefix of the page was written, since the sink failed.
 pub data WritesReceivePage (l : Language) (month : List (Option Day)) (m : Parts) (number : ℕ) (form : List ℕ)
     (sink : Port) (answer : Result (Unit {0}) Refused) : Type 0 where
   NoDay : day_of month number ≡ None → answer ≡ Err (refused_whole NoSuchDay)
@@ -49,8 +52,8 @@ pub data WritesReceivePage (l : Language) (month : List (Option Day)) (m : Parts
       → IsFormRead m s form parts → TakesPrefix sink.had sink.has (receive_text l s parts)
       → answer ≡ Err refused_device → WritesReceivePage l month m number form sink answer
 
--- `Told` holds of the notes on standard error. They say what is wrong with the form's parts, and what to ask for. If no
--- page is written, there are no notes.
+-- `Told` holds of the notes on standard error, which say what is wrong with the form's parts, and what to ask for. If
+-- no page is written, there may be no notes.
 pub data TellsOfForm (l : Language) (month : List (Option Day)) (m : Parts) (number : ℕ) (form : List ℕ)
     (Told : List ℕ → Type 0) (answer : Result (Unit {0}) Refused) : Type 0 where
   OfParts : (s : Day) → day_of month number ≡ Some s → IsReadyOnKey m s → (parts : List DamagedPart)

@@ -1,4 +1,4 @@
--- What `run_type` writes, and when it refuses.
+-- What `run_type` writes, and when `run_type` refuses.
 -- Test: tests/typing-pages
 use Rattle.std.specs.Prelude.{◌≡◌, Bool, if◌then◌else◌, Result, Ok, Err}
 use Rattle.kd_tables.specs.Ports.{Port}
@@ -12,8 +12,10 @@ use Rattle.kd_typing_page.specs.TypingPage.{typing_page}
 use Rattle.kd_curator.specs.Refusals.{refused_device, refused_message}
 use Rattle.kd_curator.specs.declared.fault.Refused.{Refused}
 
--- `NoPage`: the machine isn't ready. `Page`: the machine's page was written. If the device failed, only a prefix of the
--- page was written. Typing on the page's table gives the machine's ciphertext.
+-- The cases of `run_type`:
+-- - `NoPage`: the machine isn't ready.
+-- - `Page`: the machine's page was written. If the sink failed, only a prefix of the page was written. Typing on the
+--   page's table gives the machine's ciphertext.
 pub data WritesTypingPage (l : Language) (m : Parts) (sink : Port) (answer : Result (Unit {0}) Refused) : Type 0 where
   NoPage : ¬ (IsReady m) → answer ≡ Err (refused_message NotReady) → WritesTypingPage l m sink answer
   Page : IsReady m → TypesAsMachine m → WritesText refused_device (typing_page l m) sink answer

@@ -1,4 +1,4 @@
--- What the command `sheet` writes, and when it refuses.
+-- What the command `sheet` writes, and when the command refuses.
 -- Test: tests/cases/curator-sheet.toml
 use Rattle.std.specs.Prelude.{◌≡◌, ℕ, List, Result, Ok, Err, OnOk}
 use Rattle.kd_tables.specs.Ports.{Port}
@@ -15,8 +15,11 @@ use Rattle.kd_curator.specs.declared.blame.Remark.TheVariants.{Named}
 use Rattle.kd_curator.specs.declared.fault.PageFault.TheVariants.{FaultyTable}
 use Rattle.kd_curator.specs.declared.fault.Refused.{Refused}
 
--- `Sheet`: the key sheet with the days of the table was written. If the device failed, only a prefix of it was written.
--- The whole sheet is read back as these days. `Faulty`: the table is refused. `NoMemory`: memory ran out.
+-- The cases of the command `sheet`, for a table:
+-- - `Sheet`: the key sheet with the days of the table was written. If the sink failed, only a prefix of the key sheet
+--   was written. If the whole key sheet was written, it is read back as these days.
+-- - `Faulty`: the table is refused.
+-- - `NoMemory`: memory ran out.
 pub data MakesSheet (options : OptionTexts) (table : List ℕ) (sink : Port) (answer : Result (Unit {0}) Refused)
     : Type 0 where
   Sheet : (days : List Day) → TableMeans options table days

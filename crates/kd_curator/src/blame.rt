@@ -4,36 +4,36 @@ ghost use Rattle.kd_curator.specs.Blame.{remark_words, why_words};
 
 use kd_new_file::WhyUnread;
 
-/// The file that a refusal is about.
+/// The file that a refusal is about, and the remark on this file.
 #[derive(Clone, Copy, Debug, PartialEq, Eq)]
 pub struct Blame {
-    /// The file's place among those of the command, counted from 0.
+    /// The file's place among the command's files, counted from 0.
     pub place: usize,
     pub remark: Remark,
 }
 
-/// What a refusal says of a file.
+/// A remark on a file: what a refusal says of it.
 #[derive(Clone, Copy, Debug, PartialEq, Eq)]
 pub enum Remark {
-    /// It can't be opened or read.
+    /// The file can't be opened or read.
     Unread(WhyUnread),
-    /// It has too many bytes.
+    /// The file has too many bytes.
     TooLong,
-    /// It is the machine file that has the fault.
+    /// The fault is in this file, the machine file.
     MachineFile,
-    /// It is a key sheet, where a machine file is needed.
+    /// The file is a key sheet, but a machine file is needed.
     SheetForMachine,
-    /// It is the key sheet that has the fault.
+    /// The fault is in this file, the key sheet.
     KeySheet,
-    /// It is a machine file, where a key sheet is needed.
+    /// The file is a machine file, but a key sheet is needed.
     MachineForSheet,
-    /// It is the order that has the fault.
+    /// The fault is in this file, the order.
     Order,
-    /// It is the file of which the refusal's own words speak.
+    /// The refusal's text already says what is wrong with this file.
     Named,
 }
 
-/// The words of a remark, which stand between a refusal's text and the file's name.
+/// The words of a remark. A refusal's text stands before them, and the file's name after them.
 pub(crate) fn remark_words(remark: Remark) -> &'static str
     ensures { result.now ≡ remark_words remark }
 {
@@ -49,7 +49,7 @@ pub(crate) fn remark_words(remark: Remark) -> &'static str
     }
 }
 
-/// The words for a file that can't be read.
+/// The words that say why a file can't be read. The file's name stands after them.
 fn why_words(why: WhyUnread) -> &'static str
     ensures { result.now ≡ why_words why }
 {

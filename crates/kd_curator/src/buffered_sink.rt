@@ -1,4 +1,4 @@
-//! A sink that gathers small pieces of text before it passes them on.
+//! A sink that gathers small pieces of text before it passes the gathered text on.
 ghost use Rattle.std.specs.Prelude.{◌≡◌, ◌≤◌, ◌||◌, [], ◌++◌, take, length, nat_lt, Some, OnErr, OnOk, is_err};
 ghost use Rattle.std.specs.Prelude.{option_map};
 ghost use Rattle.std.specs.Io.KnownBytes.{append_known, Appends, Keeps};
@@ -7,10 +7,10 @@ ghost use Rattle.kd_tables.specs.Ports.{Puts};
 use arrayvec::ArrayVec;
 use kd_tables::{Failed, Sink};
 
-/// The most bytes that are gathered.
+/// The greatest number of bytes that are gathered.
 const ROOM: usize = 4096;
 
-/// A sink that gathers bytes. It passes them on to another sink when it has no room for more, and at `flush`.
+/// A sink that gathers bytes. It passes the gathered bytes on to another sink when it is full, and at `flush`.
 #[derive(Drop)]
 pub(crate) struct BufferedSink<W: Sink + Drop> {
     sink: W,
@@ -29,7 +29,7 @@ impl<W: Sink + Drop> BufferedSink<W> {
         }
     }
 
-    /// Returns the other sink. Gathered bytes that weren't passed on are lost.
+    /// Returns the other sink. Gathered bytes that weren't passed on to this sink are lost.
     pub(crate) fn into_sink(self) -> W
         ensures { result ≡ self.sink }
     {
@@ -77,7 +77,7 @@ impl<W: Sink + Drop> Sink for BufferedSink<W> {
     }
 }
 
-/// Writes `bytes` to `sink`, and returns how many of them the sink took. Unless the sink failed, it took all.
+/// Writes `bytes` to `sink`, and returns how many bytes the sink took. Unless the sink failed, it took all bytes.
 #[tactic(auto, using(kd_tables::proofs::SeveralPuts::takes_more, kd_tables::proofs::SeveralPuts::still_failed))]
 fn pass_on<W: Sink>(sink: &mut W, bytes: &[u8]) -> usize
     ensures within { result ≤ length bytes.now }

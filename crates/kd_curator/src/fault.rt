@@ -12,7 +12,7 @@ use kd_sheet::SheetFault;
 use kd_table::SpreadsheetFault;
 use kd_tables::{Device, Refusal, Text};
 
-/// Why a command is refused. A part of its output may be written even so.
+/// Why a command is refused. A part of the command's output may be written nevertheless.
 #[derive(Clone, Copy, Debug, PartialEq, Eq)]
 pub enum PageFault {
     /// A file can't be opened or read, or memory ran out.
@@ -23,26 +23,26 @@ pub enum PageFault {
     NoSuchDay,
     /// The machine and the sheet's day are of different models.
     OtherModel,
-    /// The machine isn't ready, or isn't on the day's key. Or the message has this fault. Or memory ran out for the
+    /// The machine isn't ready or isn't on the day's key, or the message has this fault, or memory ran out for the
     /// message.
     Message(FormFault),
-    /// A spreadsheet's table has faults. Notes on standard error say which.
+    /// A spreadsheet's table has faults. Notes on standard error name them.
     FaultyTable,
-    /// A file that was looked at has faults. The report says which.
+    /// A file that was looked at has faults. The report names them.
     FaultyFile,
     /// The form has more than 255 parts.
     TooManyParts,
-    /// A form isn't read as one whole message of the day. Letters or parts are missing, or parts are of another message
-    /// or day. Its page is written even so.
+    /// The form isn't one whole message of the day: letters or parts are missing, or parts are from another message or
+    /// day. The form's page is written nevertheless.
     NotWhole,
     /// A write failed.
     Device,
 }
 
 impl PageFault {
-    /// The refusal's number and name. If the fault has values, such as a key, they follow.
+    /// The refusal's number and name, and then the fault's values, if it has any, such as a key.
     ///
-    /// Faults with notes or a report of their own have no number here.
+    /// A fault that notes or a report explain has no number here.
     pub fn text(&self) -> Text
         ensures { result.bytes ≡ page_fault_text self.now }
     {
@@ -78,13 +78,13 @@ fn worded_text(words: &str) -> Text
 pub struct Refused {
     /// The day that has the fault, if several days were asked for.
     pub day: Option<u8>,
-    /// The file that the refusal is about, if it is about one.
+    /// The file that the refusal is about, if there is one.
     pub blame: Option<Blame>,
     pub fault: PageFault,
 }
 
 impl Refused {
-    /// The refusal for a day that can't be planned. It names the day if `several` days were asked for.
+    /// The refusal of a day that can't be planned. If `several` days were asked for, the refusal names the day.
     pub(crate) fn of_day(fault: DayFault, several: bool) -> Refused
         ensures { result ≡ day_refusal several fault }
     {
@@ -95,7 +95,7 @@ impl Refused {
         }
     }
 
-    /// The refusal for a fault of the file at this place among the command's files.
+    /// The refusal for this fault, with a remark on the file at this place among the command's files.
     pub(crate) fn of_file(fault: PageFault, place: usize, remark: Remark) -> Refused
         ensures { result ≡ refused_in place remark fault }
     {
@@ -118,7 +118,8 @@ impl Refused {
     }
 }
 
-/// The file that has this fault: the machine file or the order, a command's first file or its third.
+/// The remark on the file that has this fault: on the machine file, which is the command's first file, or on the order,
+/// which is the third. `None` if memory ran out.
 fn message_blame(fault: FormFault) -> Option<Blame>
     ensures { result ≡ message_blame fault }
 {

@@ -13,16 +13,16 @@ use kd_host::{Content, FileFault, Files};
 use std::alloc::Global;
 use std::marker::Model;
 
-/// The most files that a command reads.
+/// The greatest number of files that a command reads.
 const MOST: usize = 3;
 
 /// The names of a command's files, in the order in which they are read.
 pub(crate) type Names<'n> = ArrayVec<&'n str, MOST>;
 
-/// The bytes of files, in their order.
+/// The bytes of a command's files, in the order in which the files are read.
 pub(crate) type Contents = ArrayVec<FileBytes, MOST>;
 
-/// The bytes of a file. There are none before it is read.
+/// The bytes of a file. Before the file is read, there are none.
 #[derive(Default, Drop)]
 pub(crate) struct FileBytes {
     content: Option<Content>,
@@ -77,7 +77,7 @@ pub(crate) fn names_of<'n>(command: &NamedCommand<'n>) -> Names<'n>
     }
 }
 
-/// One name, two or three, as a list.
+/// One, two or three names, as a list.
 pub(crate) fn listed<'n>(
     first: &'n str,
     second: Option<&'n str>,
@@ -92,7 +92,7 @@ pub(crate) fn listed<'n>(
     names
 }
 
-/// Appends another name, if there is one.
+/// Appends the name `name`, if there is one.
 fn push_other<'n>(names: &mut Names<'n>, name: Option<&'n str>)
     requires { array_vec_len names.old < 3 }
     ensures items { names.new.items ≡ names.old.items ++ list_of_option name.entry }
@@ -103,9 +103,9 @@ fn push_other<'n>(names: &mut Names<'n>, name: Option<&'n str>)
     }
 }
 
-/// Reads the files with these names, one after another, and adds their bytes to `contents`.
+/// Reads the files with these names, one after another, and appends their bytes to `contents`.
 ///
-/// After a fault, `contents` has the bytes of the files before the one that can't be read.
+/// After a fault, `contents` has the bytes of the files before the file that can't be read.
 pub(crate) fn read_contents<'n, F: Files<'n>>(
     alloc: Global,
     names: &[&'n str],
@@ -137,7 +137,7 @@ pub(crate) fn text_at(contents: &[FileBytes], place: usize) -> &[u8]
     contents[place].as_slice()
 }
 
-/// The name of the file at this place; no text if there is no such file.
+/// The name of the file at this place; empty if there is no such file.
 pub(crate) fn name_at<'n>(names: &[&'n str], place: usize) -> &'n str
     ensures { result.now ≡ text_at (unborrowed_names names.now) place }
 {

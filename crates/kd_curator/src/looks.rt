@@ -1,4 +1,4 @@
-//! The command `look`: says in words what files say, or what is wrong with them.
+//! The command `look`: describes files in words, or names their faults.
 ghost use Rattle.std.specs.Prelude.{◌≡◌, ◌++◌, ◌||◌, false, map, Err, IsErr, OnOk};
 ghost use Rattle.kd_tables.specs.Ports.{port};
 ghost use Rattle.kd_look.specs.Look.{IsLookAnswer, is_device as is_look_device, named_text};
@@ -12,7 +12,7 @@ use kd_look::{LookFault, NamedFile, Outcome, look_at};
 use kd_tables::Sink;
 use std::alloc::{AllocError, Global};
 
-/// Writes what the files say that have these names and contents, or what is wrong with them.
+/// Describes the files with these names and contents in words, or names their faults.
 pub(crate) fn look_at_files<W: Sink>(
     alloc: Global,
     names: &[&str],
@@ -27,7 +27,7 @@ pub(crate) fn look_at_files<W: Sink>(
     answer_of(look_at_all(alloc, names, contents, sink))
 }
 
-/// Writes what the files say that have these names and contents, or what is wrong with them.
+/// Describes the files with these names and contents in words, or names their faults.
 fn look_at_all<W: Sink>(
     alloc: Global,
     names: &[&str],
@@ -44,7 +44,7 @@ fn look_at_all<W: Sink>(
     look_at(alloc, files.as_slice(), sink)
 }
 
-/// Appends the files that have these names and contents.
+/// Appends the files with these names and contents.
 fn push_files<'f>(
     files: &mut Vec<NamedFile<'f>>,
     names: &[&'f str],
@@ -64,7 +64,7 @@ fn push_files<'f>(
     push_files(files, names, contents)
 }
 
-/// The answer of the command `look`, which follows from the outcome for all files.
+/// The answer of the command `look`, if `look_at` returned `told`.
 fn answer_of(told: Result<Outcome, LookFault>) -> Result<(), Refused>
     ensures { result ≡ look_answer told }
 {

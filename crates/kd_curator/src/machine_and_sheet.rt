@@ -1,4 +1,4 @@
-//! Reads machine files and key sheets. A refusal says of such a file whether it is the other of the two.
+//! Reads machine files and key sheets. If a file is the other of the two, the refusal says so.
 ghost use Rattle.std.specs.Prelude.{◌≡◌, ◌⊎◌, false, IfErr, Ok};
 ghost use Rattle.kd_tables.specs.Answers.{AgreesOrNoMemory};
 ghost use Rattle.kd_sheet.specs.declared.fault.SheetFault.{SheetFault};
@@ -17,14 +17,14 @@ use kd_state::Machine;
 use std::alloc::Global;
 use toml::Table;
 
-/// What a command needs in a file.
+/// The file that a command needs: a machine file, or a key sheet.
 #[derive(Clone, Copy)]
 pub(crate) enum Needed {
     Machine,
     Sheet,
 }
 
-/// Reads the machine in the machine file `machine`, the first of a command's files.
+/// Reads the machine in the machine file `machine`, which is the command's first file.
 pub(crate) fn read_one(alloc: Global, machine: &[u8]) -> Result<Machine, Refused>
     ensures found { (result ≡ machine_in machine.now) ⊎ LacksMemory result }
     ensures fault { IfErr result (λ refused. is_device_fault refused.fault ≡ false) }
@@ -35,7 +35,7 @@ pub(crate) fn read_one(alloc: Global, machine: &[u8]) -> Result<Machine, Refused
     }
 }
 
-/// Reads the key sheet `sheet`, which is at this place among a command's files.
+/// Reads the key sheet `sheet`, which is at this place among the command's files.
 pub(crate) fn read_month(alloc: Global, place: usize, sheet: &[u8]) -> Result<Sheet, Refused>
     ensures found { (result ≡ month_in place sheet.now) ⊎ LacksMemory result }
     ensures fault { IfErr result (λ refused. is_device_fault refused.fault ≡ false) }
@@ -46,7 +46,7 @@ pub(crate) fn read_month(alloc: Global, place: usize, sheet: &[u8]) -> Result<Sh
     }
 }
 
-/// Reads the machine in the machine file `machine`, and the key sheet `sheet`, the first two of a command's files.
+/// Reads the machine in the machine file `machine`, and the key sheet `sheet`. These are the command's first two files.
 #[tactic(auto, using(kd_host::proofs::Failing::err_is), unfolding(crate::specs::MachineAndSheet::machine_and_month))]
 pub(crate) fn read_both(
     alloc: Global,
@@ -61,7 +61,7 @@ pub(crate) fn read_both(
     Ok((machine, sheet))
 }
 
-/// The refusal of a file, given its fault, and what is needed in it.
+/// The refusal for `fault`, the first fault of the file at place `place`.
 fn refused_file(
     alloc: Global,
     needed: Needed,
@@ -85,7 +85,8 @@ fn refused_file(
     }
 }
 
-/// What is said of a file, given what is needed in it, and whether it is the other kind of file.
+/// The remark on a file with a fault. `needed` says whether a machine file or a key sheet is needed. `is_other` says
+/// whether the file is the other of the two.
 fn file_remark(needed: Needed, is_other: bool) -> Remark
     ensures { result ≡ file_remark needed is_other }
 {
@@ -97,7 +98,8 @@ fn file_remark(needed: Needed, is_other: bool) -> Remark
     }
 }
 
-/// Whether a file is a key sheet, where a machine file is needed, or the other way around. Refuses only without memory.
+/// Whether a file is a key sheet if a machine file is needed, or a machine file if a key sheet is needed. `NoMemory` is
+/// the only fault.
 #[tactic(auto, unfolding(crate::specs::MachineAndSheet::is_other_file))]
 fn is_other_file(alloc: Global, needed: Needed, bytes: &[u8]) -> Result<bool, SheetFault>
     ensures { AgreesOrNoMemory SheetFault.NoMemory (Ok (is_other_file needed bytes.now)) result }
@@ -109,7 +111,7 @@ fn is_other_file(alloc: Global, needed: Needed, bytes: &[u8]) -> Result<bool, Sh
     }
 }
 
-/// Whether a document is a key sheet, where a machine file is needed, or the other way around.
+/// Whether a document is a key sheet if a machine file is needed, or a machine file if a key sheet is needed.
 fn is_other_document(needed: Needed, document: &Table) -> bool
     ensures { result ≡ is_other_document needed (table_view document.now) }
 {

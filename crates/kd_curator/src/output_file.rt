@@ -1,4 +1,4 @@
-//! The file that the option `-o` names: why it isn't written.
+//! The output file that the option `-o` names. If the file isn't written, the program says why.
 ghost use Rattle.std.specs.Prelude.{◌≡◌};
 ghost use Rattle.kd_tables.specs.Ports.{port};
 ghost use Rattle.kd_host.specs.Ending.{EndsWithLine};
@@ -16,7 +16,7 @@ pub(crate) fn end_unwritten<E: Sink>(name: &str, fault: NewFileFault, errors: &m
     end_named(unwritten_words(fault), name, errors)
 }
 
-/// The words that say why there is no new file. The name of the file follows them.
+/// The words that say why there is no new file. The file's name stands after them.
 fn unwritten_words(fault: NewFileFault) -> &'static str
     ensures { result.now ≡ unwritten_words fault }
 {

@@ -1,4 +1,4 @@
-//! The program: reads the command line and the files, and carries the command out.
+//! The program: reads the command line and the files, and carries out the command.
 ghost use Rattle.std.specs.Prelude.{◌≡◌, ◌||◌, [], ℕ, List, false, true, length, map, IsErr, IsTrue};
 ghost use Rattle.std.specs.Prelude.{Option, None, Some};
 ghost use Rattle.std.specs.Io.KnownBytes.{Keeps, append_known};
@@ -44,14 +44,14 @@ use std::convert::AsStr;
 /// Carries out the command line `words`, which begins with the program's own name. Pages and tables are in `language`,
 /// unless the words ask for another language.
 ///
-/// Returns the exit status and the sink. The status is 0 for success, 2 for other words than a command's, and 1 for a
-/// refusal. With status 1 or 2, a text that says why is written to `errors`; if it is about a file, it ends with the
-/// file's name, as the words have it. The command `sheet` tells there a table's faults, and the columns that it doesn't
-/// read, too, and `receive` what is wrong with a form. Each file is read once, in the order of the command line. If a file
-/// can't be read, `new_files` are asked why, no later file is asked for, and nothing is written to `sink`.
+/// Returns the exit status and the sink. The status is 0 for success, 2 if the words don't mean a command, and 1 for a
+/// refusal. With status 1 or 2, a text that says why is written to `errors`. If the text is about a file, it ends with
+/// the file's name, as the words have it. Before this text, notes may be written to `errors`: by the command `sheet` on
+/// a table, and by the command `receive` on a form. Each file is read once, in the order of the command line. If a file
+/// can't be read, `new_files` is asked why, no later file is asked for, and nothing is written to `sink`.
 ///
 /// If the words name an output file, nothing is written to `sink`. The output goes to a new file in `new_files`. The
-/// file has this name exactly if the whole output was written.
+/// new file gets the output file's name exactly if the whole output was written.
 pub fn run_curator<'n, S: AsStr, F: Files<'n>, N: NewFiles, W: Sink + Drop, E: Sink>(
     alloc: Global,
     language: Language,
@@ -89,7 +89,7 @@ pub fn run_curator<'n, S: AsStr, F: Files<'n>, N: NewFiles, W: Sink + Drop, E: S
     }
 }
 
-/// Carries `command` out, with its output in the new file `name`.
+/// Carries out `command`, with its output in the new file `name`.
 fn run_to_file<'n, F: Files<'n>, N: NewFiles, E: Sink>(
     alloc: Global,
     language: Language,
@@ -118,10 +118,11 @@ fn run_to_file<'n, F: Files<'n>, N: NewFiles, E: Sink>(
     }
 }
 
-/// Publishes the new file `file` as `name`, if `answer` says that the whole output was written. Otherwise removes it.
+/// Publishes the new file `file` as `name`, if `answer` says that the whole output was written. Otherwise removes the
+/// file.
 ///
-/// The file was begun under the name `other`. If there is no fault, it is published exactly if the whole output was
-/// written. If it is removed without a fault, no write to it failed.
+/// The file was begun under the name `other`. If the file is removed, the fault `Device` says that a write to it
+/// failed.
 fn end_file<N: NewFiles>(
     answer: &Result<(), Stop>,
     new_files: &mut N,
@@ -145,7 +146,7 @@ fn end_file<N: NewFiles>(
     }
 }
 
-/// Carries `command` out, and gathers what is written before it is passed on to `sink`.
+/// Carries out `command`. The command's output is gathered before it is passed on to `sink`.
 fn run_gathering<'n, F: Files<'n>, N: NewFiles, W: Sink + Drop, E: Sink>(
     alloc: Global,
     language: Language,
@@ -176,7 +177,7 @@ fn run_gathering<'n, F: Files<'n>, N: NewFiles, W: Sink + Drop, E: Sink>(
     (answer, gathering.into_sink())
 }
 
-/// Reads the files that `command` names, and carries it out.
+/// Reads the files of `command`, and carries out the command.
 fn run_command<'n, F: Files<'n>, N: NewFiles, W: Sink, E: Sink>(
     alloc: Global,
     language: Language,
@@ -206,7 +207,7 @@ fn run_command<'n, F: Files<'n>, N: NewFiles, W: Sink, E: Sink>(
     Stop::of_answer(answer)
 }
 
-/// The refusal for the file at this place among `names`, which can't be read.
+/// The refusal for the file at this place among `names`, which couldn't be read. The folders say why.
 fn refused_unread<N: NewFiles>(
     names: &[&str],
     place: usize,
@@ -226,7 +227,8 @@ fn refused_unread<N: NewFiles>(
     }
 }
 
-/// Answers words that don't mean a command. If they ask for help, shows it. Otherwise stops for the reason `none`.
+/// Answers words that don't mean a command. If the words ask for help or for the version, shows the text. Otherwise
+/// stops for the reason `none`.
 fn answer_other_words<W: Sink>(none: NoCommand, sink: &mut W) -> Result<(), Stop>
     ensures carried { (l : Language) (words : List (List ℕ)) (known : Option (List ℕ → Option (List ℕ)))
         → HasNoCommand words none
@@ -243,7 +245,7 @@ fn answer_other_words<W: Sink>(none: NoCommand, sink: &mut W) -> Result<(), Stop
     }
 }
 
-/// Carries out `command`, whose files have these contents.
+/// Carries out `command`, if its files have these contents.
 fn carry_out<W: Sink, E: Sink>(
     alloc: Global,
     language: Language,
@@ -308,7 +310,8 @@ fn carry_out<W: Sink, E: Sink>(
     }
 }
 
-/// Does `task` with the machine in the file `machine` and the key sheet `sheet`, whose file is called `name`.
+/// Carries out `task` with the machine in the file `machine` and the key sheet `sheet`. `name` is the name of the key
+/// sheet's file.
 fn do_task<W: Sink>(
     alloc: Global,
     language: Language,
@@ -362,7 +365,7 @@ fn work_message<W: Sink, E: Sink>(
     }
 }
 
-/// Writes `text`, for which the words ask.
+/// Writes `text`, the help or the version that the words ask for.
 fn show<W: Sink>(text: &str, sink: &mut W) -> Result<(), Refused>
     ensures written { WritesText refused_device text.now
         (port W.taken W.has_failed sink.old sink.new) result }
@@ -372,8 +375,8 @@ fn show<W: Sink>(text: &str, sink: &mut W) -> Result<(), Refused>
     Ok(())
 }
 
-/// Passes the gathered bytes on, if the whole output was written. If the sink doesn't take all of them, the answer is
-/// `Device`.
+/// Passes the gathered bytes on to the sink, if the whole output was written. If the sink doesn't take all bytes, the
+/// answer is `Device`.
 fn pass_rest_on<W: Sink + Drop>(
     done: Result<(), Stop>,
     sink: &mut BufferedSink<W>,

@@ -17,9 +17,9 @@ use std::alloc::Global;
 
 /// Writes a shortest list from the machine in the file `machine` to the day `number` of the sheet `sheet`.
 ///
-/// The settings are in the order of the day's page. Faults are tested in this order: the machine file's, the sheet's,
-/// `NoSuchDay` and `OtherModel`. For all of these faults, nothing is written. For `Device`, only a prefix of the list
-/// is written.
+/// The settings are in the order of the day's page. Faults are tested in this order: faults of the machine file, faults
+/// of the sheet, `NoSuchDay`, `OtherModel`. For all of these faults, nothing is written. For `Device`, only a prefix of
+/// the list is written.
 pub fn run_list<W: Sink>(
     alloc: Global,
     machine: &[u8],
@@ -37,7 +37,7 @@ pub fn run_list<W: Sink>(
     write_list(&machine, &sheet, number, sink)
 }
 
-/// Writes the list for a machine and a sheet that are already read, as `run_list` does. Allocates no memory.
+/// Does what `run_list` does, for a machine and a sheet that are already read. Allocates no memory.
 pub fn write_list<W: Sink>(
     machine: &Machine,
     sheet: &Sheet,

@@ -1,4 +1,5 @@
-//! The command `page`: writes an HTML page for each day. Each page starts from the machine as the day before left it.
+//! The command `page`: writes an HTML page for each day. The first page starts from the machine file's machine, each
+//! later page from the machine as the previous page leaves it.
 ghost use Rattle.std.specs.Prelude.{◌≡◌, ◌||◌, ◌+◌, ◌-◌, ◌≤◌, ◌++◌, filter, false, IfErr, IfOk, IsErr, length};
 ghost use Rattle.std.specs.List.{range_with_len};
 ghost use Rattle.kd_state.specs.Machine.{model_of};
@@ -21,11 +22,10 @@ use std::alloc::Global;
 /// Writes the pages of `days` in one HTML file, in `language`. The first page starts from the machine in the file
 /// `machine`.
 ///
-/// The pages have the name of the sheet's file, `name`, without folder and ending.
-///
-/// Without `days`, these are all days that the sheet has for the machine's model. Faults are tested in this order:
-/// faults of the machine file, faults of the sheet, and then, day by day, `NoSuchDay` and `OtherModel`. For all of these
-/// faults, nothing is written. For `Device`, only a prefix of the file is written.
+/// The pages show the name of the key sheet: `name`, the name of its file, without folder and ending. If `days` is
+/// `None`, the pages are for all days that the sheet has for the machine's model. Faults are tested in this order:
+/// faults of the machine file, faults of the sheet, and then, day by day, `NoSuchDay` and `OtherModel`. For all of
+/// these faults, nothing is written. For `Device`, only a prefix of the file is written.
 pub fn run_page<W: Sink>(
     alloc: Global,
     language: Language,
@@ -46,7 +46,7 @@ pub fn run_page<W: Sink>(
     write_days(language, name, &machine, &sheet, &days, sink)
 }
 
-/// Writes the pages for a machine and a sheet that are already read, as `run_page` does. Allocates no memory.
+/// Does what `run_page` does, for a machine and a sheet that are already read. Allocates no memory.
 pub fn write_days<W: Sink>(
     language: Language,
     name: &str,
@@ -81,7 +81,7 @@ fn plan_or_refuse(machine: &Machine, sheet: &Sheet, days: &Days) -> Result<DayPl
     }
 }
 
-/// The days that are asked for. If `days` is `None`, all days of the sheet that are of the model.
+/// The days that are asked for. If `days` is `None`, all days that the sheet has for the model.
 fn wanted_days(days: Option<Days>, model: Model, sheet: &Sheet) -> Days
     ensures { result ≡ wanted_days days model sheet.now }
 {
@@ -95,7 +95,7 @@ fn wanted_days(days: Option<Days>, model: Model, sheet: &Sheet) -> Days
     }
 }
 
-/// Adds the sheet's days of the model, from `number` on.
+/// Adds the days that the sheet has for the model, from `number` on.
 fn add_days_of(days: &mut Days, model: Model, sheet: &Sheet, number: u8)
     requires { length days.old + (32 - number) ≤ 31 }
     ensures { days.new ≡ days.old ++ filter (has_day_of model sheet.now)
@@ -107,7 +107,7 @@ fn add_days_of(days: &mut Days, model: Model, sheet: &Sheet, number: u8)
     }
 }
 
-/// Whether the sheet has the day `number`, and this day is of the model.
+/// Whether the sheet has the day `number`, and this day is for the model.
 #[tactic(auto, unfolding(crate::specs::RunPage::has_day_of))]
 fn has_day_of(model: Model, sheet: &Sheet, number: u8) -> bool
     ensures { result ≡ has_day_of model sheet.now number }

@@ -1,5 +1,4 @@
-//! The command `receive`: writes an HTML page that shows how to decipher a form by hand. The page also has the form's
-//! text.
+//! The command `receive`: writes an HTML page that shows how to decipher a form by hand, and the form's text.
 ghost use Rattle.std.specs.Prelude.{◌≡◌, ◌||◌, false, IsErr, MatchResult};
 ghost use Rattle.kd_form.specs.OnTheKey.{IsKeyFault, IsReadyOnKey};
 ghost use Rattle.kd_tables.specs.Ports.{port};
@@ -22,10 +21,10 @@ use std::alloc::Global;
 /// Writes the page for receiving `form` on the machine in the file `machine`. The machine must be on the key of the day
 /// `number` of the sheet `sheet`.
 ///
-/// Faults are tested in this order: the machine file's, the sheet's, `NoSuchDay`, `NotReady`, `NotOnKey`, and
-/// `TooManyParts`. For all of these faults, nothing is written. For `Device`, only a prefix of the page is written. For
-/// `NotWhole`, the page is written. With a page, notes are written to `errors`: what is wrong with the form, and what
-/// to ask for.
+/// Faults are tested in this order: faults of the machine file, faults of the sheet, `NoSuchDay`, `NotReady`,
+/// `NotOnKey`, `TooManyParts`. For all of these faults, nothing is written. For `Device`, only a prefix of the page is
+/// written. For `NotWhole`, the page is written. If a page is written, notes are written to `errors`: what is wrong
+/// with the form, and what to ask for.
 pub fn run_receive<W: Sink, E: Sink>(
     alloc: Global,
     language: Language,
@@ -53,7 +52,7 @@ pub fn run_receive<W: Sink, E: Sink>(
     )
 }
 
-/// Writes the page for a machine and a sheet that are already read, as `run_receive` does.
+/// Does what `run_receive` does, for a machine and a sheet that are already read.
 fn write_form<W: Sink, E: Sink>(
     alloc: Global,
     language: Language,

@@ -17,8 +17,9 @@ use std::alloc::Global;
 /// Writes the page for sending `order` on the machine in the file `machine`. The machine must be on the key of the day
 /// `number` of the sheet `sheet`.
 ///
-/// Faults are tested in this order: the machine file's, the sheet's, `NoSuchDay`, `NotReady`, `NotOnKey`, and the
-/// order's. For all of these faults, nothing is written. For `Device`, only a prefix of the page is written.
+/// Faults are tested in this order: faults of the machine file, faults of the sheet, `NoSuchDay`, `NotReady`,
+/// `NotOnKey`, faults of the order. For all of these faults, nothing is written. For `Device`, only a prefix of the
+/// page is written.
 pub fn run_send<W: Sink>(
     alloc: Global,
     language: Language,
@@ -38,7 +39,7 @@ pub fn run_send<W: Sink>(
     write_order(alloc, language, &machine, &sheet, number, order, sink)
 }
 
-/// Writes the page for a machine and a sheet that are already read, as `run_send` does.
+/// Does what `run_send` does, for a machine and a sheet that are already read.
 fn write_order<W: Sink>(
     alloc: Global,
     language: Language,

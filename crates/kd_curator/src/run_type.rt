@@ -17,8 +17,8 @@ use std::alloc::Global;
 /// Writes the page with which to type on the machine in the file `machine`, in `language`. Typing on the page's table
 /// gives the machine's ciphertext.
 ///
-/// Faults are tested in this order: faults of the machine file, and `NotReady`. For these faults, nothing is written.
-/// For `Device`, only a prefix of the page is written.
+/// Faults are tested in this order: faults of the machine file, `NotReady`. For these faults, nothing is written. For
+/// `Device`, only a prefix of the page is written.
 pub fn run_type<W: Sink>(
     alloc: Global,
     language: Language,
@@ -34,7 +34,7 @@ pub fn run_type<W: Sink>(
     write_typing_page(language, &machine, sink)
 }
 
-/// Writes the page for a machine that is already read, as `run_type` does. Allocates no memory.
+/// Does what `run_type` does, for a machine that is already read. Allocates no memory.
 pub fn write_typing_page<W: Sink>(
     language: Language,
     machine: &Machine,

@@ -13,7 +13,7 @@ use kd_table::{TableOptions, run_sheet, write_empty_month};
 use kd_tables::{Model, Sink};
 use std::alloc::Global;
 
-/// Writes the key sheet with the days of `table`. Writes notes on the table's faults, if it has any, to `errors`.
+/// Writes the key sheet with the days of `table`. Writes notes on the table to `errors`.
 pub(crate) fn make_sheet<W: Sink, E: Sink>(
     alloc: Global,
     table: &[u8],

@@ -1,4 +1,4 @@
-//! `Stop`: why the program stops without success. The exit status and the text on standard error follow from it.
+//! `Stop`: why the program stops without success. A `Stop` gives the exit status, and the text on standard error.
 ghost use Rattle.std.specs.Prelude.{◌≡◌, ◌≤◌, ◌+◌, ◌++◌};
 ghost use Rattle.arrayvec.specs.ArrayString.{array_string_len};
 ghost use Rattle.kd_tables.specs.Ports.{port};
@@ -18,7 +18,7 @@ use kd_tables::Sink;
 use std::alloc::Global;
 use std::io;
 
-/// A refusal, which may begin with a day.
+/// The text of a refusal, which may begin with a day.
 type DayText = ArrayString<96>;
 
 /// Why the program stops without success.
@@ -30,10 +30,10 @@ pub enum Stop {
     Refused(Refused),
 }
 
-/// If `answer` has a `Stop`, writes the text for it to `errors`. Returns the exit status.
+/// Writes the text for `answer` to `errors`, if `answer` has a `Stop`. Returns the exit status.
 ///
-/// If a refusal is about a file, its line ends with the file's name, from `names`, the command's files. The exit status
-/// is the same even if the text can't be written.
+/// If a refusal is about a file, its line ends with the file's name. `names` are the names of the command's files. The
+/// exit status is the same even if the text can't be written.
 pub fn end_program<E: Sink>(answer: &Result<(), Stop>, names: &[&str], errors: &mut E) -> u8
     ensures { EndsAs (unborrowed_names names.now) answer.now
         (port E.taken E.has_failed errors.old errors.new) result }
@@ -45,7 +45,7 @@ pub fn end_program<E: Sink>(answer: &Result<(), Stop>, names: &[&str], errors: &
     }
 }
 
-/// Writes to `errors` the line for a refusal, and returns the exit status 1.
+/// Writes the line for a refusal to `errors`. Returns the exit status 1.
 #[tactic(auto, unfolding(crate::specs::Ending::refusal_line))]
 fn end_with_refusal<E: Sink>(refused: Refused, names: &[&str], errors: &mut E) -> u8
     ensures { EndsWithLine (refusal_line (unborrowed_names names.now) refused) 1
@@ -61,7 +61,7 @@ fn end_with_refusal<E: Sink>(refused: Refused, names: &[&str], errors: &mut E) -
     }
 }
 
-/// The refusal, without what it says of a file.
+/// The text of a refusal, without the remark on a file.
 #[tactic(auto, using(std::proofs::Common::append_assoc))]
 fn refusal_text(refused: Refused) -> DayText
     ensures { result.bytes ≡ refusal_text refused }
@@ -73,7 +73,7 @@ fn refusal_text(refused: Refused) -> DayText
     text
 }
 
-/// Appends the day's number, if there is one.
+/// Appends the words for the day, if there is one.
 fn push_day(text: &mut DayText, day: Option<u8>)
     requires { array_string_len text.old ≤ 1 }
     ensures bytes { text.new.bytes ≡ text.old.bytes ++ day_prefix day }
@@ -100,7 +100,7 @@ impl From<FileFault> for Stop {
 }
 
 impl Stop {
-    /// Turns the result of a command into the program's result. A refusal becomes a `Stop`.
+    /// Turns the result of a command into the program's result. A refusal is turned into a `Stop`.
     pub(crate) fn of_answer(done: Result<(), Refused>) -> Result<(), Stop>
         ensures { result ≡ stop_after done }
     {
@@ -110,7 +110,7 @@ impl Stop {
         }
     }
 
-    /// Why the program stops if the words can't be read. Either memory ran out, or a word isn't UTF-8.
+    /// Why the program stops if the words can't be read: memory ran out, or a word isn't UTF-8.
     pub fn of_words(alloc: Global, error: &io::Error) -> Stop
         ensures { IsWordsStop (error_kind error.now) result }
     {

@@ -1,5 +1,5 @@
--- The grammar of the command line. It has help, and the commands `page`, `list`, `send`, `receive`, `type`, `table`,
--- `sheet` and `look`, with their arguments.
+-- The grammar of the command line: help, and the commands `page`, `list`, `send`, `receive`, `type`, `table`, `sheet`
+-- and `look`, with their arguments.
 -- Code: `grammar` builds the grammar by calls of the library `clap`.
 -- Test: tests/cases/curator-words.toml
 use Rattle.std.specs.Prelude.{codes, decimal, ◌≡◌, ◌≢◌, ℕ, Bool, true, false, List, [], ◌∷◌, ◌++◌, Option, Some, None}
@@ -135,11 +135,11 @@ curator_grammar = record {
 -- Code: `clap` parses the command line; `command_of` makes the command from the arguments that `clap` found.
 -- Test: tests/cases/curator-words.toml
 
--- A command with the names of its files, before any is read.
+-- A command with the names of its files, before any file is read.
 abbrev pub NamedCommand : Type 0
 NamedCommand = Command (List ℕ)
 
--- the command, with its borrowed texts replaced by the texts themselves
+-- the command, with plain texts in place of borrowed texts
 abbrev pub unborrowed_command : Command (Bor (List ℕ)) → NamedCommand
 unborrowed_command (commands.OnMachine machine sheet task) = commands.OnMachine machine.now sheet.now task
 unborrowed_command (commands.Message machine sheet message task) =
@@ -150,17 +150,17 @@ unborrowed_command (commands.Sheet table options) = commands.Sheet table.now (te
 unborrowed_command (commands.Look files) = commands.Look (unborrowed_three files)
 unborrowed_command (commands.EmptySheet model days) = commands.EmptySheet model days
 
--- The argument DAYS, which `page` may lack, names these days.
+-- The argument DAYS names these days. `None` means that the argument isn't given.
 abbrev pub HasDays : List Row → Option (List ℕ) → Type 0
 HasDays rows None = first_of (codes "DAYS") rows ≡ None
 HasDays rows (Some days) =
     (word : List ℕ) × (first_of (codes "DAYS") rows ≡ Some word) × AreDays word days
 
--- The argument DAY is this day's number.
+-- The argument DAY is the decimal number of this day, from 1 to 31.
 abbrev pub HasDay : List Row → ℕ → Type 0
 HasDay rows day = (first_of (codes "DAY") rows ≡ Some (decimal day)) × IsDayNumber day
 
--- The option `--in` has this language's code. `None` means that it isn't used.
+-- The value of the option `--in` is the code of this language. `None` means that the option isn't used.
 abbrev pub HasLanguage : List Row → Option Language → Type 0
 HasLanguage rows language = first_of (codes "in") rows ≡ option_map language_code language
 
@@ -185,12 +185,12 @@ pub record IsTaskWith (said : List ℕ × List Row) (machine_file key_sheet : Li
   pub sheet : first_of (codes "SHEET") said.1 ≡ Some key_sheet
   pub task : IsTaskOf said its_task
 
--- The arguments in `rows` ask for tables in this form. With the option `--csv` it is CSV; without it, a page.
+-- The arguments in `rows` ask for tables in this form: with the option `--csv` as CSV, without the option as a page.
 abbrev pub HasForm : List Row → TableForm → Type 0
 HasForm rows forms.Csv = first_of (codes "csv") rows ≡ Some (codes "true")
 HasForm rows forms.Page = first_of (codes "csv") rows ≢ Some (codes "true")
 
--- the name of the command for a kind of message; then the name of the command's argument for the message
+-- the name of the command for a kind of message; its argument for the message is named by `message_argument`
 abbrev pub message_name : MessageKind → List ℕ
 message_name kinds.Order = codes "send"
 message_name kinds.Form = codes "receive"
@@ -248,14 +248,14 @@ pub record IsSheetOf (said : List ℕ × List Row) (its_table : List ℕ) (its_o
   pub table : first_of (codes "TABLE") said.1 ≡ Some its_table
   pub options : its_options ≡ option_texts said.1
 
--- The words are the name of this model and this number of days, from 1 to 31.
+-- The two words are the name of this model, and this number of days, which is from 1 to 31.
 pub record IsMonthNamed (model_word days_word : List ℕ) (model : Model) (days : ℕ) : Type 0 where
   pub named : model_text model ≡ model_word
   pub numbered : decimal days ≡ days_word
   pub within : IsDayNumber days
 
--- `said` means the command `sheet --empty`, with this model and this number of days. Other options of `sheet` aren't
--- used.
+-- `said` means the command `sheet --empty`, with this model and this number of days. The options for blank cells aren't
+-- used, or are empty.
 pub record IsEmptySheetOf (said : List ℕ × List Row) (model : Model) (days : ℕ) : Type 0 where
   pub name : said.0 ≡ codes "sheet"
   pub model_word : List ℕ
@@ -265,14 +265,14 @@ pub record IsEmptySheetOf (said : List ℕ × List Row) (model : Model) (days : 
   pub month : IsMonthNamed model_word days_word model days
   pub alone : are_blank (option_texts said.1) ≡ true
 
--- They mean the command `look`, with these files.
+-- `said` means the command `look`, with these files.
 pub record IsLookOf (said : List ℕ × List Row) (files : UpToThree (List ℕ)) : Type 0 where
   pub name : said.0 ≡ codes "look"
   pub first : first_of (codes "FILE") said.1 ≡ Some files.first
   pub second : first_of (codes "FILE2") said.1 ≡ files.second
   pub third : first_of (codes "FILE3") said.1 ≡ files.third
 
--- `said` means the command `command`. `said` has the command's name, and the values of its arguments.
+-- `said` means the command `command`. `said` has the command's name, and the values of the command's arguments.
 abbrev pub IsCommandOf : List ℕ × List Row → NamedCommand → Type 0
 IsCommandOf said (commands.OnMachine machine sheet task) = IsTaskWith said machine sheet task
 IsCommandOf said (commands.Message machine sheet message task) = IsMessageOf said machine sheet message task
@@ -282,7 +282,7 @@ IsCommandOf said (commands.Sheet table options) = IsSheetOf said table options
 IsCommandOf said (commands.Look files) = IsLookOf said files
 IsCommandOf said (commands.EmptySheet model days) = IsEmptySheetOf said model days
 
--- There is a command `said`, and it means `command`.
+-- `said` has a command, which means `command`.
 abbrev pub IsMeant : Option (List ℕ × List Row) → NamedCommand → Type 0
 IsMeant said command = IsSomeAnd said (λ x. IsCommandOf x command)
 
@@ -295,7 +295,7 @@ pub record IsCommandLineOf (words : List (List ℕ)) (command : NamedCommand) : 
 abbrev pub output_said : Option (List ℕ × List Row) → Option (List ℕ)
 output_said said = option_and_then (λ x. first_of (codes "output") x.1) said
 
--- the name of the output file in the command line `words`; `None` if there is none
+-- the name of the output file in the command line `words`; `None` if the words don't name an output file
 abbrev pub output_of : List (List ℕ) → Option (List ℕ)
 output_of words = output_said (subcommand_of curator_grammar words)
 
@@ -316,12 +316,12 @@ is_help DisplayHelp = true
 is_help DisplayVersion = true
 is_help _ = false
 
--- The words ask for help, or for the version.
+-- The words ask for help, or for the version, and have no other fault.
 abbrev pub AsksForHelp : List (List ℕ) → Type 0
 AsksForHelp words = (kind : ErrorKind) × (fault_of curator_grammar words ≡ kind ∷ []) × IsTrue (is_help kind)
 
--- Why there is no command. `Asked` means that a word asks for help or for the version. `Usage` means that the words
--- don't mean a command.
+-- Why there is no command. `Asked`: a word asks for help or for the version. `Usage`: the words don't mean a command.
+-- `NoMemory`: memory ran out.
 abbrev pub HasNoCommand : List (List ℕ) → NoCommand → Type 0
 HasNoCommand words (Asked text) =
     (kind : ErrorKind) × IsAmong kind (fault_of curator_grammar words) × IsTrue (is_help kind)
@@ -349,7 +349,7 @@ shape_of words = record (new_shape words.name.now) { rules = map rule_of_argumen
 abbrev pub with_commands : App → List CommandWords → App
 with_commands app commands = fold (λ a words. with_subcommand a (shape_of words)) app commands
 
--- `grammar` is the grammar of the command `shape`, without global arguments.
+-- `grammar` is the grammar of the command `shape`, and has no global arguments.
 pub record IsMadeOf (grammar : Grammar) (shape : Shape) : Type 0 where
   pub made : app_of grammar ≡ record { top = shape; subs = [] }
   pub local : (out-Command grammar).has_globals ≡ false
@@ -360,13 +360,14 @@ pub record IsMessageTask (rows : List Row) (kind : MessageKind) (task : MessageT
   pub day : HasDay rows task.day
   pub language : HasLanguage rows task.language
 
--- If `clap` returns an error of this kind, this is why there is no command.
+-- If `clap` returns an error of this kind, this may be the reason why there is no command.
 abbrev pub IsToldAs : ErrorKind → NoCommand → Type 0
 IsToldAs kind (Asked text) = IsTrue (is_help kind)
 IsToldAs kind (Usage text) = (is_help kind ≡ false) × (kind ≢ OutOfMemory)
 IsToldAs kind NoMemory = Unit {0}
 
--- The option `--csv` with the value `word` asks for tables in this form. The value `true` asks for CSV.
+-- The option `--csv` with the value `word` asks for tables in this form. The value `true` asks for CSV, any other value
+-- for a page.
 abbrev pub IsFormNamed : List ℕ → TableForm → Type 0
 IsFormNamed word forms.Csv = word ≡ codes "true"
 IsFormNamed word forms.Page = word ≢ codes "true"

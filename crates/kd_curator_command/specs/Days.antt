@@ -47,14 +47,14 @@ abbrev pub has_twice : List ℕ → Bool
 has_twice [] = false
 has_twice (day ∷ days) = list_any (λ other. other == day) days || has_twice days
 
--- The word names these days, in this order. There are at most 31 of them, and none comes twice.
+-- The word names these days, in this order. There are at most 31 days, and no day comes twice.
 pub record AreDays (word : List ℕ) (days : List ℕ) : Type 0 where
   pub named : days_named word ≡ Some days
   pub few : length days ≤ 31
   pub once : has_twice days ≡ false
 
--- Adding the days `more` to `old` gives `new`. `None` is returned if `more` are `None`, or if there would be more than
--- 31 days.
+-- Adding the days `more` to the days `old` gives the days `new`. Adding returns `None` if `more` is `None`, or if there
+-- would be more than 31 days.
 abbrev pub AddsDays : Option (List ℕ) → List ℕ → List ℕ → Option (Unit {0}) → Type 0
 AddsDays more old new (Some done) = (option_map (λ days. old ++ days) more ≡ Some new) × (length new ≤ 31)
 AddsDays more old new None = IfSome more (λ days. 31 < length (old ++ days))

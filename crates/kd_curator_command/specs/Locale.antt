@@ -1,11 +1,12 @@
--- The language to which a computer is set.
+-- The language that is set on a computer.
 -- Test: tests/page-refusals
 use Rattle.std.specs.Prelude.{codes, ℕ, nat_eq, List, if◌then◌else◌}
 use Rattle.std.specs.List.{starts_with}
 use Rattle.kd_pictures.specs.declared.language.Language.{Language}
 use Rattle.kd_pictures.specs.declared.language.Language.TheVariants.{English, German}
 
--- The language for a locale, for example `de_DE.UTF-8`. It is German if the locale begins with `de`, otherwise English.
+-- The language for a locale, for example `de_DE.UTF-8`. If the locale begins with `de`, the language is German,
+-- otherwise English.
 unfoldable pub language_of : List ℕ → Language
 language_of locale = if starts_with nat_eq locale (codes "de") then German else English
 

@@ -1,4 +1,4 @@
--- One thing, two or three, in their order.
+-- One, two or three things of a kind, in order.
 use Rattle.std.specs.Prelude.{ℕ, List, [], ◌∷◌, ◌++◌, Option, Some, None, option_map}
 use Rattle.std.specs.Borrow.{Bor}
 use Rattle.kd_curator_command.specs.declared.up_to_three.UpToThree.{UpToThree}

@@ -23,11 +23,11 @@ use kd_tables::Model;
 use std::alloc::{AllocError, Global};
 use std::convert::AsStr;
 
-/// The error for a wrong use of `sheet --empty`.
+/// The error for a wrong number of days, a wrong model or a needless option of `sheet --empty`.
 const NO_MONTH: &str =
     "--empty needs Enigma I, M3, M4 or M-209, then a number of days from 1 to 31, and no other option but -o";
 
-/// The hint for the name of a model that was typed without quotes.
+/// The hint that a model's name with a space has to be typed in quotes.
 const IN_QUOTES: &str = "Write \"Enigma I\" in quotes.\n";
 
 /// The error for an argument DAY that isn't the number of a day.
@@ -39,16 +39,16 @@ const NO_LANGUAGE: &str = "--in takes de or en";
 /// The error for an argument DAYS that doesn't name days.
 const NO_DAYS: &str = "days are numbers from 1 to 31, each once, such as 2, 1-31 or 1,4,2";
 
-/// A command, with the names of its files and the texts of its options.
+/// A command, with the names of its files and the texts of its options. `T` is the type of these names and texts.
 #[derive(Drop)]
 pub enum Command<T> {
-    /// Writes how a machine is set to days of a key sheet.
+    /// Writes how to set a machine to days of a key sheet.
     OnMachine {
         /// The machine file.
         machine: T,
         /// The key sheet.
         sheet: T,
-        /// What is written.
+        /// What to write: pages, or a list of settings.
         task: Task,
     },
     /// Writes how to encipher or decipher a message by hand.
@@ -59,21 +59,21 @@ pub enum Command<T> {
         sheet: T,
         /// The order or the form.
         message: T,
-        /// What is written.
+        /// The kind of the message, its day, and the language of the page.
         task: MessageTask,
     },
     /// Writes a page with which to type on a machine.
     TypingPage {
         /// The machine file.
         machine: T,
-        /// The language of the page, if the words say it.
+        /// The language of the page; `None` if the words name none.
         language: Option<Language>,
     },
     /// Writes a key sheet as printed tables.
     Table {
         /// The key sheet.
         sheet: T,
-        /// The form in which it is written.
+        /// The form of the tables.
         form: TableForm,
         /// The language of the tables; `None` if the words name none.
         language: Option<Language>,
@@ -82,7 +82,7 @@ pub enum Command<T> {
     Sheet {
         /// The table.
         table: T,
-        /// What is used where the table says nothing.
+        /// The texts for cells that are blank or missing in the table.
         options: TableOptions<T>,
     },
     /// Describes machine files and key sheets in words, or names their faults.
@@ -107,7 +107,7 @@ pub enum Task {
         /// The language of the pages; `None` if the words name none.
         language: Option<Language>,
     },
-    /// A list of the settings on this day's page, for `desk apply`.
+    /// A list of the settings on the page of the day with this number, for `desk apply`.
     List(u8),
 }
 
@@ -115,7 +115,7 @@ pub enum Task {
 #[derive(Clone, Copy)]
 pub struct MessageTask {
     pub kind: MessageKind,
-    /// The day of the key sheet, whose key is used.
+    /// The day of the key sheet whose key is used.
     pub day: u8,
     /// The language of the page; `None` if the words name none.
     pub language: Option<Language>,
@@ -130,7 +130,7 @@ pub enum MessageKind {
     Form,
 }
 
-/// A command with borrowed texts.
+/// A command whose names and texts are borrowed from the command line.
 pub type NamedCommand<'a> = Command<&'a str>;
 
 /// A command, and the file for its output.
@@ -201,7 +201,7 @@ fn output_said<'a>(matches: &ArgMatches<'a>) -> Option<&'a str>
     words.get_str("output")
 }
 
-/// Why words don't mean a command, though clap accepts them.
+/// Why words don't mean a command, though `clap` accepts them. The answer is the text of an error.
 fn why_not(matches: &ArgMatches<'_>) -> &'static str {
     match matches.subcommand() {
         Some(("sheet", _)) => NO_MONTH,
@@ -212,8 +212,7 @@ fn why_not(matches: &ArgMatches<'_>) -> &'static str {
     }
 }
 
-/// The error for words that clap accepts. One of the words doesn't name days, a model or a language. `why` is the text
-/// of the error.
+/// The error for words that `clap` accepts, but that don't mean a command. `why` is the text of the error.
 fn no_days(alloc: Global, grammar: &mut Grammar<'_>, why: &str) -> NoCommand
     ensures { IsToldAs ErrorKind.InvalidValue result }
 {
@@ -223,7 +222,7 @@ fn no_days(alloc: Global, grammar: &mut Grammar<'_>, why: &str) -> NoCommand
     }
 }
 
-/// The hint for the name of a model that was typed without quotes; empty if none was.
+/// The hint to type a model's name in quotes, if `Enigma` and `I` are two words; otherwise empty.
 fn quotes_hint<S: AsStr>(words: &[S]) -> &'static str {
     let mut is_begun = false;
     for word in words {
@@ -236,7 +235,7 @@ fn quotes_hint<S: AsStr>(words: &[S]) -> &'static str {
     ""
 }
 
-/// The reason why there is no command: clap's error, and `hint` after it.
+/// The reason why there is no command: the text of `clap`'s error, then `hint`.
 fn no_command(alloc: Global, error: &Error, hint: &str) -> NoCommand
     ensures { IsToldAs (kind_of error.now) result }
 {
@@ -363,7 +362,7 @@ fn table_of<'a>(words: &ArgMatches<'a>) -> Option<NamedCommand<'a>>
     })
 }
 
-/// The form of tables for which the option `--csv` in `words` asks.
+/// The form of tables: CSV if `words` have the option `--csv`, otherwise a page.
 fn form_of(words: &ArgMatches<'_>) -> TableForm
     ensures { HasForm (rows_of (found_of words.now)) result }
 {
@@ -373,7 +372,7 @@ fn form_of(words: &ArgMatches<'_>) -> TableForm
     }
 }
 
-/// The form of tables if the option `--csv` has the value `word`. The value is `true` if the option is used.
+/// The form of tables if the option `--csv` has the value `word`. When the option is used, its value is `true`.
 fn form_named(word: &str) -> TableForm
     ensures { IsFormNamed word.now result }
 {
@@ -403,7 +402,7 @@ fn look_of<'a>(words: &ArgMatches<'a>) -> Option<NamedCommand<'a>>
     })
 }
 
-/// The command `sheet` with the arguments in `words`. `None` if it has `--empty`, and other arguments don't fit.
+/// The command `sheet` with the arguments in `words`. `None` if `--empty` is used, and the other arguments don't fit.
 fn sheet_of<'a>(words: &ArgMatches<'a>) -> Option<NamedCommand<'a>>
     ensures said { IfSome result (λ command.
         IsCommandOf (codes "sheet", rows_of (found_of words.now)) (unborrowed_command command)) }
@@ -432,7 +431,7 @@ fn options_of<'a>(words: &ArgMatches<'a>) -> TableOptions<&'a str>
     }
 }
 
-/// The value of the option `name`; empty if it isn't used.
+/// The value of the option `name`; empty if the option isn't used.
 fn option_text<'a>(words: &ArgMatches<'a>, name: &str) -> &'a str
     ensures { result.now ≡ option_text name.now (rows_of (found_of words.now)) }
 {
@@ -446,7 +445,7 @@ fn are_blank(options: &TableOptions<&str>) -> bool
     options.model.is_empty() && options.reflector.is_empty() && options.window.is_empty()
 }
 
-/// The model and the number of days with these names. `None` if one of the two names is wrong.
+/// The model named `model`, and the number of days in `days`. `None` if one of the two words is wrong.
 fn month_named(model: &str, days: &str) -> Option<(Model, u8)>
     ensures said { IfSome result (λ month. IsMonthNamed model.now days.now month.0 month.1) }
     ensures none { result ≡ None → (month : Model × ℕ)
@@ -457,7 +456,8 @@ fn month_named(model: &str, days: &str) -> Option<(Model, u8)>
     Some((model, days))
 }
 
-/// The command named `name`, `page` or `list`, with the arguments in `words`. `None` if an argument has a wrong value.
+/// The command `name`, which is `page` or `list`, with the arguments in `words`. `None` if an argument has a wrong
+/// value.
 fn task_with_files<'a>(name: &str, words: &ArgMatches<'a>) -> Option<NamedCommand<'a>>
     requires table { name.now ≢ codes "table" }
     requires sheet { name.now ≢ codes "sheet" }
@@ -480,7 +480,7 @@ fn task_with_files<'a>(name: &str, words: &ArgMatches<'a>) -> Option<NamedComman
     })
 }
 
-/// The task of the command named `name`, `page` or `list`.
+/// The task of the command `name`, which is `page` or `list`. `None` if an argument has a wrong value.
 fn task_of(name: &str, words: &ArgMatches<'_>) -> Option<Task>
     ensures said { IfSome result (IsTaskOf (name.now, rows_of (found_of words.now))) }
     ensures none { result ≡ None → (task : Task)
@@ -518,7 +518,7 @@ fn list_of(words: &ArgMatches<'_>) -> Option<Task>
 #[derive(Clone, Copy)]
 struct WrongValue;
 
-/// The days in the argument DAYS. `None` if the argument isn't given.
+/// The days in the argument DAYS. `Ok(None)` if the argument isn't given.
 fn days_asked(words: &ArgMatches<'_>) -> Result<Option<Days>, WrongValue>
     ensures said { IfOk result (HasDays (rows_of (found_of words.now))) }
     ensures none { IsErr result → (days : Option (List ℕ))
@@ -543,7 +543,7 @@ fn day_asked(words: &ArgMatches<'_>) -> Option<u8>
     Some(day)
 }
 
-/// The language in the option `--in`. `None` if the option isn't used.
+/// The language in the option `--in`. `Ok(None)` if the option isn't used.
 fn language_asked(words: &ArgMatches<'_>) -> Result<Option<Language>, WrongValue>
     ensures said { IfOk result (HasLanguage (rows_of (found_of words.now))) }
     ensures none { IsErr result → (language : Option Language)

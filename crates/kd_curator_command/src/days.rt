@@ -64,7 +64,8 @@ impl Days {
     }
 }
 
-/// The days that `word` names, for example `2`, `1-31` or `1,4,2`. `None` if it names no days, or a day twice.
+/// The days that `word` names, for example `2`, `1-31` or `1,4,2`. `None` if `word` names no days, or names a day
+/// twice.
 pub fn days_of_word(word: &str) -> Option<Days>
     ensures { MatchOption result
         ((days : List ℕ) → ¬ (AreDays word.now days))

@@ -10,7 +10,7 @@ use std::alloc::{AllocError, Global};
 /// The version that `--version` shows.
 const VERSION: &str = "1.0";
 
-/// The sort of an argument: how it is given on the command line.
+/// The sort of an argument, which says how the argument is given on the command line.
 #[derive(Clone, Copy)]
 pub(crate) enum Sort<'a> {
     /// An argument that has to be given.

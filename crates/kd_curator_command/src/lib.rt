@@ -1,4 +1,4 @@
-//! The command line of the curator: its eight commands, and which of them the words mean.
+//! The command line of the curator: eight commands, and the command that a line's words mean.
 #![tactic(auto)]
 
 mod command;

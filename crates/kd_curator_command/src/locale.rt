@@ -1,11 +1,11 @@
-//! The language to which a computer is set.
+//! The language that is set on a computer.
 ghost use Rattle.std.specs.Prelude.{◌≡◌, ◌≢◌, IfSome};
 ghost use Rattle.kd_curator_command.specs.Locale.{language_code, language_of};
 
 use kd_pictures::Language;
 
-/// The language for a locale, which is the value of the environment variable `LANG`. It is German if the locale begins
-/// with `de`, otherwise English.
+/// The language for a locale, which is the value of the environment variable `LANG`. If the locale begins with `de`,
+/// the language is German, otherwise English.
 #[tactic(auto, unfolding(crate::specs::Locale::language_of))]
 pub fn language_of(locale: &str) -> Language
     ensures { result ≡ language_of locale.now }

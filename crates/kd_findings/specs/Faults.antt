@@ -32,11 +32,11 @@ use Rattle.kd_findings.specs.declared.place.Place.{Place}
 abbrev pub in_file : Key → Place
 in_file key = record { entry = None; day = None; key = key }
 
--- the place of another key, in the same entry or at the top of the same file
+-- the place of key `key`, in the same entry as `place` or at the top of the same file
 abbrev pub at_key : Place → Key → Place
 at_key place key = record place { key = key }
 
--- the list with this fault at this place; empty if there is no fault
+-- a list with the fault at the place; empty if there is no fault
 abbrev pub at_place : Place → Option SheetFault → List (Place × SheetFault)
 at_place place fault = option_to_list (option_map (λ one. (place, one)) fault)
 
@@ -44,7 +44,7 @@ at_place place fault = option_to_list (option_map (λ one. (place, one)) fault)
 abbrev pub fault_at : {A : Type 0} → Place → Result A SheetFault → List (Place × SheetFault)
 fault_at place reading = at_place place (result_err reading)
 
--- The fault of the model. If the model is read, the faults of the keys that this model needs.
+-- The fault of the model. If the model can be read, the faults of the keys that this model needs.
 abbrev pub after_model : Place → (Model → List (Place × SheetFault)) → Result Model SheetFault → List (Place × SheetFault)
 after_model place faults (Ok model) = faults model
 after_model place faults (Err fault) = (place, fault) ∷ []
@@ -71,7 +71,8 @@ model_file_faults table model = rotor_file_faults model table
 abbrev pub version_in : Members → Result ℕ SheetFault
 version_in table = read_at keys.Version (number_up_to 2) table
 
--- The model in a machine file. The file's version must have this model. If the version is refused, it may be any model.
+-- The model in a machine file. Files of the file's version have to allow this model; if the version can't be read, any
+-- model is allowed.
 unfoldable pub file_model : Members → Result Model SheetFault
 file_model table = do
   model ← model_in table
@@ -88,14 +89,14 @@ machine_faults table =
 abbrev pub faults_of : List Finding → List (Place × SheetFault)
 faults_of findings = map (λ finding. (finding.place, finding.fault)) findings
 
--- the first of the faults, without its place
+-- the first fault of the list, without its place
 abbrev pub first_fault : List (Place × SheetFault) → Option SheetFault
 first_fault faults = option_map (λ fault. fault.1) (slice_get faults 0)
 
 -- ---- What inner functions answer. No public contract cites this definition.
 
--- The number of the item that the words for a fault are about. It is the item in the slip of `checked`, if the slip has
--- this fault.
+-- The number of the item that is meant by the words for `fault`. If the slip in `checked` has this fault, it is the
+-- slip's item; otherwise `None`.
 abbrev pub told_item : SheetFault → Result (Unit {0}) Slip → Option ℕ
 told_item fault (Err (slips.Fault found item words)) = if (fault_eq.ghosts).eq found fault then item else None
 told_item fault checked = None

@@ -23,11 +23,11 @@ characters_to_feed (byte ∷ rest) = if byte == 10 then 0
 abbrev pub column_at : List ℕ → ℕ → ℕ
 column_at text index = characters_to_feed (reverse (take index text)) + 1
 
--- the words for a place: its line, its column, and `reason`, which says what is wrong there
+-- the words for a place: the line, the column, and `reason`, which says what is wrong at the place
 unfoldable pub place_words : ℕ → ℕ → List ℕ → List ℕ
 place_words line column reason = titled (codes ", line ") line ++ titled (codes ", column ") column ++ codes ": " ++ reason
 
--- The words are the line and the column of the byte at `start`, then a reason. The reason has no line end.
+-- The words are the line and the column of the byte at `start`, then a reason without a line end.
 pub record NamesPlace (text : List ℕ) (start : ℕ) (words : List ℕ) : Type 0 where
   pub reason : List ℕ
   pub plain : IsInOneLine reason

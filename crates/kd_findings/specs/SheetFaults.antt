@@ -1,6 +1,6 @@
--- The faults of a key sheet. The entries come in order, and the keys of each entry in the order of testing. If the desk
--- refuses the value of a key, the key has this fault. The desk stops at a sheet's first fault; here, the later entries
--- are judged, too.
+-- The faults of a key sheet. The entries come in the order of the file, and the keys of each entry in the order of
+-- testing. If the desk refuses the value of a key, the key has this fault. The desk stops at a sheet's first fault;
+-- here, the later entries are judged, too.
 -- Test: tests/cases/curator-look.toml
 use Rattle.std.specs.Prelude.{◌≡◌, ◌⊎◌, ℕ, ◌+◌, ◌≤◌, ◌==◌, Bool, false, not, List, [], ◌∷◌, ◌++◌, length, take}
 use Rattle.std.specs.Prelude.{Option, Some, None, Result, Ok, true, if◌then◌else◌}
@@ -28,7 +28,7 @@ use Rattle.kd_findings.specs.Faults.{after_model, at_key, fault_at, in_file, mac
 use Rattle.kd_findings.specs.Kind.{entries_of, is_given, is_machine_file}
 use Rattle.kd_findings.specs.declared.place.Place.{Place}
 
--- The place of a key in the entry `entry`, counted from 1. `day` is the entry's day, if it is known.
+-- The place of a key in entry `entry`. Entries are counted from 1. `day` is the entry's day, if it can be read.
 abbrev pub in_entry : ℕ → Option ℕ → Key → Place
 in_entry entry day key = record { entry = Some entry; day = day; key = key }
 
@@ -36,12 +36,12 @@ in_entry entry day key = record { entry = Some entry; day = day; key = key }
 abbrev pub number_in : Members → Result ℕ SheetFault
 number_in table = read_at keys.Day (number_up_to 31) table
 
--- whether the item is an entry with this day
+-- whether the item is an entry for this day
 abbrev pub has_number : ℕ → Data → Bool
 has_number number item =
     option_map_or (λ day. day == number) (option_and_then (λ table. result_ok (number_in table)) (as_table item)) false
 
--- The day of an entry, or its fault. If an earlier entry has the same day, that is a fault, too.
+-- The day of an entry, or the fault of this day. It is also a fault if an earlier entry has the same day.
 unfoldable pub new_day : List Data → Members → Result ℕ SheetFault
 new_day earlier table = do
   number ← number_in table
@@ -90,31 +90,31 @@ abbrev pub faults_after : List Data → List Data → List (Place × SheetFault)
 faults_after earlier [] = []
 faults_after earlier (item ∷ rest) = entry_faults earlier item ++ faults_after (earlier ++ item ∷ []) rest
 
--- The list has the faults of the first entries. If it has fewer than 300 faults, it has the faults of all entries. A
--- month of 31 days, with at most 8 keys each, has fewer.
+-- `faults` are the faults of the first `count` entries. If there are fewer than 300 faults, these are all entries. A
+-- month of 31 days, with at most 8 keys for each day, has fewer faults.
 pub record AreSheetFaults (items : List Data) (faults : List (Place × SheetFault)) : Type 0 where
   pub count : ℕ
   pub within : count ≤ length items
   pub are : faults ≡ faults_after [] (take count items)
   pub many : (count ≡ length items) ⊎ (300 ≤ length faults)
 
--- the fault of a document without the array `day` that should be a key sheet
+-- the fault of a document that isn't a machine file, and has no array `day`
 abbrev pub day_fault : Members → SheetFault
 day_fault document = if is_given keys.Day document then BadValue keys.Day else Missing keys.Day
 
--- The list has the faults of the document. The Bool says whether the document is a machine file. The items are the
--- items of its array `day`, if it has one.
+-- The list has the faults of the document. The first argument says whether the document is a machine file. The second
+-- argument has the items of the document's array `day`, if there is one.
 abbrev pub AreFaultsOf : Bool → Option (List Data) → Members → List (Place × SheetFault) → Type 0
 AreFaultsOf true entries document faults = faults ≡ machine_faults document
 AreFaultsOf false (Some items) document faults = AreSheetFaults items faults
 AreFaultsOf false None document faults = faults ≡ (in_file keys.Day, day_fault document) ∷ []
 
--- The list has the faults of the document. The document is a machine file, or a key sheet with entries, or it lacks the
--- array `day`.
+-- The list has the faults of the document. The document may be a machine file, a key sheet with entries, or another
+-- document without the array `day`.
 abbrev pub AreFaults : Members → List (Place × SheetFault) → Type 0
 AreFaults document faults = AreFaultsOf (is_machine_file document) (entries_of document) document faults
 
--- The first fault with which the desk refuses a file. If the document isn't a machine file, it is read as a key sheet.
+-- The first fault with which the desk refuses a file. A document that isn't a machine file is read as a key sheet.
 abbrev pub file_fault : List ℕ → Members → Option SheetFault
 file_fault bytes document =
     if is_machine_file document then result_err (machine_of bytes) else result_err (sheet_of bytes)

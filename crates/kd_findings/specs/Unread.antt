@@ -17,18 +17,19 @@ use Rattle.kd_findings.specs.Kind.{entries_of, is_machine_file}
 use Rattle.kd_findings.specs.SheetFaults.{number_in}
 use Rattle.kd_findings.specs.declared.unread.Unread.{Unread}
 
--- An unread key: its name, and the entry of the key sheet in which it stands, counted from 1. `entry` is `None` for a
--- key at the top of the file. `day` is the entry's day, if it is known.
+-- An unread key. `name` is the key's name. `entry` is the number of the key sheet's entry in which the key stands,
+-- counted from 1; it is `None` for a key at the top of the file. `day` is the entry's day, if it is known.
 pub record UnreadKey : Type 0 where
   pub entry : Option ℕ
   pub day : Option ℕ
   pub name : List ℕ
 
--- the keys of a rotor machine's file; then the keys of a Converter's file
+-- the keys of a rotor machine's file
 abbrev pub rotor_file_keys : List Key
 rotor_file_keys =
     keys.Version ∷ keys.Model ∷ keys.Reflector ∷ keys.Slots ∷ keys.Rings ∷ keys.Letters ∷ keys.Cables ∷ []
 
+-- the keys of a Converter's file
 abbrev pub pin_file_keys : List Key
 pin_file_keys = keys.Version ∷ keys.Model ∷ keys.Letters ∷ keys.Pins ∷ keys.Bars ∷ []
 
@@ -38,11 +39,12 @@ file_keys (Some M209) = pin_file_keys
 file_keys (Some model) = rotor_file_keys
 file_keys None = rotor_file_keys ++ pin_file_keys
 
--- the keys of a rotor machine's day; then the keys of a Converter's day
+-- the keys of a rotor machine's day
 abbrev pub rotor_day_keys : List Key
 rotor_day_keys =
     keys.Day ∷ keys.Model ∷ keys.Reflector ∷ keys.Wheels ∷ keys.Rings ∷ keys.Window ∷ keys.Plugs ∷ keys.Groups ∷ []
 
+-- the keys of a Converter's day
 abbrev pub pin_day_keys : List Key
 pin_day_keys = keys.Day ∷ keys.Model ∷ keys.Rows ∷ keys.Pins ∷ keys.Window ∷ keys.List ∷ []
 
@@ -61,7 +63,7 @@ abbrev pub names_in : Members → List (List ℕ)
 names_in no_members = []
 names_in (member name value rest) = name ∷ names_in rest
 
--- the keys of a table that aren't in `known`, each with the entry and the day of the table
+-- the keys of a table that aren't in `known`, each with the number and the day of the table's entry
 unfoldable pub unread_in : Option ℕ → Option ℕ → List Key → Members → List UnreadKey
 unread_in entry day known table = map (λ name. record { entry = entry; day = day; name = name })
     (filter (λ name. not (is_name_of known name)) (names_in table))
@@ -76,8 +78,9 @@ abbrev pub unread_in_entries : List Data → List UnreadKey
 unread_in_entries items = flat_map (λ number. option_map_or (unread_in_entry number) (numbered_item items number) [])
     (range_with_len 1 (length items))
 
--- The known keys of a document without the array `day`. In a machine file, these are the keys of its model. In other
--- documents, these are all keys, as a key sheet without its first `[[day]]` has a day's keys at the top.
+-- The known keys of a document without the array `day`. In a machine file, these are the keys of the file's model. In
+-- any other document, these are all keys: if a key sheet lacks its first line `[[day]]`, the keys of a day stand at the
+-- top.
 abbrev pub top_keys : Members → List Key
 top_keys document = if is_machine_file document then file_keys (result_ok (model_in document))
     else rotor_file_keys ++ pin_file_keys ++ rotor_day_keys ++ pin_day_keys
@@ -90,7 +93,7 @@ unread_keys document = option_map_or
 
 -- ---- What inner functions answer. No public contract cites these definitions.
 
--- the unread key that the code found, with its name as a list of bytes
+-- an unread key that the code found, with the key's name as a list of bytes
 abbrev pub unread_key : Unread → UnreadKey
 unread_key found = record { entry = found.entry; day = found.day; name = found.name.now }
 

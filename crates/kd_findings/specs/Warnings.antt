@@ -1,5 +1,5 @@
--- The warnings about a machine file or a key sheet. Each unread key has a line. Each cable whose letters the desk
--- writes in the other order has a line, too.
+-- The warnings about a machine file or a key sheet. There is a line for each unread key, and a line for each cable
+-- whose two letters the desk writes in the other order.
 -- Test: tests/cases/curator-look.toml
 use Rattle.std.specs.Prelude.{codes, ◌≡◌, ℕ, ◌++◌, ◌&&◌, nat_le, nat_lt, Bool, List, [], ◌∷◌, Option}
 use Rattle.std.specs.Prelude.{if◌then◌else◌}
@@ -27,7 +27,8 @@ unfoldable pub unread_line : List ℕ → UnreadKey → List ℕ → List ℕ
 unread_line name key advice =
     warning_start name key.day key.entry ++ codes "nobody reads the key " ++ shown_text key.name ++ advice ++ codes "\n"
 
--- The text is the warning about this unread key of the file `name`. Advice may follow, for example which key was meant.
+-- `text` is the warning about this unread key of the file `name`. The warning may end with advice, for example with the
+-- key that was meant.
 pub record TellsUnread (name : List ℕ) (key : UnreadKey) (text : List ℕ) : Type 0 where
   pub advice : List ℕ
   pub plain : IsInOneLine advice
@@ -37,7 +38,7 @@ pub record TellsUnread (name : List ℕ) (key : UnreadKey) (text : List ℕ) : T
 abbrev pub is_capital : ℕ → Bool
 is_capital byte = nat_le 65 byte && nat_le byte 90
 
--- the warning about a cable; empty unless the cable is two capital letters in falling order
+-- the warning about a cable; empty unless the cable has two capital letters in falling order
 unfoldable pub order_line : List ℕ → List ℕ → List ℕ
 order_line name (one ∷ other ∷ []) =
     if is_capital one && is_capital other && nat_lt other one
@@ -60,12 +61,13 @@ abbrev pub model_lines : List ℕ → Members → Model → List ℕ
 model_lines name document M209 = []
 model_lines name document model = cable_lines name document
 
--- The warnings about the cables of a document. Empty if it isn't a machine file, or its model isn't known.
+-- The warnings about the cables of a document. Empty if the document isn't a machine file, or the file's model isn't
+-- known.
 unfoldable pub order_lines : List ℕ → Members → List ℕ
 order_lines name document = if is_machine_file document
     then option_map_or (model_lines name document) (result_ok (model_in document)) [] else []
 
--- The text has exactly one warning for each unread key of the document. Then it has a warning for each cable whose
+-- `text` has exactly one warning for each unread key of the document. Then it has a warning for each cable whose two
 -- letters the desk writes in the other order.
 pub record AreWarnings (name : List ℕ) (document : Members) (text : List ℕ) : Type 0 where
   pub unread : List ℕ

@@ -1,4 +1,4 @@
-//! The words that say what is wrong with a value, after the number of its list item.
+//! The words that say what is wrong with a value. The number of the wrong list item stands before them.
 ghost use Rattle.std.specs.Prelude.{◌≡◌, ◌++◌, codes, IfOk};
 ghost use Rattle.std.specs.String.{string_bytes};
 ghost use Rattle.kd_findings.specs.Texts.{item_words};
@@ -7,7 +7,7 @@ use crate::findings::Explanation;
 use crate::texts::push_item;
 use std::alloc::{AllocError, Global};
 
-/// The words after a fault's key: the item's number, if it is known, and what is wrong.
+/// The words after a fault's key: the number of the wrong item, if it is known, and what is wrong.
 #[tactic(auto, using(std::proofs::Common::append_assoc))]
 pub fn wrong_words(alloc: Global, explanation: &Explanation) -> Result<String, AllocError>
     ensures { IfOk result (λ words. string_bytes words

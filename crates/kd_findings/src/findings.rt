@@ -1,4 +1,4 @@
-//! `Finding`: a fault of a file, with its place and words for it.
+//! `Finding`: a fault of a file, with the fault's place, and words that explain it.
 ghost use Rattle.std.specs.Prelude.{◌≡◌, ◌++◌, IfOk, OnOk, Some};
 ghost use Rattle.kd_findings.specs.Faults.{at_place, faults_of, told_item};
 
@@ -7,7 +7,7 @@ use kd_sheet::SheetFault;
 use kd_slips::slip::Slip;
 use std::alloc::{AllocError, Global};
 
-/// A fault, its place, and words for it.
+/// A fault, its place, and the words that explain it.
 #[derive(Drop)]
 pub struct Finding {
     pub fault: SheetFault,
@@ -19,13 +19,14 @@ pub struct Finding {
 /// What is wrong with a value.
 #[derive(Drop)]
 pub struct Explanation {
-    /// The number of the item with the fault, in the list at the key, counted from 1. `None` if the words are about the
-    /// whole value.
+    /// The number of the wrong item in the list at the key, counted from 1. `None` if the words are about the whole
+    /// value.
     pub item: Option<usize>,
     pub words: String,
 }
 
-/// The words for `fault` from `checked`. If `checked` has none, general words.
+/// The words that explain `fault`. They come from `checked`, if it has words for this fault; otherwise they are
+/// general.
 fn explain(
     alloc: Global,
     fault: SheetFault,
@@ -43,7 +44,7 @@ fn explain(
     }
 }
 
-/// Appends `fault` to `list`, with the words for it from `checked`.
+/// Appends `fault` to `list`, with the words that `checked` has for this fault.
 fn push_fault(
     list: &mut Vec<Finding>,
     alloc: Global,
@@ -63,8 +64,8 @@ fn push_fault(
     Ok(())
 }
 
-/// Appends the fault with which the desk refuses the value at `place`, if there is one. The words for it are from
-/// `checked`.
+/// Appends the fault with which the desk refuses the value at `place`, if there is one, with the words that `checked`
+/// has for this fault.
 pub fn note(
     list: &mut Vec<Finding>,
     alloc: Global,

@@ -32,7 +32,7 @@ pub fn items_at(table: &Table, key: Key) -> Option<&[Value]>
     Some(items.as_slice())
 }
 
-/// The entries of a key sheet, which are the items of the array `day`. `None` if the document has no such array.
+/// The entries of a key sheet: the items of the array `day`. `None` if the document has no such array.
 pub fn entries_of(document: &Table) -> Option<&[Value]>
     ensures { option_map (λ items. map view items.now) result ≡ entries_of (table_view document.now) }
 {
@@ -49,7 +49,7 @@ pub fn is_machine_file(document: &Table) -> bool
             || (find_at(document, Key::Model).is_some() && find_at(document, Key::Day).is_none()))
 }
 
-/// The fault of a document without the array `day` that should be a key sheet.
+/// The fault of a document that isn't a machine file, and has no array `day`.
 fn day_fault(document: &Table) -> SheetFault
     ensures { result ≡ day_fault (table_view document.now) }
 {
@@ -59,7 +59,7 @@ fn day_fault(document: &Table) -> SheetFault
     }
 }
 
-/// Explains why a document is refused that isn't a machine file, and has no array `day`.
+/// Explains the refusal of a document that isn't a machine file, and has no array `day`.
 fn check_day(alloc: Global, document: &Table) -> Result<(), Slip> {
     match find_at(document, Key::Day) {
         Some(value) => refuse(

@@ -1,11 +1,11 @@
-//! Names of unread keys, and the keys that may have been meant.
+//! The names of unread keys, and the known keys that these names may mean.
 ghost use Rattle.std.specs.Prelude.{◌≡◌};
 ghost use Rattle.kd_findings.specs.Unread.{is_name_of};
 
 use kd_sheet::Key;
 use kd_slips::near_names::is_near;
 
-/// Other names of keys: from other files, or in common use.
+/// Other names for keys, each with the key. Other files have these names, or they are in common use.
 const OTHER_NAMES: [(&str, Key); 12] = [
     ("plugs", Key::Cables),
     ("plugboard", Key::Cables),
@@ -28,7 +28,7 @@ pub fn is_known(keys: &[Key], name: &str) -> bool
     keys.iter().any(|key| key.name() == name)
 }
 
-/// The key of `keys` that is named `name` elsewhere.
+/// The key in `keys` that has `name` as another name.
 fn named_elsewhere(keys: &[Key], name: &str) -> Option<Key> {
     for (other, key) in &OTHER_NAMES {
         if *other == name && keys.contains(key) {
@@ -38,7 +38,7 @@ fn named_elsewhere(keys: &[Key], name: &str) -> Option<Key> {
     None
 }
 
-/// The key in `keys` whose name is nearly `name`. If there is none, the key for which `name` is another name.
+/// The key in `keys` whose name is nearly `name` or, if there is none, the key that has `name` as another name.
 pub fn meant_key(keys: &[Key], name: &str) -> Option<Key> {
     match keys
         .iter()

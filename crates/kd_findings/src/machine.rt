@@ -39,7 +39,7 @@ fn file_version(model: Model) -> u8
     }
 }
 
-/// Whether machine files of this version can have `model`. If there is no version, files of any version count.
+/// Whether machine files of this version can have `model`. Without a version, `model` may be any model.
 fn has_model(version: Option<u8>, model: Model) -> bool
     ensures { result ≡ option_map_or (nat_le (file_version model)) version true }
 {
@@ -61,7 +61,7 @@ fn file_model(table: &Table) -> Result<Model, SheetFault>
     Ok(model)
 }
 
-/// Explains why the model of a machine file is refused.
+/// Explains the refusal of a machine file's model.
 fn check_model(alloc: Global, table: &Table) -> Result<(), Slip> {
     model_at(alloc, table)?;
     refuse(
@@ -70,7 +70,7 @@ fn check_model(alloc: Global, table: &Table) -> Result<(), Slip> {
     )
 }
 
-/// The words that say for which wheels of the box a machine file has letters.
+/// The words that say which wheels of the box need letters in a machine file.
 fn each_wheel(model: Model) -> &'static str {
     match model {
         Model::EnigmaI => ", one for each of the wheels I to V",
@@ -155,8 +155,8 @@ fn judge_converter(list: &mut Vec<Finding>, alloc: Global, table: &Table) -> Res
     )
 }
 
-/// Appends the fault of a machine file's model. If the model is read, appends the faults at the keys that this model
-/// needs.
+/// Appends the fault of a machine file's model. If the model can be read, appends the faults at the keys that this
+/// model needs.
 fn judge_model(list: &mut Vec<Finding>, alloc: Global, table: &Table) -> Result<(), AllocError>
     ensures { OnOk result (faults_of list.new.items ≡ faults_of list.old.items
         ++ after_model (in_file keys.Model) (model_file_faults (table_view table.now))

@@ -1,4 +1,4 @@
-//! The words for a file that isn't TOML. They say the place, what the parser says, and the likely mistake.
+//! The words for a file that isn't TOML: the place of the fault, the parser's message, and the likely mistake.
 ghost use Rattle.std.specs.Prelude.{◌≡◌, ◌+◌, ◌==◌, count_by, reverse, IfOk, None};
 ghost use Rattle.std.specs.Result.{result_ok};
 ghost use Rattle.std.specs.String.{string_bytes};
@@ -11,7 +11,7 @@ use crate::texts::{first_line, push_titled};
 use std::alloc::{AllocError, Global};
 use toml::de::Error;
 
-/// A place in a text, counted from 1. A column counts characters.
+/// A place in a text. Lines and columns are counted from 1, columns in characters.
 #[derive(Clone, Copy)]
 struct TextPlace {
     line: usize,
@@ -43,13 +43,13 @@ fn place_after(before: &[u8]) -> TextPlace
     TextPlace { line, column }
 }
 
-/// The line of `bytes` with the number `line`, counted from 1, without its line end.
+/// Line `line` of `bytes`, without its line end. Lines are counted from 1.
 fn numbered_line(bytes: &[u8], line: usize) -> &[u8] {
     let mut lines = bytes.split(|byte| *byte == b'\n');
     lines.nth(line.saturating_sub(1)).unwrap_or(bytes)
 }
 
-/// Whether `line` has a character from U+2000 to U+203F, in UTF-8. Curly quotes are among them.
+/// Whether `line` has a character from U+2000 to U+203F, in UTF-8. These include the curly quotes.
 fn has_curly_quote(line: &[u8]) -> bool {
     line.windows(2).any(|pair| matches!(pair, [0xE2, 0x80]))
 }
@@ -64,7 +64,7 @@ fn has_leading_zero(line: &[u8]) -> bool {
     })
 }
 
-/// The likely mistake in `line`, in which the parser found the fault `message`.
+/// The likely mistake in `line`. The parser found a fault there; its message is `message`.
 fn hint(line: &[u8], message: &str) -> &'static str {
     let quotes = line.iter().filter(|byte| **byte == b'"').count();
     if message == "invalid UTF-8" {
@@ -98,7 +98,7 @@ fn message_words(bytes: &[u8]) -> Option<&'static str> {
     }
 }
 
-/// The words that say what is wrong in line `line`: what the parser says, and the likely mistake.
+/// The words for the fault in line `line`: the parser's message, and the likely mistake.
 fn reason_for(
     alloc: Global,
     bytes: &[u8],
@@ -112,7 +112,7 @@ fn reason_for(
     format!(in alloc; "this isn't TOML: {message}; {advice}")
 }
 
-/// The words for a place, which also say what is wrong there.
+/// The words for a place: its line, its column, and what is wrong there.
 #[tactic(auto, using(std::proofs::Common::append_assoc), unfolding(crate::specs::NotToml::place_words))]
 fn place_words(alloc: Global, place: TextPlace, reason: &str) -> Result<String, AllocError>
     ensures { IfOk result (λ words. string_bytes words
@@ -126,7 +126,7 @@ fn place_words(alloc: Global, place: TextPlace, reason: &str) -> Result<String, 
     Ok(words)
 }
 
-/// The words for the place of the parser's fault, which also say what is wrong there.
+/// The words for the place of the parser's fault: its line, its column, and what is wrong there.
 fn words_at(alloc: Global, bytes: &[u8], error: &Error) -> Result<String, AllocError>
     requires { IsWithin bytes.now error.now }
     ensures { IfOk result (λ words. NamesPlace bytes.now (span_start error.now) (string_bytes words)) }
@@ -139,7 +139,7 @@ fn words_at(alloc: Global, bytes: &[u8], error: &Error) -> Result<String, AllocE
     place_words(alloc, place, first_line(reason.as_str()))
 }
 
-/// The words for the place at which `bytes` stop being TOML, which also say what is wrong there.
+/// The words for the place at which `bytes` stop being TOML: its line, its column, and what is wrong there.
 pub fn toml_words(alloc: Global, bytes: &[u8]) -> Result<String, AllocError>
     requires { result_ok (document_of bytes.now) ≡ None }
     ensures { IfOk result (λ words. SaysNotToml bytes.now (string_bytes words)) }

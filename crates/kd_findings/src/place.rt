@@ -1,11 +1,11 @@
-//! `Place`: where in a file a value stands.
+//! `Place`: the place of a value in a file.
 ghost use Rattle.std.specs.Prelude.{◌≡◌};
 ghost use Rattle.kd_findings.specs.Faults.{at_key, in_file};
 ghost use Rattle.kd_findings.specs.SheetFaults.{in_entry};
 
 use kd_sheet::Key;
 
-/// Where in a file a value stands.
+/// The place of a value in a file.
 #[derive(Clone, Copy)]
 pub struct Place {
     /// The number of the entry in a key sheet, counted from 1. `None` in a machine file.
@@ -27,7 +27,7 @@ impl Place {
         }
     }
 
-    /// The place of `key` in the entry `entry` of a key sheet.
+    /// The place of `key` in entry `entry` of a key sheet.
     pub fn in_entry(entry: usize, day: Option<u8>, key: Key) -> Self
         ensures { result ≡ in_entry entry day key }
     {
@@ -38,7 +38,7 @@ impl Place {
         }
     }
 
-    /// The place of another key, in the same entry or at the top of the same file.
+    /// The place of `key`, in the same entry as this place or at the top of the same file.
     pub fn at(self, key: Key) -> Self
         ensures { result ≡ at_key self key }
     {

@@ -34,7 +34,7 @@ const DAYS: u8 = 31;
 /// The number of faults after which no later entry is judged.
 const MOST_FAULTS: usize = 300;
 
-/// Whether `item` is an entry with the day `number`.
+/// Whether `item` is an entry for the day `number`.
 fn has_number(item: &Value, number: u8) -> bool
     ensures { result ≡ has_number number (view item.now) }
 {
@@ -47,7 +47,7 @@ fn has_number(item: &Value, number: u8) -> bool
     }
 }
 
-/// Whether one of `items` is an entry with the day `number`.
+/// Whether one of `items` is an entry for the day `number`.
 fn have_number(items: &[Value], number: u8) -> bool
     ensures { result ≡ list_any (has_number number) (map view items.now) }
 {
@@ -69,7 +69,7 @@ fn new_day(earlier: &[Value], table: &Table) -> Result<u8, SheetFault>
     Ok(number)
 }
 
-/// The number of the first entry in `items` with the day `number`, counted from 1.
+/// The number of the first entry in `items` that is for the day `number`. Entries are counted from 1.
 fn entry_with(items: &[Value], number: u8) -> usize {
     let mut entry = 1usize;
     for item in items {
@@ -81,7 +81,7 @@ fn entry_with(items: &[Value], number: u8) -> usize {
     entry
 }
 
-/// Explains why the day of an entry is refused. `earlier` are the items before the entry.
+/// Explains the refusal of an entry's day. `earlier` are the items before the entry.
 fn check_day(alloc: Global, earlier: &[Value], table: &Table) -> Result<(), Slip> {
     check_number(alloc, table, Key::Day, DAYS)?;
     let Ok(day) = number_at(table, Key::Day, DAYS) else {
@@ -95,7 +95,7 @@ fn check_day(alloc: Global, earlier: &[Value], table: &Table) -> Result<(), Slip
     )
 }
 
-/// Appends the faults at the keys of a rotor machine's day from `reflector` to `window`.
+/// Appends the faults at the keys of a rotor machine's day, except `day` and `model`.
 fn judge_rotors(
     list: &mut Vec<Finding>,
     alloc: Global,
@@ -177,13 +177,14 @@ fn judge_converter(
     note(list, alloc, place.at(Key::List), letters, checked)
 }
 
-/// Explains why the model of an entry is refused.
+/// Explains the refusal of an entry's model.
 fn check_model(alloc: Global, table: &Table) -> Result<(), Slip> {
     model_at(alloc, table)?;
     Ok(())
 }
 
-/// Appends the fault of an entry's model. If the model is read, appends the faults at the keys that this model needs.
+/// Appends the fault of an entry's model. If the model can be read, appends the faults at the keys that this model
+/// needs.
 fn judge_model(
     list: &mut Vec<Finding>,
     alloc: Global,
@@ -206,7 +207,7 @@ fn judge_model(
     }
 }
 
-/// Appends the faults of the entry `table`. `earlier` are the items before it.
+/// Appends the faults of the entry `table`. `earlier` are the items before the entry.
 fn judge_table(
     list: &mut Vec<Finding>,
     alloc: Global,
@@ -223,7 +224,7 @@ fn judge_table(
     judge_model(list, alloc, table, place)
 }
 
-/// Explains why an item of the array `day` that isn't a table is refused.
+/// Explains the refusal of an item of the array `day` that isn't a table.
 fn refuse_entry(alloc: Global, item: &Value) -> Result<(), Slip> {
     refuse(
         SheetFault::BadValue(Key::Day),
@@ -234,7 +235,7 @@ fn refuse_entry(alloc: Global, item: &Value) -> Result<(), Slip> {
     )
 }
 
-/// Appends the faults of the entry `item`. `earlier` are the items before it.
+/// Appends the faults of the entry `item`. `earlier` are the items before the entry.
 fn judge_entry(
     list: &mut Vec<Finding>,
     alloc: Global,

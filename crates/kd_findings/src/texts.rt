@@ -6,7 +6,7 @@ ghost use Rattle.kd_findings.specs.Texts.{EndsAtFeed, IsInOneLine, entry_words, 
 use itoa::Buffer;
 use std::alloc::AllocError;
 
-/// `words` up to the first line feed.
+/// The part of `words` up to the first line feed.
 pub fn first_line(words: &str) -> &str
     ensures plain { IsInOneLine result.now }
     ensures first { EndsAtFeed words.now result.now }

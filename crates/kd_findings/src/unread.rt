@@ -126,7 +126,7 @@ pub struct Unread<'t> {
     pub meant: Meant,
 }
 
-/// What may have been meant by an unread key.
+/// The thing that may have been meant by an unread key.
 #[derive(Clone, Copy)]
 pub enum Meant {
     /// Another key.
@@ -137,7 +137,7 @@ pub enum Meant {
     Unknown,
 }
 
-/// What may have been meant by the key `name` with the value `value`. The keys of its table are `keys`.
+/// The thing that may have been meant by the key `name` with the value `value`. `keys` are the known keys of its table.
 fn meant_by(keys: &[Key], name: &str, value: &Value) -> Meant {
     if (value.is_table() || value.is_array()) && is_near(1, name.as_bytes(), b"day") {
         return Meant::Entries;

@@ -1,4 +1,4 @@
-//! Warnings about things that the desk accepts, though they may not have been meant.
+//! Warnings about things that the desk accepts, but that may not have been meant.
 ghost use Rattle.std.specs.Prelude.{◌≡◌, ◌++◌, IfOk, OnOk, map};
 ghost use Rattle.std.specs.List.{flat_map};
 ghost use Rattle.std.specs.String.{string_bytes};
@@ -100,7 +100,7 @@ fn is_capital(byte: u8) -> bool
     65 <= byte && byte <= 90
 }
 
-/// Appends the warning about a cable, if the desk writes its letters in the other order.
+/// Appends the warning about a cable, if the desk writes the cable's two letters in the other order.
 #[tactic(auto, using(std::proofs::Common::append_assoc), unfolding(crate::specs::Warnings::order_line))]
 fn push_order(lines: &mut String, name: &str, cable: &str) -> Result<(), AllocError>
     ensures { OnOk result (string_bytes lines.new
@@ -121,7 +121,8 @@ fn push_order(lines: &mut String, name: &str, cable: &str) -> Result<(), AllocEr
     }
 }
 
-/// Appends the warning about the cable `item`, if it is a text, and the desk writes its letters in the other order.
+/// Appends the warning about the cable `item`, if `item` is a text, and the desk writes its two letters in the other
+/// order.
 fn push_cable(lines: &mut String, name: &str, item: &Value) -> Result<(), AllocError>
     ensures { OnOk result (string_bytes lines.new
         ≡ string_bytes lines.old ++ cable_line name.now (view item.now)) }
@@ -171,8 +172,8 @@ fn push_orders(lines: &mut String, name: &str, document: &Table) -> Result<(), A
     }
 }
 
-/// The warnings about a document. Each unread key has a line. Each cable whose letters the desk writes in the other
-/// order has a line, too.
+/// The warnings about a document. There is a line for each unread key, and a line for each cable whose two letters the
+/// desk writes in the other order.
 pub fn warning_lines(alloc: Global, name: &str, document: &Table) -> Result<String, AllocError>
     ensures { IfOk result (λ lines. AreWarnings name.now (table_view document.now) (string_bytes lines)) }
 {

@@ -20,12 +20,12 @@ use Rattle.kd_key_table.specs.Words.{ground_text, group_text, name_text, pair_te
 
 -- ---- The row of a rotor machine's day. `has_lists` says whether the table has columns for key lists.
 
--- the day, the model and the reflector
+-- the cells of the day, the model and the reflector
 abbrev pub day_cells : RotorDay → List ℕ
 day_cells day =
     decimal day.day ++ texts.COMMA.now ++ model_text day.model ++ texts.COMMA.now ++ reflector_text day.reflector
 
--- the wheels, the rings, the cables, the ground setting and the groups
+-- the cells of the wheels, the rings, the cables, the ground setting and the groups
 abbrev pub key_cells : RotorDay → List ℕ
 key_cells day =
     texts.COMMA.now ++ words_text name_text day.wheels
@@ -70,7 +70,7 @@ day_line has_lists (Some (Pin values)) = pin_line values
 unfoldable pub has_lists : List (Option Day) → Bool
 has_lists month = list_any (has_day_of M209 month) DAYS
 
--- The names of the columns. The columns of key lists are there only if the month has a Converter's day.
+-- The names of the columns. The columns for key lists are there only if the month has a Converter's day.
 abbrev pub head_line : Bool → List ℕ
 head_line has_lists =
     texts.COLUMN_NAMES.now ++ (if has_lists then texts.LIST_COLUMN_NAMES.now else []) ++ texts.ROW_END.now

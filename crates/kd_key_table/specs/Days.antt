@@ -12,15 +12,15 @@ use Rattle.kd_key_table.specs.declared.days.TheConstants.{DAYS, LAST_DAY_FIRST}
 abbrev pub same_model : Model → Model → Bool
 same_model = (model_eq.ghosts).eq
 
--- whether the month has the day `number`, and this day is of the model
+-- whether the month has the day `number`, and this day is for the model
 unfoldable pub has_day_of : Model → List (Option Day) → ℕ → Bool
 has_day_of model month number = option_map_or (λ s. same_model (day_model s) model) (day_of month number) false
 
--- the month's days of the model, the last day first
+-- the numbers of the month's days for the model, in falling order
 abbrev pub days_of : Model → List (Option Day) → List ℕ
 days_of model month = filter (has_day_of model month) LAST_DAY_FIRST
 
--- The first of some days. `last` is the last of them, and the list has the other days in falling order.
+-- The first of some days. The list has these days in falling order, without the last day, which is `last`.
 abbrev pub first_of : ℕ → List ℕ → ℕ
 first_of last [] = last
 first_of last (day ∷ earlier) = first_of day earlier

@@ -1,4 +1,4 @@
--- The key list of a Converter's day, as the manual shows it. It has the lugs of the bars, the effective pins, and the
+-- The key list of a Converter's day, as the manual shows it: the lugs of the bars, the effective pins, and the
 -- 26-letter check. Words are in language `l`.
 -- Source: War Department TM 11-380.
 use Rattle.std.specs.Prelude.{decimal, ℕ, ◌+◌, nat_lt, Bool, if◌then◌else◌, List, [], ◌∷◌, ◌++◌, flat_map, replicate}
@@ -28,7 +28,7 @@ bar_head bar reading =
     filled (if nat_lt bar 10 then texts.BAR_BELOW_TEN.now else texts.BAR.now)
     (decimal bar ∷ decimal reading.0 ∷ decimal reading.1 ∷ [])
 
--- The cell with the pin's letter or, if the pin isn't effective, a hyphen. The cell is empty if the wheel has no pin at
+-- The cell of a pin: its letter or, if the pin isn't effective, a hyphen. The cell is empty if the wheel has no pin at
 -- this place.
 abbrev pub pin_shown : Option ℕ → Bool → List ℕ
 pin_shown None effective = texts.NO_PIN.now
@@ -49,7 +49,8 @@ bar_line pins numbered = bar_head (numbered.0 + 1) numbered.1 ++ pin_cells pins 
 
 -- ---- The key list.
 
--- The 26-letter check: 26 times A is enciphered with the day's pins and lugs, and with A on each wheel.
+-- The 26-letter check: the ciphertext of 26 times A, with the day's pins and lugs, and with A on each wheel at the
+-- start.
 unfoldable pub check_of : PinDay → List ℕ
 check_of day = sheet_cipher (Pin (record day { window = replicate 6 0 })) (replicate 26 0)
 

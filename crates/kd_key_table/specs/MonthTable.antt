@@ -20,7 +20,7 @@ use Rattle.kd_key_table.specs.Words.{ground_text, group_text, name_text, pair_te
 abbrev pub wheel_cell : SheetWheel → List ℕ
 wheel_cell wheel = filled texts.WHEEL.now (name_text wheel ∷ [])
 
--- whether the model's key sheets have numbers for rings, instead of letters
+-- whether the model's key sheets give rings as numbers, and not as letters
 abbrev pub has_numbered_rings : Model → Bool
 has_numbered_rings EnigmaI = true
 has_numbered_rings M3 = false
@@ -30,13 +30,13 @@ has_numbered_rings M209 = false
 abbrev pub ring_cell : Bool → SheetWheel → List ℕ
 ring_cell is_number wheel = filled texts.RING.now (ring_text is_number wheel ∷ [])
 
--- the day, the reflector, the wheels and their rings, from the left
+-- the cells of the day, the reflector, the wheels and their rings; wheels and rings stand in order from the left
 abbrev pub setting_cells : RotorDay → List ℕ
 setting_cells day =
     filled texts.ROW.now (decimal day.day ∷ reflector_text day.reflector ∷ []) ++ flat_map wheel_cell day.wheels
     ++ flat_map (ring_cell (has_numbered_rings day.model)) day.wheels
 
--- the cables, the ground setting with a letter for each wheel, and the groups
+-- the cells of the cables, the ground setting and the groups; the ground setting has a letter for each wheel
 abbrev pub word_cells : RotorDay → List ℕ
 word_cells day =
     texts.CELL.now ++ words_text pair_text day.pairs ++ texts.CELL.now ++ words_text ground_text day.wheels
@@ -45,7 +45,7 @@ word_cells day =
 unfoldable pub row_text : RotorDay → List ℕ
 row_text day = setting_cells day ++ word_cells day
 
--- the row of a rotor machine's day; empty for no day, or a Converter's
+-- the row of a rotor machine's day; empty if there is no day, or if it is a Converter's day
 abbrev pub row_of : Option Day → List ℕ
 row_of None = []
 row_of (Some (Rotor values)) = row_text values
@@ -66,7 +66,7 @@ month_head l model last earlier =
     filled (text_in l texts.MONTH) (model_name model ∷ []) ++ span_text l last earlier
     ++ filled (text_in l texts.COLUMNS) (slots ∷ slots ∷ slots ∷ slots ∷ [])
 
--- the table of the day `last` and of the days `earlier`, which are in falling order
+-- the table of the day `last` and of the days `earlier`, which stand in falling order
 unfoldable pub table_text : Language → Model → List (Option Day) → ℕ → List ℕ → List ℕ
 table_text l model month last earlier =
     month_head l model last earlier ++ flat_map (λ number. row_of (day_of month number)) (last ∷ earlier)
@@ -77,6 +77,6 @@ abbrev pub table_of_days : Language → Model → List (Option Day) → List ℕ
 table_of_days l model month [] = []
 table_of_days l model month (last ∷ earlier) = table_text l model month last earlier
 
--- the table of all days of the month that are of the model
+-- the table of all days that the month has for the model
 unfoldable pub month_table : Language → Model → List (Option Day) → List ℕ
 month_table l model month = table_of_days l model month (days_of model month)

@@ -1,4 +1,4 @@
--- What the tables fill into templates: words without markup, and as many values as each template takes.
+-- The values that tables fill into templates: they have no markup, and each template gets as many values as it takes.
 use Rattle.std.specs.Prelude.{ℕ, List, IsTrue}
 use Rattle.std.specs.List.{list_all}
 use Rattle.kd_tables.specs.Text.{letters_text}
@@ -6,7 +6,7 @@ use Rattle.kd_pictures.specs.Checked.{HasGaps, Takes}
 use Rattle.kd_pictures.specs.Plain.{is_plain}
 use Rattle.kd_key_table.specs.declared.texts.TheConstants as texts
 
--- Words of letters have no markup, whichever letters they are.
+-- Words that consist of letters have no markup, whichever letters these are.
 abbrev pub WordsArePlain : Type 0
 WordsArePlain = (letters : List ℕ) → IsTrue (list_all is_plain (letters_text letters))
 

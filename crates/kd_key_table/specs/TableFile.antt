@@ -16,7 +16,7 @@ use Rattle.kd_key_table.specs.Days.{has_days}
 use Rattle.kd_key_table.specs.KeyList.{key_list_of}
 use Rattle.kd_key_table.specs.MonthTable.{month_table}
 
--- the sentence for a month without days; empty if the month has days
+-- the sentence that there are no days; empty if the month has days
 abbrev pub no_days : Language → Bool → List ℕ
 no_days l has_days = if has_days then [] else text_in l NO_DAYS
 

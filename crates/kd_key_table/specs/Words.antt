@@ -6,7 +6,7 @@ use Rattle.kd_state.specs.declared.sheet_day.rotor_entry.SheetWheel.{SheetWheel}
 use Rattle.kd_pictures.specs.Template.{letter_text, ordinal_text}
 use Rattle.kd_key_table.specs.declared.texts.TheConstants.{NOTHING, SPACE}
 
--- a cable, as the letters of its two plugs
+-- a cable, as its two letters
 abbrev pub pair_text : ℕ × ℕ → List ℕ
 pair_text pair = letters_text (pair.0 ∷ pair.1 ∷ [])
 
@@ -26,7 +26,7 @@ ring_text is_number wheel = if is_number then ordinal_text wheel.ring else lette
 
 -- ---- Words in a cell.
 
--- a space, then the word
+-- a space, and the word after it
 abbrev pub spaced : {X : Type 0} → (X → List ℕ) → X → List ℕ
 spaced text word = SPACE.now ++ text word
 

@@ -42,7 +42,7 @@ fn has_lists(sheet: &Sheet) -> bool
     has_any_day_of(Model::M209, sheet, &DAYS)
 }
 
-/// Whether at least one of the days `numbers` is of the model.
+/// Whether at least one of the days `numbers` is for the model.
 fn has_any_day_of(model: Model, sheet: &Sheet, numbers: &[u8]) -> bool
     ensures { result ≡ list_any (has_day_of model sheet.now) numbers.now }
 {
@@ -103,7 +103,7 @@ fn draw_rotor_line<W: Sink>(sink: &mut W, has_lists: bool, entry: &RotorEntry)
     draw(sink, ROW_END);
 }
 
-/// Writes the day, the model and the reflector.
+/// Writes the cells of the day, the model and the reflector.
 fn draw_day_cells<W: Sink>(sink: &mut W, entry: &RotorEntry)
     ensures { Draws W.taken W.has_failed sink.old sink.new (day_cells (rotor_values entry.now)) }
 {
@@ -114,7 +114,7 @@ fn draw_day_cells<W: Sink>(sink: &mut W, entry: &RotorEntry)
     draw(sink, entry.reflector.text().as_str());
 }
 
-/// Writes the wheels, the rings, the cables, the ground setting and the groups.
+/// Writes the cells of the wheels, the rings, the cables, the ground setting and the groups.
 fn draw_key_cells<W: Sink>(sink: &mut W, entry: &RotorEntry)
     ensures { Draws W.taken W.has_failed sink.old sink.new (key_cells (rotor_values entry.now)) }
 {
@@ -163,7 +163,7 @@ fn draw_pin_line<W: Sink>(sink: &mut W, entry: &PinEntry)
     draw(sink, ROW_END);
 }
 
-/// Writes the letters of the effective pins of the six wheels.
+/// Writes the cells of the six wheels, each with the letters of its effective pins.
 fn draw_pins<W: Sink>(sink: &mut W, pins: &PinSet)
     ensures { Draws W.taken W.has_failed sink.old sink.new (effective_cells pins.now) }
 {

@@ -21,7 +21,7 @@ pub static LAST_DAY_FIRST: [u8; 31] = [
     7, 6, 5, 4, 3, 2, 1,
 ];
 
-/// The sheet's days of the model, in falling order.
+/// The numbers of the sheet's days for the model, in falling order.
 pub(crate) fn days_of(model: Model, sheet: &Sheet) -> ArrayVec<u8, 31>
     ensures { result.items ≡ days_of model sheet.now }
 {
@@ -52,7 +52,7 @@ fn add_if(days: &mut ArrayVec<u8, 31>, number: u8, is_wanted: bool)
     }
 }
 
-/// Whether the sheet has the day `number`, and this day is of the model.
+/// Whether the sheet has the day `number`, and this day is for the model.
 #[tactic(auto, unfolding(crate::specs::Days::has_day_of))]
 pub(crate) fn has_day_of(model: Model, sheet: &Sheet, number: u8) -> bool
     ensures { result ≡ has_day_of model sheet.now number }
@@ -63,7 +63,7 @@ pub(crate) fn has_day_of(model: Model, sheet: &Sheet, number: u8) -> bool
     }
 }
 
-/// The first of some days. `last` is the last of them, and `earlier` has the other days in falling order.
+/// The first of some days. `last` is the last of these days, and `earlier` has all others in falling order.
 pub(crate) fn first_of(last: u8, earlier: &[u8]) -> u8
     ensures { result ≡ first_of last earlier.now }
 {

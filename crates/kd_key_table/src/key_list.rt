@@ -21,7 +21,7 @@ use kd_sheet::Sheet;
 use kd_state::{Entry, PinEntry, SheetDay, own_engine};
 use kd_tables::{Letter, Model, Reading, Sink, ring1, ring2, ring3, ring4, ring5, ring6};
 
-/// Writes a key list for each day in `numbers` that is a Converter's.
+/// Writes a key list for each of the days `numbers` that is a Converter's day.
 pub(crate) fn draw_key_lists<W: Sink>(
     sink: &mut W,
     language: Language,
@@ -37,7 +37,7 @@ pub(crate) fn draw_key_lists<W: Sink>(
     }
 }
 
-/// Writes the key list of a Converter's day.
+/// Writes the key list of a Converter's day; nothing for another day, or for no day.
 fn draw_day<W: Sink>(sink: &mut W, language: Language, day: Option<&SheetDay>)
     ensures { Draws W.taken W.has_failed sink.old sink.new
         (key_list_of language (option_copied day.entry)) }
@@ -74,7 +74,7 @@ fn draw_list<W: Sink>(sink: &mut W, language: Language, entry: &PinEntry, check:
     draw(sink, KEY_LIST_END);
 }
 
-/// Writes the lines of the bars with the readings `rows`. `place` bars stand before them.
+/// Writes the lines of the bars with the readings `rows`. The first of these bars has the number `place + 1`.
 fn draw_lines<W: Sink>(sink: &mut W, language: Language, pins: &PinSet, place: u8, rows: &[Reading])
     requires { place + length rows.now ≤ 27 }
     ensures { Draws W.taken W.has_failed sink.old sink.new
@@ -146,7 +146,8 @@ fn draw_letter_cell<W: Sink>(sink: &mut W, language: Language, letter: Letter, e
     }
 }
 
-/// The 26-letter check: 26 times A is enciphered with the day's pins and lugs, and with A on each wheel.
+/// The 26-letter check: the ciphertext of 26 times A, with the day's pins and lugs, and with A on each wheel at the
+/// start.
 fn check_of(day: &SheetDay, entry: &PinEntry) -> [Letter; 26]
     requires { day.now ≡ Pin (pin_values entry.now) }
     ensures { result ≡ check_of (pin_values entry.now) }

@@ -5,9 +5,9 @@ ghost use Rattle.kd_key_table.specs.Plain.{TemplatesTakeTheirValues, WordsArePla
 ghost use Rattle.kd_key_table.specs.ReadAgain.{TablesAreReadBack};
 ghost use Rattle.kd_key_table.specs.declared.days.TheConstants.{DAYS, LAST_DAY_FIRST};
 
-/// The words that a table takes from a sheet consist of letters, and have no markup.
+/// The words that a table takes from a sheet consist of letters, so they have no markup.
 ///
-/// By the law `kd_pictures::laws::values_are_plain`, the values of templates have no markup, either.
+/// By the law `kd_pictures::laws::values_are_plain`, the values of templates don't have markup, either.
 #[tactic(auto, using(crate::proofs::PlainWords::words_are_plain))]
 pub fn words_are_plain()
     ensures { WordsArePlain }
@@ -18,9 +18,8 @@ pub fn templates_take_their_values()
     ensures { TemplatesTakeTheirValues }
 {}
 
-/// A month has the days 1 to 31.
-///
-/// The month tables on a page list them in falling order. CSV tables and key lists are in rising order.
+/// A month has the days 1 to 31. On a page, a month's table has its days in falling order. A CSV table has them in
+/// rising order, and key lists stand in rising order.
 pub fn days_are_a_months()
     ensures days { DAYS ≡ range_with_len 1 31 }
     ensures last_first { LAST_DAY_FIRST ≡ reverse (range_with_len 1 31) }

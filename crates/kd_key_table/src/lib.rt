@@ -1,4 +1,4 @@
-//! Key sheets as printed tables: one for each model of rotor machine, and a key list for each Converter's day.
+//! Key sheets as printed tables: a table for each model of rotor machine, and a key list for each day of a Converter.
 #![tactic(auto)]
 
 mod csv_table;

@@ -27,7 +27,7 @@ pub(crate) fn draw_month<W: Sink>(sink: &mut W, language: Language, model: Model
     draw_days(sink, language, model, sheet, days.as_slice());
 }
 
-/// Writes the table of the days `days`, which are in falling order.
+/// Writes the table of the days `days`, which stand in falling order.
 fn draw_days<W: Sink>(sink: &mut W, language: Language, model: Model, sheet: &Sheet, days: &[u8])
     ensures { Draws W.taken W.has_failed sink.old sink.new
         (table_of_days language model sheet.now days.now) }
@@ -39,7 +39,7 @@ fn draw_days<W: Sink>(sink: &mut W, language: Language, model: Model, sheet: &Sh
     }
 }
 
-/// Writes the table of the day `last` and of the days `earlier`, which are in falling order.
+/// Writes the table of the day `last` and of the days `earlier`, which stand in falling order.
 fn draw_table<W: Sink>(
     sink: &mut W,
     language: Language,
@@ -106,7 +106,7 @@ fn draw_rows<W: Sink>(sink: &mut W, language: Language, sheet: &Sheet, days: &[u
     }
 }
 
-/// Writes the row of a rotor machine's day.
+/// Writes the row of a rotor machine's day; nothing for a Converter's day, or for no day.
 fn draw_day<W: Sink>(sink: &mut W, language: Language, day: Option<&SheetDay>)
     ensures { Draws W.taken W.has_failed sink.old sink.new (row_of (option_copied day.entry)) }
 {
@@ -132,7 +132,7 @@ fn draw_row<W: Sink>(sink: &mut W, language: Language, entry: &RotorEntry)
     draw_word_cells(sink, entry);
 }
 
-/// Writes the day, the reflector, the wheels and their rings.
+/// Writes the cells of the day, the reflector, the wheels and their rings.
 fn draw_setting_cells<W: Sink>(sink: &mut W, language: Language, entry: &RotorEntry)
     ensures { Draws W.taken W.has_failed sink.old sink.new (setting_cells (rotor_values entry.now)) }
 {
@@ -148,7 +148,7 @@ fn draw_setting_cells<W: Sink>(sink: &mut W, language: Language, entry: &RotorEn
     draw_rings(sink, language, has_numbered_rings(entry.model), wheels);
 }
 
-/// Writes the cables, the ground setting and the groups.
+/// Writes the cells of the cables, the ground setting and the groups.
 fn draw_word_cells<W: Sink>(sink: &mut W, entry: &RotorEntry)
     ensures { Draws W.taken W.has_failed sink.old sink.new (word_cells (rotor_values entry.now)) }
 {
@@ -170,7 +170,7 @@ fn draw_wheels<W: Sink>(sink: &mut W, language: Language, wheels: &[SheetWheel])
     }
 }
 
-/// Whether the model's key sheets have numbers for rings, instead of letters.
+/// Whether the model's key sheets give rings as numbers, and not as letters.
 pub(crate) fn has_numbered_rings(model: Model) -> bool
     ensures { result ≡ has_numbered_rings model }
 {

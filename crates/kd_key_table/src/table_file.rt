@@ -25,10 +25,11 @@ pub enum TableForm {
     Csv,
 }
 
-/// Writes the tables of the key sheet `sheet` in this language. Allocates nothing.
+/// Writes the tables of the key sheet `sheet` in `form`. A page is in `language`. Allocates no memory.
 ///
-/// A page has a table for each rotor model, with the last day on top, and a key list for each day of a Converter. A
-/// table for a spreadsheet has a row for each day, from the first day on, and is the same in all languages.
+/// A page has a table for each model of rotor machine that has days; the last day comes first. It also has a key list
+/// for each day of a Converter. A CSV table has a row for each day; the first day comes first. A CSV table is the same
+/// in all languages.
 pub fn write_tables<W: Sink>(
     sink: &mut W,
     language: Language,
@@ -65,7 +66,7 @@ fn draw_page<W: Sink>(sink: &mut W, language: Language, sheet: &Sheet)
     draw(sink, FOOT);
 }
 
-/// Writes that the sheet has no days, if it has none.
+/// Writes that the sheet has no days. Writes nothing if it has some.
 fn draw_no_days<W: Sink>(sink: &mut W, language: Language, sheet: &Sheet)
     ensures { Draws W.taken W.has_failed sink.old sink.new (no_days language (has_days sheet.now)) }
 {

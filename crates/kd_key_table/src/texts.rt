@@ -15,7 +15,8 @@ pub const NO_DAYS: Text = (
     "<p>Die Schlüsseltafel hat keine Tage.</p>\n",
 );
 
-/// The head of a month's table. The value is the model. Then the words for one day, or for the first day and the last.
+/// The head of a month's table. The value is the model. Then the words for a table of one day, and the words for the
+/// first and the last day of a table.
 pub const MONTH: Text = (
     "<article class=sheet>\n<header>\n<h1>~: key table <small>",
     "<article class=sheet>\n<header>\n<h1>~: Schlüsseltafel <small>",
@@ -25,14 +26,14 @@ pub const ONE_DAY: Text = ("day ~", "Tag ~");
 
 pub const FIRST_TO_LAST: Text = ("days ~ to ~", "Tag ~ bis ~");
 
-/// The columns of a month's table. Wheels and rings have a column for each slot.
+/// The head of the columns of a month's table. Wheels and rings have a column for each slot.
 pub const COLUMNS: Text = (
     "</small></h1>\n<p class=fields><span>Network</span><span>Month</span><span>Copy</span></p>\n</header>\n<p class=note>After use, cut off the day at the bottom. A\u{a0}01, B\u{a0}02, C\u{a0}03, D\u{a0}04, E\u{a0}05, F\u{a0}06, G\u{a0}07, H\u{a0}08, I\u{a0}09, J\u{a0}10, K\u{a0}11, L\u{a0}12, M\u{a0}13, N\u{a0}14, O\u{a0}15, P\u{a0}16, Q\u{a0}17, R\u{a0}18, S\u{a0}19, T\u{a0}20, U\u{a0}21, V\u{a0}22, W\u{a0}23, X\u{a0}24, Y\u{a0}25, Z\u{a0}26.</p>\n<table class=month>\n<colgroup><colgroup><colgroup span=~><colgroup span=~><colgroup><colgroup><colgroup>\n<thead>\n<tr><th scope=col>Day<br><small lang=de>Tag</small><th scope=col>Reflector<br><small lang=de>Umkehrwalze</small><th scope=col colspan=~>Wheels<br><small lang=de>Walzenlage</small><th scope=col colspan=~>Rings<br><small lang=de>Ringstellung</small><th scope=col>Cables<br><small lang=de>Steckerverbindungen</small><th scope=col>Ground<br><small lang=de>Grundstellung</small><th scope=col>Groups<br><small lang=de>Kenngruppen</small>\n<tbody>\n",
     "</small></h1>\n<p class=fields><span>Schlüsselkreis</span><span>Monat</span><span>Prüfnummer</span></p>\n</header>\n<p class=note>Nach Gebrauch den untersten Tag abschneiden. A\u{a0}01, B\u{a0}02, C\u{a0}03, D\u{a0}04, E\u{a0}05, F\u{a0}06, G\u{a0}07, H\u{a0}08, I\u{a0}09, J\u{a0}10, K\u{a0}11, L\u{a0}12, M\u{a0}13, N\u{a0}14, O\u{a0}15, P\u{a0}16, Q\u{a0}17, R\u{a0}18, S\u{a0}19, T\u{a0}20, U\u{a0}21, V\u{a0}22, W\u{a0}23, X\u{a0}24, Y\u{a0}25, Z\u{a0}26.</p>\n<table class=month>\n<colgroup><colgroup><colgroup span=~><colgroup span=~><colgroup><colgroup><colgroup>\n<thead>\n<tr><th scope=col>Tag<th scope=col>Umkehrwalze<th scope=col colspan=~>Walzenlage<th scope=col colspan=~>Ringstellung<th scope=col>Steckerverbindungen<th scope=col>Grundstellung<th scope=col>Kenngruppen\n<tbody>\n",
 );
 
-/// The row of a day: its number and its reflector, a wheel, and a ring. Then the start of a cell for cables, ground
-/// setting or groups.
+/// The row of a day. Its start has the day's number and the reflector. Then the cell of a wheel, and the cell of a
+/// ring. Then the start of a cell for cables, ground setting or groups.
 pub const ROW: &str = "<tr><th scope=row>~<td>~";
 
 pub const WHEEL: &str = "<td>~";
@@ -68,14 +69,15 @@ pub const BAR_BELOW_TEN: &str = "<tr><th scope=row>0~<td>~-~";
 
 pub const BAR: &str = "<tr><th scope=row>~<td>~-~";
 
-/// The cell of a pin. It has the letter of an effective pin, or a hyphen, or nothing if the wheel has fewer pins.
+/// The cell of a pin: the letter of an effective pin, a hyphen for another pin, or nothing if the wheel has fewer pins.
 pub const EFFECTIVE: &str = "<td>~";
 
 pub const INEFFECTIVE: &str = "<td>-";
 
 pub const NO_PIN: &str = "<td>";
 
-/// The words before the 26-letter check. Then the words after it, up to the wheels' letters on this day.
+/// The words before the 26-letter check. Then the words after it, which end before the letters of the wheels on this
+/// day.
 pub const CHECK: Text = (
     "</table>\n<h2>26-letter check</h2>\n<pre><b>",
     "</table>\n<h2>26-Buchstaben-Probe</h2>\n<pre><b>",
@@ -93,12 +95,13 @@ pub const COLUMN_NAMES: &str = "day,model,reflector,wheels,rings,plugs,window,gr
 
 pub const LIST_COLUMN_NAMES: &str = ",list,pins 1,pins 2,pins 3,pins 4,pins 5,pins 6,bars";
 
-/// The end of a cell in a CSV table. Then the empty cells for a key list, in the row of a rotor machine's day.
+/// The end of a cell in a CSV table. Then the empty cells in the row of a rotor machine's day, where a Converter's day
+/// has its key list.
 pub const COMMA: &str = ",";
 
 pub const NO_LIST: &str = ",,,,,,,,";
 
-/// The cells of a Converter's day before its window letters: the model, and empty cells. Then the empty cell for
+/// The cells of a Converter's day before its window letters: the model, and empty cells. Then the empty cell for the
 /// groups.
 pub const PIN_MODEL: &str = ",M-209,,,,,";
 

@@ -9,7 +9,7 @@ use kd_pictures::template::{draw_letter, draw_letters, draw_ordinal};
 use kd_state::SheetWheel;
 use kd_tables::{Letter, Reading, Sink};
 
-/// A value that a cell shows as a word. `Kind` says as which word.
+/// A value that a cell shows as a word. `Kind` names the word, since a wheel has several.
 pub(crate) trait CellWord<Kind> {
     /// The word.
     ghost text: { Self → List ℕ };
@@ -18,19 +18,19 @@ pub(crate) trait CellWord<Kind> {
         ensures { Draws W.taken W.has_failed sink.old sink.new (text self.now) };
 }
 
-/// The whole value.
+/// The word is the whole value.
 pub(crate) struct Whole;
 
-/// The letter of a wheel in the ground setting.
+/// The word is the letter of a wheel in the ground setting.
 pub(crate) struct Ground;
 
-/// The name of a wheel.
+/// The word is the name of a wheel.
 pub(crate) struct Name;
 
-/// The ring of a wheel, as a letter.
+/// The word is the ring of a wheel, as a letter.
 pub(crate) struct RingLetter;
 
-/// The ring of a wheel, as a number.
+/// The word is the ring of a wheel, as a number.
 pub(crate) struct RingNumber;
 
 impl CellWord<Whole> for Letter {
@@ -43,7 +43,7 @@ impl CellWord<Whole> for Letter {
     }
 }
 
-/// A cable, as the letters of its two plugs.
+/// A cable, as its two letters.
 impl CellWord<Whole> for (Letter, Letter) {
     ghost use Rattle.kd_key_table.specs.Words.{pair_text};
 

@@ -30,14 +30,14 @@ fault_line name place line wrong fault =
     name ++ entry_words place.day place.entry ++ line_words line ++ codes ", " ++ key_name place.key ++ wrong
     ++ fault_end fault
 
--- The text is a line that names the fault and its place. The place is the day or the entry, the line of the file if it
--- is known, and the key.
+-- The text is a line that names the fault and its place: the day or the entry, the line of the file, if it is known,
+-- and the key.
 pub record IsLineAt (name : List ℕ) (place : Place) (line : Option ℕ) (fault : SheetFault) (text : List ℕ) : Type 0 where
   pub wrong : List ℕ
   pub plain : IsInOneLine wrong
   pub whole : text ≡ fault_line name place line wrong fault
 
--- The text is a line that names the fault, its place, and its line in the file.
+-- The text is a line that names the fault, the fault's place, and the fault's line in the file.
 abbrev pub IsFaultLine : List ℕ → List ℕ → Place → SheetFault → List ℕ → Type 0
 IsFaultLine name bytes place fault text = IsLineAt name place (line_of_fault bytes place fault) fault text
 
@@ -54,20 +54,21 @@ pub record NamesFaults (name bytes : List ℕ) (document : Members) (fault : She
   pub first : first_fault found ≡ Some fault
   pub lines : AreFaultLines name bytes found text
 
--- The text is the line for a file that isn't TOML. The line has the file's name, the place at which TOML ends, and the
+-- The text is the line about a file that isn't TOML. It has the file's name, the place at which TOML ends, and the
 -- fault.
 pub record IsPlainLine (name bytes : List ℕ) (fault : SheetFault) (text : List ℕ) : Type 0 where
   pub words : List ℕ
   pub place : SaysNotToml bytes words
   pub whole : text ≡ name ++ words ++ fault_end fault
 
--- The text has the lines for a file's faults. A document has a line for each fault. A file that isn't TOML has a single
--- line.
+-- The text has the lines about a file's faults: a line for each fault of a document, or a single line for a file that
+-- isn't TOML.
 abbrev pub AreLinesFor : List ℕ → List ℕ → Result Members SheetFault → SheetFault → List ℕ → Type 0
 AreLinesFor name bytes (Ok document) fault text = NamesFaults name bytes document fault text
 AreLinesFor name bytes (Err _) fault text = IsPlainLine name bytes fault text
 
--- The text has the lines for a file's faults, and then the warnings about its keys. `fault` is the first of the faults.
+-- The text has the lines about a file's faults, and then the warnings about the file's keys. `fault` is the first of
+-- the faults.
 pub record NamesFault (name bytes : List ℕ) (fault : SheetFault) (text : List ℕ) : Type 0 where
   pub lines : List ℕ
   pub warnings : List ℕ

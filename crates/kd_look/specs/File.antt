@@ -9,7 +9,7 @@ use Rattle.kd_look.specs.declared.file.File.{File}
 use Rattle.kd_look.specs.declared.file.File.TheVariants as files
 
 -- The machine or the key sheet in a file, or the file's first fault. A document that isn't a machine file is read as a
--- key sheet. If it has no array `day`, the fault is that `day` is missing, or isn't an array.
+-- key sheet. If such a document has no array `day`, the fault is that `day` is missing, or isn't an array.
 unfoldable pub file_of : List ℕ → Result File SheetFault
 file_of bytes = document_of bytes >>= (λ document.
     if is_machine_file document then machine_of bytes >>= (λ machine. Ok (files.Machine machine))

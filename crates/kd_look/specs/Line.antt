@@ -1,5 +1,5 @@
--- The line of a value in a file. It is the first line for which the file, up to the line's end, is a document with this
--- value. If the array `day` is missing, it is the line of the file's first key.
+-- The line of a value in a file: the first line for which the file, up to the line's end, is a document with this
+-- value. If the array `day` is missing, the line is the line of the file's first key.
 -- Code: the document is parsed up to the end of each line in turn, once for all faults.
 -- Test: tests/cases/curator-look.toml
 use Rattle.std.specs.Prelude.{ℕ, ◌+◌, ◌==◌, ◌||◌, ◌&&◌, nat_lt, Bool, true, false, List, find, length, take, count_by}
@@ -35,13 +35,13 @@ abbrev pub has_any_key : Members → Bool
 has_any_key no_members = false
 has_any_key (member name value rest) = true
 
--- Whether the document has what is looked for. This is an entry, a key of the document or of an entry, or any key.
+-- Whether the document has the thing that is looked for: an entry, a key of the document or of an entry, or any key.
 unfoldable pub has_value : Sought → Members → Bool
 has_value (soughts.Entry entry) document = is_some (table_at document (Some entry))
 has_value (soughts.Key entry key) document = option_map_or (is_given key) (table_at document entry) false
 has_value soughts.AnyKey document = has_any_key document
 
--- whether the text is a document that has what is looked for
+-- whether the text is a document with the thing that is looked for
 abbrev pub reads_value : Sought → List ℕ → Bool
 reads_value sought text = option_map_or (has_value sought) (result_ok (document_of text)) false
 
@@ -49,33 +49,34 @@ reads_value sought text = option_map_or (has_value sought) (result_ok (document_
 abbrev pub ends_line : List ℕ → ℕ → Bool
 ends_line text index = slice_index text index == 10 || index + 1 == length text
 
--- Whether a line ends after the byte at `index`. Moreover, the text up to there is a document that has what is looked
--- for.
+-- Whether a line ends after the byte at `index`, and the text up to this byte is a document with the thing that is
+-- looked for.
 unfoldable pub has_value_at : List ℕ → Sought → ℕ → Bool
 has_value_at text sought index = ends_line text index && reads_value sought (take (index + 1) text)
 
--- The number of the first line for which the text, up to the line's end, has what is looked for. The line ends before
--- `end`.
+-- The number of the first line for which the text, up to the line's end, is a document with the thing that is looked
+-- for. Only lines that end before place `end` count.
 abbrev pub line_before : List ℕ → ℕ → Sought → Option ℕ
 line_before text end sought = option_map (line_at text) (find (has_value_at text sought) (range_with_len 0 end))
 
--- Whether the text is too long to look for lines in it. It has more than 65,536 bytes, or more than 2,048 line ends.
+-- Whether the text has more than 65,536 bytes, or more than 2,048 line ends. No lines of faults are looked for in such
+-- a text.
 abbrev pub is_too_long : List ℕ → Bool
 is_too_long text = nat_lt 65536 (length text) || nat_lt 2048 (count_by (λ byte. byte == 10) text)
 
--- The number of the first line for which the text, up to the line's end, has what is looked for. `None` if there is no
--- such line, or the text is too long.
+-- The number of the first line for which the text, up to the line's end, is a document with the thing that is looked
+-- for. `None` if there is no such line, or the text is too long.
 abbrev pub line_number : List ℕ → Sought → Option ℕ
 line_number text sought = if is_too_long text then None else line_before text (length text) sought
 
--- What to look for if a key is missing. It is the entry that lacks the key. If the array `day` is missing, it is the
--- file's first key.
+-- The thing to look for if a key is missing: the entry that lacks the key or, if the array `day` is missing, the file's
+-- first key. `None` for another key at the top.
 abbrev pub sought_without : Option ℕ → Key → Option Sought
 sought_without (Some entry) key = Some (soughts.Entry entry)
 sought_without None keys.Day = Some soughts.AnyKey
 sought_without None key = None
 
--- what to look for in order to find the line of a fault
+-- the thing to look for, to find the line of a fault
 abbrev pub sought_for : Place → SheetFault → Option Sought
 sought_for place (Missing key) = sought_without place.entry key
 sought_for place fault = Some (soughts.Key place.entry place.key)
@@ -86,26 +87,26 @@ line_of_fault text place fault = option_and_then (line_number text) (sought_for 
 
 -- ---- Lines that are found one after another. No public contract cites these definitions.
 
--- the line of a finding, which is a fault and its place
+-- the line of a finding; a finding is a fault and its place
 abbrev pub line_of : List ℕ → Finding → Option ℕ
 line_of text finding = line_of_fault text finding.place finding.fault
 
--- the line of a finding, if it ends before `end`
+-- the line of a finding, if this line ends before place `end`
 unfoldable pub line_so_far : List ℕ → ℕ → Finding → Option ℕ
 line_so_far text end finding = option_and_then (line_before text end) (sought_for finding.place finding.fault)
 
--- the first line or, if it isn't known, the second
+-- the first line or, if it isn't known, the second line
 abbrev pub or_line : Option ℕ → Option ℕ → Option ℕ
 or_line (Some line) later = Some line
 or_line None later = later
 
--- `line`, if the document has what the finding looks for; otherwise `None`
+-- `line`, if the document has the thing to look for; otherwise `None`
 unfoldable pub line_in : Members → ℕ → Finding → Option ℕ
 line_in document line finding =
     option_and_then (λ sought. if has_value sought document then Some line else None)
     (sought_for finding.place finding.fault)
 
--- `line`, if the text is a document that has what the finding looks for; otherwise `None`
+-- `line`, if the text is a document with the thing to look for; otherwise `None`
 abbrev pub line_in_text : List ℕ → ℕ → Finding → Option ℕ
 line_in_text text line finding =
     option_and_then (λ document. line_in document line finding) (result_ok (document_of text))

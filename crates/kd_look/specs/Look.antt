@@ -1,4 +1,4 @@
--- The text that `look_at` writes, and its answer: the first fault of all files. The text has a report on each file.
+-- The report that `look_at` writes on files, and the answer of `look_at`: the first fault of all files.
 -- Test: tests/cases/curator-look.toml
 use Rattle.std.specs.Prelude.{◌≡◌, ◌⊎◌, ℕ, ◌++◌, List, [], ◌∷◌, map, Bool, false, true, Result, Err, OnErr, IfOk}
 use Rattle.std.specs.Result.{result_ok}
@@ -23,7 +23,7 @@ pub record NamedText : Type 0 where
 abbrev pub named_text : NamedFile → NamedText
 named_text file = record { name = file.name.now; bytes = file.bytes.now }
 
--- the first outcome or, if it is `Faultless`, the later outcome
+-- the first outcome or, if it is `Faultless`, `later`
 abbrev pub or_later : Outcome → Outcome → Outcome
 or_later outcomes.Faultless later = later
 or_later (outcomes.Faulty fault) later = outcomes.Faulty fault
@@ -38,23 +38,23 @@ abbrev pub AreReports : List NamedText → List ℕ → Type 0
 AreReports [] text = text ≡ []
 AreReports (file ∷ rest) text = BeginsWith (IsReport file.name file.bytes) (λ others. AreReports rest others) text
 
--- the file's name, and what the file says
+-- the file's name, and the file's content, if it has no fault
 abbrev pub known_text : NamedText → KnownFile
 known_text file = record { name = file.name; file = result_ok (file_of file.bytes) }
 
--- The text has a report on each of the files, and then the warnings on machines for which no sheet has a day.
+-- The text has a report on each file. Then come the warnings about machines for which no key sheet has a day.
 pub record IsWholeReport (files : List NamedText) (text : List ℕ) : Type 0 where
   pub reports : List ℕ
   pub made : AreReports files reports
   pub whole : text ≡ reports ++ missing_words (map known_text files)
 
--- whether the answer is the fault that the sink failed
+-- whether the answer is `Device`, the fault of a sink that failed
 abbrev pub is_device : Result Outcome LookFault → Bool
 is_device (Err Device) = true
 is_device _ = false
 
--- A report on the files was written. If the sink failed, only a prefix of it was. The answer is the outcome for all
--- files.
+-- A report on the files was written or, if the sink failed, only a prefix of the report. If the sink didn't fail, the
+-- answer is the outcome for all files.
 pub record WritesReport (files : List NamedText) (sink : Port) (answer : Result Outcome LookFault) : Type 0 where
   pub text : List ℕ
   pub made : IsWholeReport files text
@@ -62,6 +62,6 @@ pub record WritesReport (files : List NamedText) (sink : Port) (answer : Result 
   pub answered : IfOk answer (λ found. found ≡ outcome_of_all files)
   pub device : OnErr answer (answer ≡ Err Device)
 
--- Either a report on the files was written, or the answer is that memory ran out, which may always happen.
+-- A report on the files was written, or the answer is that memory ran out. This answer is allowed for all files.
 abbrev pub IsLookAnswer : List NamedText → Port → Result Outcome LookFault → Type 0
 IsLookAnswer files sink answer = WritesReport files sink answer ⊎ (answer ≡ Err NoMemory)

@@ -1,4 +1,4 @@
--- A machine in words. There is one line for each thing that a person compares with the real machine.
+-- A machine in words: one line for each thing that a person compares with the real machine.
 -- Test: tests/cases/curator-look.toml
 use Rattle.std.specs.Prelude.{codes, ℕ, ◌+◌, ◌++◌, false, List, [], ◌∷◌, Option, Some, None, decimal, if◌then◌else◌}
 use Rattle.std.specs.List.{flat_map, range_with_len}
@@ -22,7 +22,7 @@ label name number = name ++ codes " " ++ decimal number ++ codes ": "
 abbrev pub letter_words : Option ℕ → List ℕ
 letter_words letter = option_map_or (λ one. letters_text (one ∷ [])) letter []
 
--- a ring as a letter and as a number, where 01 is A
+-- a ring as a letter and as a number; A is 01
 unfoldable pub ring_words : Option ℕ → List ℕ
 ring_words ring = option_map_or
     (λ one. letters_text (one ∷ []) ++ codes " (" ++ two_digits (one + 1) ++ codes ")") ring []
@@ -68,7 +68,8 @@ unfoldable pub bar_words : Parts → ℕ → List ℕ
 bar_words machine bar = option_map_or (λ standing. label (codes "bar") bar ++ standing_text standing ++ codes "\n")
     (machine_standing machine bar) []
 
--- the line of a slot, cable, pin wheel or bar; empty if the machine has none with this number
+-- the line of a thing, which is a slot, cable, pin wheel or bar; empty if the machine doesn't have a thing with this
+-- number
 unfoldable pub thing_words : Parts → Thing → ℕ → List ℕ
 thing_words machine things.Slot number = slot_words machine number
 thing_words machine things.Cable number = cable_words machine number

@@ -1,4 +1,4 @@
--- Warnings on machines and key sheets together: a machine for which no sheet has a day.
+-- The warnings about machines for which no key sheet has a day.
 -- Test: tests/cases/curator-look.toml
 use Rattle.std.specs.Prelude.{codes, ℕ, ◌++◌, Bool, false, List, [], flat_map, Option, Some, None, if◌then◌else◌}
 use Rattle.std.specs.List.{list_any}
@@ -11,7 +11,7 @@ use Rattle.kd_look.specs.declared.file.File.{File}
 use Rattle.kd_look.specs.declared.file.File.TheVariants as files
 use Rattle.kd_look.specs.declared.missing_days.ReadFile.{ReadFile}
 
--- A file's name, and what the file says, if it has no fault.
+-- A file's name, and the file's content, if the file has no fault.
 pub record KnownFile : Type 0 where
   pub name : List ℕ
   pub file : Option File
@@ -21,7 +21,7 @@ model_in (Some (files.Machine machine)) = Some (model_of machine)
 model_in (Some (files.Sheet month)) = None
 model_in None = None
 
--- the model of a file that is a machine file
+-- the machine's model; `None` if the file isn't a machine file
 abbrev pub machine_model : KnownFile → Option Model
 machine_model read = model_in read.file
 
@@ -34,39 +34,40 @@ has_day_in model None = false
 abbrev pub serves : Model → KnownFile → Bool
 serves model read = has_day_in model read.file
 
--- the words on a key sheet; nothing for a file that is none
+-- `words`, if the file is a key sheet; otherwise nothing
 abbrev pub words_for : Option File → List ℕ → List ℕ
 words_for (Some (files.Sheet month)) words = words
 words_for (Some (files.Machine machine)) words = []
 words_for None words = []
 
--- the start of a line on the machine `name` and the key sheet `sheet`
+-- the start of a warning: the name of the machine file, and the name of the key sheet
 unfoldable pub no_day_start : List ℕ → List ℕ → List ℕ
 no_day_start name sheet = name ++ codes ": warning: " ++ sheet
 
--- the end of the line that the key sheet has no day for the machine, of which `model` is the model in words
+-- the end of a warning: the key sheet has no day for the machine; `model` is the machine's model in words
 unfoldable pub no_day_end : List ℕ → List ℕ
 no_day_end model = codes " has no day for " ++ model ++ codes "\n"
 
 abbrev pub no_day_words : List ℕ → List ℕ → List ℕ → List ℕ
 no_day_words name sheet model = no_day_start name sheet ++ no_day_end model
 
--- this line, if the file is a key sheet
+-- the warning that a key sheet has no day for the machine; empty if the file isn't a key sheet
 abbrev pub no_day_line : List ℕ → Model → KnownFile → List ℕ
 no_day_line name model sheet = words_for sheet.file (no_day_words name sheet.name (model_with_article model))
 
--- the lines on a file, if it is a machine file for which none of the files has a day: one for each key sheet
+-- The warnings about a machine file, one for each key sheet. Empty if some key sheet has a day for the machine, or if
+-- the file isn't a machine file.
 abbrev pub missing_lines : List KnownFile → KnownFile → List ℕ
 missing_lines all read = option_map_or
     (λ model. if list_any (serves model) all then [] else flat_map (no_day_line read.name model) all)
     (machine_model read) []
 
--- the lines on all files
+-- the warnings about all machine files
 abbrev pub missing_words : List KnownFile → List ℕ
 missing_words all = flat_map (missing_lines all) all
 
 -- ---- Files that were read. No public contract cites this definition.
 
--- a file that was read, with its borrowed name replaced by the name itself
+-- a file that was read, with a plain name in place of a borrowed name
 abbrev pub known_of : ReadFile → KnownFile
 known_of read = record { name = read.name.now; file = read.file }

@@ -22,7 +22,8 @@ unfoldable pub file_words : List ℕ → File → List ℕ
 file_words name (files.Machine machine) = name ++ codes ": a machine file without a fault\n" ++ machine_words machine
 file_words name (files.Sheet month) = name ++ codes ": a key sheet without a fault\n" ++ sheet_words month
 
--- The text has the words for what the file says, the warnings of its keys, and then the warnings of its days.
+-- The text has the words for the file's content, the warnings about the file's keys, and then the warnings about its
+-- days.
 pub record Describes (name bytes : List ℕ) (file : File) (text : List ℕ) : Type 0 where
   pub keys : List ℕ
   pub days : List ℕ
@@ -30,7 +31,8 @@ pub record Describes (name bytes : List ℕ) (file : File) (text : List ℕ) : T
   pub of_days : WarnsOfFile name file days
   pub whole : text ≡ file_words name file ++ (keys ++ days)
 
--- The text has the words for the file's content. If the file has faults, it has the lines that name them.
+-- If the file has no fault, the text has the words for the file's content. Otherwise the text has the lines that name
+-- the faults.
 abbrev pub SaysOrNames : List ℕ → List ℕ → Result File SheetFault → List ℕ → Type 0
 SaysOrNames name bytes (Ok file) text = Describes name bytes file text
 SaysOrNames name bytes (Err fault) text = NamesFault name bytes fault text

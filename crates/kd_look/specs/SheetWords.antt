@@ -1,4 +1,4 @@
--- A key sheet in words. It has lines for the days of each model, and for the days without groups. Successive days share
+-- A key sheet in words: lines for the days of each model, and lines for the days without groups. Successive days share
 -- a line.
 -- Test: tests/cases/curator-look.toml
 use Rattle.std.specs.Prelude.{codes, ℕ, ◌+◌, ◌-◌, ◌==◌, ◌++◌, Bool, false, List, [], length, Option, decimal}
@@ -14,8 +14,7 @@ use Rattle.kd_sheet.specs.Sheet.{day_of}
 use Rattle.kd_look.specs.declared.sheet_words.Sort.{Sort}
 use Rattle.kd_look.specs.declared.sheet_words.Sort.TheVariants as sorts
 
--- Whether the day is of this sort. One sort is the days for a model. The other is the days for rotor machines without
--- groups.
+-- Whether the day is of this sort. A sort has the days for a model, or the days for rotor machines that have no groups.
 abbrev pub is_of_sort : Sort → Day → Bool
 is_of_sort (sorts.Of model) day = (model_eq.ghosts).eq (day_model day) model
 is_of_sort sorts.WithoutGroups day = option_map_or (λ values. length values.groups == 0) (rotor_day day) false
@@ -24,21 +23,21 @@ is_of_sort sorts.WithoutGroups day = option_map_or (λ values. length values.gro
 unfoldable pub has_day : List (Option Day) → Sort → ℕ → Bool
 has_day month sort number = option_map_or (is_of_sort sort) (day_of month number) false
 
--- The words that the day `number` adds to the lines of its sort, which has the title `title`. `before` and `after` say
--- whether the days before and after it are of this sort, too.
+-- The words that the day `number` adds to the lines of its sort. These lines begin with `title`. `before` says whether
+-- the previous day is of this sort, `after` whether the next day is.
 unfoldable pub day_words : List ℕ → Bool → Bool → ℕ → List ℕ
 day_words title before after number =
     if before then (if after then [] else decimal number ++ codes "\n")
     else (if after then title ++ codes ": days " ++ decimal number ++ codes " to "
     else title ++ codes ": day " ++ decimal number ++ codes "\n")
 
--- the words that the day `number` of the sheet adds to the lines of a sort
+-- the words that the day `number` of the sheet adds to the lines of a sort; empty if the day isn't of this sort
 unfoldable pub numbered_day_words : List (Option Day) → List ℕ → Sort → ℕ → List ℕ
 numbered_day_words month title sort number =
     if has_day month sort number
     then day_words title (has_day month sort (number - 1)) (has_day month sort (number + 1)) number else []
 
--- the lines for the days of this sort, with the title `title`
+-- the lines for the days of this sort; each line begins with `title`
 unfoldable pub sort_words : List (Option Day) → List ℕ → Sort → List ℕ
 sort_words month title sort = flat_map (numbered_day_words month title sort) (range_with_len 1 31)
 
@@ -50,7 +49,7 @@ model_words month model = sort_words month (model_text model) (sorts.Of model)
 abbrev pub has_model : List (Option Day) → Model → Bool
 has_model month model = list_any (has_day month (sorts.Of model)) (range_with_len 1 31)
 
--- what a key sheet says: for each model its days, and the days without groups
+-- the words for a key sheet: the days of each model, and the days without groups
 unfoldable pub sheet_words : List (Option Day) → List ℕ
 sheet_words month =
     model_words month EnigmaI ++ model_words month M3 ++ model_words month M4 ++ model_words month M209

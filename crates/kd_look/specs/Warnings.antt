@@ -1,4 +1,4 @@
--- The warnings about a file. They are about a byte order mark, the file's keys, and a key sheet's days.
+-- The warnings about a file: about a byte order mark, about the file's keys, and about a key sheet's days.
 -- Test: tests/cases/curator-look.toml
 use Rattle.std.specs.Prelude.{codes, ◌≡◌, ℕ, ◌++◌, ◌∷◌, ◌==◌, ◌&&◌, Bool, List, [], MatchResult, Option, flat_map, slice_index, if◌then◌else◌}
 use Rattle.std.specs.List.{range_with_len}
@@ -17,22 +17,23 @@ use Rattle.kd_look.specs.declared.file.File.TheVariants as files
 unfoldable pub has_mark : List ℕ → Bool
 has_mark bytes = slice_index bytes 0 == 239 && slice_index bytes 1 == 187 && slice_index bytes 2 == 191
 
--- the warning about a byte order mark; empty if the file has none
+-- the warning about a byte order mark; empty if the file has no such mark
 unfoldable pub mark_words : List ℕ → List ℕ → List ℕ
 mark_words name bytes = if has_mark bytes
     then name ++ codes ": warning: the file begins with a byte order mark, which the desk passes over\n" else []
 
--- The text has the warning about a byte order mark. If the file is a document, it also has the warnings about its keys.
+-- The text has the warning about a byte order mark, if the file begins with one. If the file is a document, the text
+-- also has the warnings about the document's keys.
 pub record AreKeyWarnings (name bytes text : List ℕ) : Type 0 where
   pub lines : List ℕ
   pub told : MatchResult (document_of bytes) (λ document. AreWarnings name document lines) (λ fault. lines ≡ [])
   pub whole : text ≡ mark_words name bytes ++ lines
 
--- a warning about days: the file's name, `day`, and then `words`
+-- a warning about days: the file's name, `: warning: day`, and `words`
 unfoldable pub day_line : List ℕ → List ℕ → List ℕ
 day_line name words = name ++ codes ": warning: day" ++ words ++ codes "\n"
 
--- The text is a warning about days, with the words `words`. These words have no line end.
+-- The text is a warning about days, with the words `words`, which have no line end.
 pub record IsDayLine (name words text : List ℕ) : Type 0 where
   pub plain : IsInOneLine words
   pub whole : text ≡ day_line name words
@@ -42,25 +43,26 @@ pub record WarnsOfDays (name text : List ℕ) : Type 0 where
   pub words : List (List ℕ)
   pub are : ArePieces (IsDayLine name) words text
 
--- how many pairs and groups day `number` has, if the sheet has this day
+-- the list with the numbers of pairs and groups of day `number`; empty if the sheet doesn't have this day
 abbrev pub counts_on : List (Option Day) → ℕ → List DayCounts
 counts_on month number = option_map_or (λ day. counts_of day ∷ []) (day_of month number) []
 
--- how many pairs and groups the days of a sheet have, in the order of their numbers
+-- the numbers of pairs and groups of a sheet's days, in the order of the days
 abbrev pub counts_in : List (Option Day) → List DayCounts
 counts_in month = flat_map (counts_on month) (range_with_len 1 31)
 
--- the warnings of days that have fewer pairs, or fewer groups, than another day of their model
+-- the warnings about days that have fewer pairs, or fewer groups, than another day of their model
 unfoldable pub few_day_words : List ℕ → List (Option Day) → List ℕ
 few_day_words name month = few_lines (name ++ codes ": warning: ") (counts_in month)
 
--- The text warns of the days of a sheet: of days that are alike, and of those with fewer pairs or groups than others.
+-- The text has the warnings about a sheet's days: about days that are alike, then about days that have fewer pairs or
+-- groups than another day of their model.
 pub record WarnsOfMonth (name : List ℕ) (month : List (Option Day)) (text : List ℕ) : Type 0 where
   pub alike : List ℕ
   pub of_alike : WarnsOfDays name alike
   pub whole : text ≡ alike ++ few_day_words name month
 
--- The text warns of the days of a file, if the file is a key sheet.
+-- The text has the warnings about the days of a file. It is empty if the file isn't a key sheet.
 abbrev pub WarnsOfFile : List ℕ → File → List ℕ → Type 0
 WarnsOfFile name (files.Machine machine) text = text ≡ []
 WarnsOfFile name (files.Sheet month) text = WarnsOfMonth name month text

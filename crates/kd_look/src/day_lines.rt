@@ -6,7 +6,7 @@ ghost use Rattle.kd_look.specs.Warnings.{WarnsOfDays, day_line};
 use kd_findings::first_line;
 use std::alloc::AllocError;
 
-/// Appends a warning about days: the file's name, `day`, and then `words`.
+/// Appends a warning about days: the file's name, `: warning: day`, and `words`.
 #[tactic(auto, using(std::proofs::Common::append_assoc), unfolding(crate::specs::Warnings::day_line))]
 fn push_line(lines: &mut String, name: &str, words: &str) -> Result<(), AllocError>
     ensures { OnOk result (string_bytes lines.new
@@ -18,7 +18,7 @@ fn push_line(lines: &mut String, name: &str, words: &str) -> Result<(), AllocErr
     lines.push_str("\n")
 }
 
-/// Appends a warning about days: the file's name, `day`, and then the first line of `words`.
+/// Appends a warning about days: the file's name, `: warning: day`, and the first line of `words`.
 pub fn push_day_line(lines: &mut String, name: &str, words: &str) -> Result<(), AllocError>
     ensures { OnOk result (WarnsOfDays name.now (string_bytes lines.old)
         → WarnsOfDays name.now (string_bytes lines.new)) }

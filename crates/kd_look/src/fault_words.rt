@@ -62,7 +62,7 @@ fn push_fault_line(
     push_fault(text, fault)
 }
 
-/// Appends the line for `finding`, which is in line `line` of the file.
+/// Appends the line about `finding`, whose value is in line `line` of the file.
 fn push_finding(
     text: &mut String,
     alloc: Global,
@@ -84,7 +84,7 @@ fn push_finding(
     )
 }
 
-/// Appends a line for each of `findings`. `lines` says in which line of the file each of them is.
+/// Appends a line about each of `findings`. `lines` has, for each finding, its line in the file.
 fn push_findings(
     text: &mut String,
     alloc: Global,
@@ -105,7 +105,7 @@ fn push_findings(
     }
 }
 
-/// The line for a file that isn't TOML.
+/// The line about a file that isn't TOML.
 #[tactic(auto, using(std::proofs::Common::append_assoc))]
 fn plain_line(
     alloc: Global,
@@ -123,7 +123,7 @@ fn plain_line(
     Ok(text)
 }
 
-/// The lines for the faults of a file. `fault` is the first of these faults.
+/// The lines about the faults of a file. `fault` is the first of these faults.
 fn fault_lines(
     alloc: Global,
     bytes: &[u8],
@@ -153,7 +153,8 @@ fn fault_lines(
     }
 }
 
-/// The lines for the faults of a file, and then the warnings about its keys. `fault` is the first of the faults.
+/// The lines about the faults of a file, and then the warnings about the file's keys. `fault` is the first of the
+/// faults.
 pub fn refusal(
     alloc: Global,
     bytes: &[u8],

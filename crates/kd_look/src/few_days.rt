@@ -7,7 +7,7 @@ use kd_sheet::Sheet;
 use kd_slips::counts::{DayCounts, counts_of, few_lines};
 use std::alloc::{AllocError, Global};
 
-/// Appends how many pairs and groups day `number` has, if the sheet has this day.
+/// Appends the numbers of pairs and groups of day `number`, if the sheet has this day.
 fn push_counts(days: &mut Vec<DayCounts>, sheet: &Sheet, number: u8) -> Result<(), AllocError>
     ensures { OnOk result (days.new.items ≡ days.old.items ++ counts_on sheet.now number) }
 {
@@ -17,7 +17,7 @@ fn push_counts(days: &mut Vec<DayCounts>, sheet: &Sheet, number: u8) -> Result<(
     Ok(())
 }
 
-/// How many pairs and groups the days of `sheet` have, in the order of their numbers.
+/// The numbers of pairs and groups of the days of `sheet`, in the order of the days.
 fn counts_in(alloc: Global, sheet: &Sheet) -> Result<Vec<DayCounts>, AllocError>
     ensures { IfOk result (λ days. days.items ≡ counts_in sheet.now) }
 {
@@ -28,7 +28,7 @@ fn counts_in(alloc: Global, sheet: &Sheet) -> Result<Vec<DayCounts>, AllocError>
     Ok(days)
 }
 
-/// The start of a warning's line: the file's name.
+/// The start of a warning: the file's name, and `: warning: `.
 fn warning_start(alloc: Global, name: &str) -> Result<String, AllocError>
     ensures { IfOk result (λ start. string_bytes start ≡ name.now ++ codes ": warning: ") }
 {

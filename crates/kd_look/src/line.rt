@@ -14,13 +14,14 @@ use kd_sheet::{Key, SheetFault};
 use std::alloc::{AllocError, Global};
 use toml::{Table, Value};
 
-/// In a file of more bytes, no lines of faults are looked for.
+/// The greatest number of bytes of a file in which the lines of faults are looked for.
 const MOST_BYTES: usize = 65_536;
 
-/// In a file with more line ends, no lines of faults are looked for. The file is parsed up to each line end.
+/// The greatest number of line ends of a file in which the lines of faults are looked for. The file is parsed up to
+/// each line end.
 const MOST_LINES: usize = 2_048;
 
-/// What to look for in a document, in order to find the line of a fault.
+/// The thing to look for in a document, to find the line of a fault.
 #[derive(Clone, Copy)]
 enum Sought {
     /// The entry of a key sheet with this number, counted from 1.
@@ -58,7 +59,7 @@ fn has_any_key(document: &Table) -> bool
     !document.is_empty()
 }
 
-/// Whether the document has `key`. If there is a number, whether the entry with this number has it.
+/// Whether `document` has `key` or, if there is a number `entry`, whether the entry with this number has `key`.
 fn has_key(document: &Table, entry: Option<usize>, key: Key) -> bool
     ensures { result
         ≡ option_map_or (is_given key) (table_at (table_view document.now) entry) false }
@@ -80,8 +81,8 @@ fn has_value(document: &Table, sought: Sought) -> bool
     }
 }
 
-/// What to look for if `key` is missing. It is the entry that lacks the key. If the array `day` is missing, it is the
-/// file's first key.
+/// The thing to look for if `key` is missing: the entry that lacks the key or, if the array `day` is missing, the
+/// file's first key. `None` for another key at the top.
 fn sought_without(entry: Option<usize>, key: Key) -> Option<Sought>
     ensures { result ≡ sought_without entry key }
 {
@@ -92,7 +93,7 @@ fn sought_without(entry: Option<usize>, key: Key) -> Option<Sought>
     }
 }
 
-/// What to look for in order to find the line of `finding`.
+/// The thing to look for, to find the line of `finding`.
 fn sought_for(finding: &Finding) -> Option<Sought>
     ensures { result ≡ sought_for finding.now.place finding.now.fault }
 {
@@ -103,7 +104,7 @@ fn sought_for(finding: &Finding) -> Option<Sought>
     }
 }
 
-/// `line`, if `document` has what `finding` looks for; otherwise `None`.
+/// `line`, if `document` has the thing to look for; otherwise `None`.
 #[tactic(auto, unfolding(crate::specs::Line::line_in))]
 fn line_in(document: &Table, line: usize, finding: &Finding) -> Option<usize>
     ensures { result ≡ line_in (table_view document.now) line finding.now }
@@ -116,7 +117,7 @@ fn line_in(document: &Table, line: usize, finding: &Finding) -> Option<usize>
     }
 }
 
-/// The line `known`, if there is one. Otherwise `line`, if `document` has what `finding` looks for.
+/// The line `known`, if there is one. Otherwise `line`, if `document` has the thing to look for.
 fn known_line(
     known: Option<usize>,
     document: &Table,
@@ -131,8 +132,8 @@ fn known_line(
     }
 }
 
-/// The lines of `findings`. Known lines are taken from `lines`. Any other finding has the line `line`, if `document`
-/// has what it looks for.
+/// The lines of `findings`. Lines that are already known are taken from `lines`. Each other finding gets the line
+/// `line`, if `document` has the thing to look for.
 fn next_lines(
     alloc: Global,
     document: &Table,
@@ -152,8 +153,8 @@ fn next_lines(
     Ok(next)
 }
 
-/// The lines of `findings`. Known lines are taken from `lines`. Any other finding has the line `line`, if `text` has
-/// what it looks for.
+/// The lines of `findings`. Lines that are already known are taken from `lines`. Each other finding gets the line
+/// `line`, if `text` is a document with the thing to look for.
 fn lines_with(
     alloc: Global,
     text: &[u8],
@@ -181,7 +182,8 @@ fn ends_line(text: &[u8], index: usize) -> bool
     text[index] == b'\n' || index + 1 == text.len()
 }
 
-/// The lines of `findings` in the text up to the byte at `index`. `lines` has their lines in the text before this byte.
+/// The lines of `findings` in the text up to and with the byte at `index`. `lines` has their lines in the text before
+/// this byte.
 fn lines_after(
     alloc: Global,
     text: &[u8],
@@ -240,8 +242,8 @@ fn seek_lines(
     Ok(lines)
 }
 
-/// The line of each of `findings`. It is the first line for which `text`, up to the line's end, is a document with what
-/// the finding looks for.
+/// The line of each of `findings`: the first line for which `text`, up to the line's end, is a document with the thing
+/// to look for.
 ///
 /// `None` if there is no such line, or `text` is too long.
 pub fn lines_of(

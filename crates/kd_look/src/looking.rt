@@ -1,4 +1,4 @@
-//! `look_at`: says in words what files say, or what is wrong with them.
+//! `look_at`: describes files in words, or names their faults.
 ghost use Rattle.std.specs.Prelude.{◌≡◌, ◌||◌, ◌++◌, ◌∷◌, [], map, Err, IfOk, OnOk};
 ghost use Rattle.std.specs.String.{string_bytes};
 ghost use Rattle.kd_tables.specs.Ports.{port};
@@ -15,10 +15,10 @@ use crate::report::{Report, make_report};
 use kd_tables::{Device, Sink, put_all};
 use std::alloc::{AllocError, Global};
 
-/// A file to look at.
+/// A file that `look_at` describes.
 #[derive(Clone, Copy)]
 pub struct NamedFile<'f> {
-    /// The name of the file, with which each line about the file begins.
+    /// The name of the file. Each line about the file begins with this name.
     pub name: &'f str,
     /// The file's content.
     pub bytes: &'f [u8],
@@ -55,7 +55,7 @@ impl From<Device> for LookFault {
     }
 }
 
-/// Appends the report on `file`, and what the file says to `known`.
+/// Appends the report on `file` to `text`, and the file's content to `known`.
 fn push_report<'f>(
     text: &mut String,
     known: &mut Vec<ReadFile<'f>>,
@@ -81,7 +81,7 @@ fn push_report<'f>(
     Ok(outcome)
 }
 
-/// Appends the reports on `files`, and what each of them says to `known`.
+/// Appends the reports on `files` to `text`, and the files' contents to `known`.
 fn push_reports<'f>(
     text: &mut String,
     known: &mut Vec<ReadFile<'f>>,
@@ -111,7 +111,7 @@ struct WholeReport {
     outcome: Outcome,
 }
 
-/// Makes the report on `files`. It has a report on each file, then the warnings about missing days.
+/// Makes the report on `files`: a report on each file, then the warnings about missing days.
 fn report_all(alloc: Global, files: &[NamedFile<'_>]) -> Result<WholeReport, AllocError>
     ensures report { IfOk result (λ made.
         IsWholeReport (map named_text files.now) (string_bytes made.text)) }

@@ -1,4 +1,4 @@
-//! Warnings on machines and key sheets together: a machine for which no sheet has a day.
+//! The warnings about machines for which no key sheet has a day.
 ghost use Rattle.std.specs.Prelude.{◌≡◌, ◌++◌, IfOk, OnOk, flat_map, map};
 ghost use Rattle.std.specs.List.{list_any};
 ghost use Rattle.std.specs.String.{string_bytes};
@@ -11,14 +11,14 @@ use kd_slips::model_name;
 use kd_tables::Model;
 use std::alloc::{AllocError, Global};
 
-/// A file's name, and what the file says. `None` if it has a fault.
+/// A file's name, and the file's content. The content is `None` if the file has a fault.
 #[derive(Drop)]
 pub struct ReadFile<'f> {
     pub name: &'f str,
     pub file: Option<File>,
 }
 
-/// The model of a file that is a machine file.
+/// The machine's model; `None` if the file isn't a machine file.
 fn machine_model(file: &ReadFile<'_>) -> Option<Model>
     ensures { result ≡ machine_model (known_of file.now) }
 {
@@ -59,7 +59,7 @@ fn push_three(lines: &mut String, first: &str, second: &str, third: &str) -> Res
     lines.push_str(third)
 }
 
-/// Appends the start of a line on the machine `name` and the key sheet `sheet`.
+/// Appends the start of a warning: the name of the machine file, and the name of the key sheet.
 #[tactic(auto, unfolding(crate::specs::MissingDays::no_day_start))]
 fn push_no_day_start(lines: &mut String, name: &str, sheet: &str) -> Result<(), AllocError>
     ensures { OnOk result (string_bytes lines.new
@@ -68,7 +68,7 @@ fn push_no_day_start(lines: &mut String, name: &str, sheet: &str) -> Result<(), 
     push_three(lines, name, ": warning: ", sheet)
 }
 
-/// Appends the end of the line that there is no day for a machine, of which `model` is the model in words.
+/// Appends the end of a warning: the key sheet has no day for the machine. `model` is the machine's model in words.
 #[tactic(auto, unfolding(crate::specs::MissingDays::no_day_end))]
 fn push_no_day_end(lines: &mut String, model: &str) -> Result<(), AllocError>
     ensures { OnOk result (string_bytes lines.new ≡ string_bytes lines.old ++ no_day_end model.now) }
@@ -76,7 +76,8 @@ fn push_no_day_end(lines: &mut String, model: &str) -> Result<(), AllocError>
     push_three(lines, " has no day for ", model, "\n")
 }
 
-/// Appends a warning that the key sheet `sheet` has no day for the machine `name`, of which `model` is the model in words.
+/// Appends a warning that the key sheet `sheet` has no day for the machine in the file `name`. `model` is the machine's
+/// model in words.
 #[tactic(auto, using(std::proofs::Common::append_assoc))]
 fn push_no_day_words(
     lines: &mut String,
@@ -91,7 +92,8 @@ fn push_no_day_words(
     push_no_day_end(lines, model)
 }
 
-/// Appends this warning, if `sheet` is a key sheet.
+/// Appends a warning that `sheet` has no day for the machine in the file `name`. Appends nothing if `sheet` isn't a key
+/// sheet.
 fn push_no_day(
     lines: &mut String,
     name: &str,
@@ -107,7 +109,7 @@ fn push_no_day(
     }
 }
 
-/// Appends a warning for each key sheet among `files`, that it has no day for the machine `name`.
+/// Appends a warning for each key sheet of `files`: it has no day for the machine in the file `name`.
 #[tactic(auto, using(std::proofs::Common::append_assoc))]
 fn push_no_days(
     lines: &mut String,
@@ -127,7 +129,7 @@ fn push_no_days(
     }
 }
 
-/// Appends the warnings on `file`, if it is a machine file for which none of `files` has a day.
+/// Appends the warnings about `file`, if it is a machine file, and no key sheet of `files` has a day for the machine.
 fn push_missing(
     lines: &mut String,
     files: &[ReadFile<'_>],
@@ -142,7 +144,7 @@ fn push_missing(
     }
 }
 
-/// The warnings on machines for which no key sheet has a day, where there are key sheets.
+/// The warnings about machines for which no key sheet has a day. There are no warnings if there is no key sheet.
 pub fn missing_day_warnings(alloc: Global, files: &[ReadFile<'_>]) -> Result<String, AllocError>
     ensures { IfOk result (λ lines. string_bytes lines ≡ missing_words (map known_of files.now)) }
 {

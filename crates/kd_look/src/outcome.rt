@@ -14,7 +14,7 @@ pub enum Outcome {
 }
 
 impl Outcome {
-    /// This outcome or, if it is `Faultless`, the outcome `later` of the files after it.
+    /// This outcome or, if it is `Faultless`, the outcome `later` of the later files.
     pub fn or(self, later: Outcome) -> Outcome
         ensures { result ≡ or_later self later }
     {

@@ -20,7 +20,7 @@ pub struct Report {
     /// The lines about the file.
     pub text: String,
     pub outcome: Outcome,
-    /// What the file says, if it has no fault.
+    /// The file's content, if the file has no fault.
     pub file: Option<File>,
 }
 
@@ -56,7 +56,7 @@ fn description(alloc: Global, bytes: &[u8], name: &str, file: &File) -> Result<S
     Ok(text)
 }
 
-/// Makes the report on the file `name` with the content `bytes`.
+/// Makes the report on the file called `name`, with the content `bytes`.
 pub fn make_report(alloc: Global, bytes: &[u8], name: &str) -> Result<Report, AllocError>
     ensures report { IfOk result (λ made. IsReport name.now bytes.now (string_bytes made.text)) }
     ensures found { IfOk result (λ made. made.outcome ≡ outcome_of (file_of bytes.now)) }

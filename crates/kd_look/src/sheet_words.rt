@@ -1,4 +1,4 @@
-//! A key sheet in words. It has lines for the days of each model, and for the days without groups.
+//! A key sheet in words: lines for the days of each model, and lines for the days without groups.
 ghost use Rattle.std.specs.Prelude.{codes, ◌≡◌, ◌<◌, ◌++◌, true, false, OnOk};
 ghost use Rattle.std.specs.String.{string_bytes};
 ghost use Rattle.kd_look.specs.SheetWords.{is_of_sort, has_day, day_words, numbered_day_words, sort_words};
@@ -54,7 +54,7 @@ fn push_first_day(text: &mut String, title: &str, after: bool, number: u8) -> Re
     text.push_str(if after { " to " } else { "\n" })
 }
 
-/// Appends the end of a line: its last day. If the next day is in the line, too, appends nothing.
+/// Appends the end of a line: the line's last day. If the next day belongs to the line, too, appends nothing.
 #[tactic(auto, using(std::proofs::Common::append_assoc), unfolding(crate::specs::SheetWords::day_words))]
 fn push_last_day(text: &mut String, title: &str, after: bool, number: u8) -> Result<(), AllocError>
     ensures { OnOk result
@@ -91,7 +91,7 @@ fn push_day(
     }
 }
 
-/// Appends the lines for the days of this sort, with the title `title`.
+/// Appends the lines for the days of this sort. Each line begins with `title`.
 #[tactic(auto, unfolding(crate::specs::SheetWords::sort_words))]
 fn push_sort(text: &mut String, sheet: &Sheet, title: &str, sort: Sort) -> Result<(), AllocError>
     ensures { OnOk result

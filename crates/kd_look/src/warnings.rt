@@ -1,4 +1,4 @@
-//! Warnings about things in a file that the desk accepts, though they may not have been meant.
+//! Warnings about things in a file that the desk accepts, but that may not have been meant.
 ghost use Rattle.std.specs.Prelude.{◌≡◌, ◌++◌, [], IfOk, MatchResult, OnOk};
 ghost use Rattle.std.specs.String.{string_bytes};
 ghost use Rattle.kd_sheet.specs.Document.{document_of};
@@ -37,7 +37,7 @@ fn push_mark(lines: &mut String, bytes: &[u8], name: &str) -> Result<(), AllocEr
     }
 }
 
-/// The warnings about the keys of a file, if it is a document.
+/// The warnings about the keys of a file; empty if the file isn't a document.
 fn document_warnings(alloc: Global, bytes: &[u8], name: &str) -> Result<String, AllocError>
     ensures { IfOk result (λ lines. MatchResult (document_of bytes.now)
         (λ document. AreWarnings name.now document (string_bytes lines)) (λ fault. string_bytes lines ≡ [])) }

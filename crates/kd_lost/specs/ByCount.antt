@@ -1,5 +1,5 @@
 -- How a part is read by count, if the letter count in its heading is wrong or damaged. The number of letters that came
--- stands for the count.
+-- is used in place of the heading's count.
 -- Test: tests/cases/curator-messages.toml
 use Rattle.std.specs.Prelude.{decimal, ◌≡◌, ℕ, ◌+◌, ◌==◌, not, Bool, true, false, if◌then◌else◌, is_some}
 use Rattle.std.specs.Prelude.{List, [], ◌∷◌, ◌++◌, drop, Option, None, Some, IfSome, Result, Ok, Err}
@@ -46,21 +46,21 @@ abbrev pub heading_count : Option PartNumbers → ℕ
 heading_count (Some numbers) = numbers.letters
 heading_count None = 0
 
--- whether the heading's count `counted` would be right if the line `short` had 50 letters
+-- whether the heading's count `counted` would be right if line `short` had all of its 50 letters; `came` letters came
 abbrev pub explains : ℕ → ℕ → ShortLine → Bool
 explains counted came short = counted + short.letters == came + 50
 
--- the short line, if its missing letters explain the heading's count; otherwise `None`
+-- the short line, if the heading's count is right once this line has 50 letters; otherwise `None`
 abbrev pub telling_line : ℕ → ℕ → Option ShortLine → Option ShortLine
 telling_line counted came None = None
 telling_line counted came (Some short) = if explains counted came short then Some short else None
 
--- the short line of the part, if its missing letters explain the heading's count; otherwise `None`
+-- the short line of the part, if the heading's count is right once this line has 50 letters; otherwise `None`
 abbrev pub part_line : DamagedPart → Option ShortLine
 part_line part = telling_line (heading_count part.numbers) part.came part.short_line
 
--- Whether the heading's count may be wrong. It may if the heading is damaged. It also may if more or fewer letters came
--- than it says, and no short line explains why.
+-- Whether the heading's count may be wrong: the heading is damaged, or its count differs from the number of letters
+-- that came, and no short line explains the difference.
 abbrev pub is_count_doubted : Result DamagedText PartDamage → Option ShortLine → Bool
 is_count_doubted (Ok shown) line = false
 is_count_doubted (Err damages.HeadingDamaged) line = true
@@ -74,8 +74,8 @@ abbrev pub text_of : Result DamagedText PartDamage → Option DamagedText
 text_of (Ok shown) = Some shown
 text_of (Err damage) = None
 
--- `found` is the text of `part`, or `None` if it can't be read. `numbers` are the numbers in its heading, or `None` if
--- the heading is damaged.
+-- `found` is the text of `part`, or `None` if the text can't be read. `numbers` are the numbers in the part's heading,
+-- or `None` if the heading is damaged.
 pub record IsFoundIn (s : Day) (part : List ℕ) (numbers : Option PartNumbers) (found : Option DamagedText) : Type 0 where
   pub answer : Result DamagedText PartDamage
   pub given : AreNumbersRead s (first_line part) numbers
@@ -83,23 +83,23 @@ pub record IsFoundIn (s : Day) (part : List ℕ) (numbers : Option PartNumbers) 
   pub is_its : found ≡ text_of answer
   pub shown : IfSome found (IsPartShown s part)
 
--- The numbers of a part. If the heading is valid as it came, they are its numbers. If it is damaged, and a text is
--- found by count, they stand in the heading with the new count.
+-- The numbers of a part. If the heading as it came is valid, the numbers are `given`. If it is damaged, and a text is
+-- found by count, the numbers are `counted`, from the heading with the new count.
 abbrev pub numbers_by_count : Option PartNumbers → Option PartNumbers → Option DamagedText → Option PartNumbers
 numbers_by_count (Some given) counted found = Some given
 numbers_by_count None counted (Some shown) = counted
 numbers_by_count None counted None = None
 
--- The result of reading `part` by count is the text `found` and the numbers `numbers`. `given` are the numbers in the
--- heading as it came. If the count isn't doubted, no text is found. Otherwise the text is read with `came`, the number
--- of letters that came, as the heading's count.
+-- Reading `part` by count gives the text `found` and the numbers `numbers`. `given` are the numbers in the heading as
+-- it came. The first argument says whether the heading's count may be wrong. If it may, the text is read with `came` as
+-- the count, the number of letters that came. If it may not, no text is found.
 abbrev pub GivesByCount : Bool → Day → List ℕ → ℕ → Option PartNumbers → Option PartNumbers → Option DamagedText → Type 0
 GivesByCount false s part came given numbers found = (found ≡ None) × (numbers ≡ given)
 GivesByCount true s part came given numbers found =
     (counted : Option PartNumbers) × IsFoundIn s (counted_part came part) counted found
     × (numbers ≡ numbers_by_count given counted found)
 
--- The text by count and the numbers in `read` are the result of reading `part` by count.
+-- `read` has the text and the numbers that reading `part` by count gives.
 abbrev pub IsByCount : Day → List ℕ → Option PartNumbers → DamagedPart → Type 0
 IsByCount s part given read =
     GivesByCount (is_count_doubted read.text (telling_line (heading_count given) read.came read.short_line)) s part

@@ -1,4 +1,5 @@
--- The copies of a Converter's key letters: the chosen letter stands four times in a part, each external letter twice.
+-- The copies of a Converter's key letters: the chosen letter comes four times in a part, and each external letter comes
+-- twice.
 -- Test: tests/cases/curator-messages.toml
 use Rattle.std.specs.Prelude.{ℕ, ◌+◌, List, [], ◌∷◌, drop, All, Contains, Option, Some, None}
 use Rattle.std.specs.Prelude.{slice_index_or}
@@ -8,7 +9,7 @@ use Rattle.kd_lost.specs.declared.damage.PartDamage.{PartDamage}
 use Rattle.kd_lost.specs.declared.damage.PartDamage.TheVariants.{CopiesDiffer, KeyLetterLost}
 use Rattle.kd_lost.specs.Lost.{IsLetterFor}
 
--- All received copies of a key letter are the same letter. Lost copies don't count.
+-- The copies of a key letter that aren't lost are all the same letter.
 abbrev pub HaveOneLetter : List (Option ℕ) → Type 0
 HaveOneLetter copies = (letter : ℕ) × All (λ got. IsLetterFor got letter) copies
 
@@ -18,8 +19,8 @@ IsKeyLetterAnswer number copies = do
   _ ← Demands (HaveOneLetter copies) (CopiesDiffer number)
   Finds (λ letter. Contains copies (Some letter)) (KeyLetterLost number)
 
--- The answer for key letters. Each list has one copy of each of these letters. The first key letter has the number
--- `number`.
+-- The answer for successive key letters, each of which has a copy in `start` and a copy in `end`. The first key letter
+-- has the number `number`.
 abbrev pub AreKeyLettersAnswer : ℕ → List (Option ℕ) → List (Option ℕ) → AnswerRule PartDamage (List ℕ)
 AreKeyLettersAnswer number (one ∷ start) (other ∷ end) = do
   letter ← IsKeyLetterAnswer number (one ∷ other ∷ [])

@@ -1,5 +1,5 @@
--- How a damaged form is cut into parts, and how all of them are read. The first part begins with the form. Every other
--- part begins with a later line that is taken for a heading.
+-- How a damaged form is cut into parts, and how the parts are read. The first part begins with the form. Every later
+-- part begins with a line that is taken for a heading.
 -- Code: the form is cut part by part.
 -- Test: tests/cases/curator-messages.toml
 use Rattle.std.specs.Prelude.{◌≡◌, ℕ, ◌+◌, ◌<◌, ◌==◌, ◌&&◌, All, Bool, if◌then◌else◌, List, [], ◌∷◌}
@@ -27,7 +27,7 @@ use Rattle.kd_lost.specs.WrongSign.{IsFirstWrongSign}
 
 -- ---- The parts of a form.
 
--- Whether `byte` ends a part if `bytes` follow it. It does if it is an LF, and the line after it is taken for a
+-- Whether `byte` ends a part if `bytes` follow it. It ends a part if it is an LF, and the line after it is taken for a
 -- heading.
 abbrev pub ends_part : ℕ → List ℕ → Bool
 ends_part byte bytes = byte == 10 && is_heading_line bytes
@@ -43,7 +43,7 @@ cut_at_heading_lines (byte ∷ bytes) =
 abbrev pub parts_cut : List ℕ → List (List ℕ)
 parts_cut bytes = (cut_at_heading_lines bytes).0 ∷ (cut_at_heading_lines bytes).1
 
--- all parts of a damaged form, cut after `tidied` has dropped the lines before its first heading
+-- all parts of a damaged form, without the lines that `tidied` drops
 abbrev pub form_parts : List ℕ → List (List ℕ)
 form_parts form = parts_cut (tidied form)
 
@@ -52,7 +52,7 @@ pub record PlacedPart : Type 0 where
   pub bytes : List ℕ
   pub line : ℕ
 
--- each part with the line on which it begins; the first begins on line `line`
+-- each part with the line on which it begins; the first part begins on line `line`
 abbrev pub placed_from : ℕ → List (List ℕ) → List PlacedPart
 placed_from line [] = []
 placed_from line (part ∷ parts) = record { bytes = part; line = line } ∷ placed_from (line + line_breaks part) parts
@@ -63,15 +63,15 @@ damaged_parts_of form = placed_from (heading_line form) (form_parts form)
 
 -- ---- What is read of them.
 
--- `meant` is the part that is read in place of `part`. It is `part` itself if its first line is a heading. Otherwise it
--- is `part` with single spaces between the words of this line.
+-- `meant` is the part that is read in place of `part`. If the first line of `part` is a heading, `meant` is `part`
+-- itself. Otherwise `meant` is `part` with single spaces between the words of the first line.
 pub data IsMeant (s : Day) (part meant : List ℕ) : Type 0 where
   AsItStands : (h : Heading) → IsDamagedHeading s (first_line part) h → meant ≡ part → IsMeant s part meant
   Respaced : ((h : Heading) → ¬ (IsDamagedHeading s (first_line part) h)) → meant ≡ respaced part
       → IsMeant s part meant
 
--- `read` has what is read of `part`, with its blanks as they are. That is the fields that `read_damaged_part` reads,
--- and the text by count. `given` are the numbers in the heading as it came.
+-- `read` has what can be read of `part` if no blank is dropped: the fields that `read_damaged_part` reads, and the text
+-- by count. `given` are the numbers in the heading as it came.
 pub record IsReadAs (s : Day) (part : List ℕ) (read : DamagedPart) : Type 0 where
   pub given : Option PartNumbers
   pub given_there : AreNumbersRead s (first_line part) given
@@ -87,18 +87,19 @@ pub record IsReadAs (s : Day) (part : List ℕ) (read : DamagedPart) : Type 0 wh
   pub as_spelled : IsTrue read.as_spelled ↔ All (λ byte. meant_byte byte ≡ byte) part
   pub is_order : read.is_order ≡ is_order part
 
--- `read` has what is read of `part`. Needless blanks in its heading are dropped if it is no heading with them.
+-- `read` has what can be read of `part`. If the first line of `part` isn't a heading, needless blanks in this line are
+-- dropped first.
 pub record IsReadOf (s : Day) (part : List ℕ) (read : DamagedPart) : Type 0 where
   pub meant : List ℕ
   pub is_meant : IsMeant s part meant
   pub as_meant : IsReadAs s meant read
   pub respaced : IsTrue read.respaced ↔ (meant ≢ part)
 
--- `read` has what is read of `part`, and the line on which the part begins.
+-- `read` has what can be read of `part`, and the line on which the part begins.
 abbrev pub IsReadAt : Day → PlacedPart → DamagedPart → Type 0
 IsReadAt s part read = IsReadOf s part.bytes read × (read.line ≡ part.line)
 
--- The second list has, in order, what is read of each part in the first list.
+-- For each part in the first list, the second list has, in the same order, what can be read of this part.
 abbrev pub AreReadOf : Day → List PlacedPart → List DamagedPart → Type 0
 AreReadOf s [] [] = Unit {0}
 AreReadOf s (part ∷ parts) (read ∷ reads) = IsReadAt s part read × AreReadOf s parts reads
@@ -107,19 +108,20 @@ AreReadOf s (part ∷ parts) [] = ⊥
 
 -- ---- Parts that came several times.
 
--- the parts from place `index` of the form on, with letters from their copies in place of lost ones
+-- The parts `parts` of a form, the first of which is at place `index`. Letters from a part's copies stand in place of
+-- lost letters.
 abbrev pub completed_parts : List DamagedPart → ℕ → List PlacedPart → List PlacedPart
 completed_parts copies index [] = []
 completed_parts copies index (part ∷ parts) =
     record { bytes = completed_at copies index part.bytes; line = part.line } ∷ completed_parts copies (index + 1) parts
 
--- `reads` has what is read of each part of `form`, with letters from its copies in place of lost ones.
+-- `reads` has what can be read of each part of `form`, with letters from the part's copies in place of lost letters.
 abbrev pub AreReadWith : Day → List DamagedPart → List ℕ → List DamagedPart → Type 0
 AreReadWith s copies form reads = AreReadOf s (completed_parts copies 0 (damaged_parts_of form)) reads
 
--- `parts` are the parts of the form. First, each is read alone. If all are of one message, each is read again, with
--- letters from its copies in place of lost ones. If a part then has fewer letters, or another number, all parts stay as
--- they were read alone.
+-- `parts` are the parts of the form. First, each part is read alone. If all parts are of one message, each part is read
+-- again, with letters from its copies in place of lost letters. If any part then has fewer letters, or another number,
+-- `parts` are the parts as they were read alone.
 pub record AreFormParts (s : Day) (form : List ℕ) (parts : List DamagedPart) : Type 0 where
   pub alone : List DamagedPart
   pub read : AreReadOf s (damaged_parts_of form) alone
@@ -138,8 +140,8 @@ letters_in (Err damage) = []
 abbrev pub shown_letters : List DamagedPart → List (Option ℕ)
 shown_letters reads = flat_map (λ (read : DamagedPart). letters_in read.text) reads
 
--- The byte that is written for a letter of a text. It is `?` for a lost letter, and a space for the letter `for_space`,
--- if there is one. For any other letter, it is the capital letter.
+-- The byte that is written for a letter of a text: `?` for a lost letter, and a space for the letter `for_space`, if
+-- there is one. For any other letter, it is the capital letter.
 abbrev pub shown_byte : Option ℕ → Option ℕ → ℕ
 shown_byte for_space None = 63
 shown_byte for_space (Some letter) = plaintext_byte for_space letter

@@ -1,5 +1,5 @@
--- What is read of a part in which letters were lost: its numbers, and its text. If there is no text, the reason stands
--- in its place.
+-- What can be read of a part in which letters were lost: its numbers, and its text. If the text can't be read, the
+-- answer is the reason.
 -- Test: tests/messages-as-worked
 use Rattle.std.specs.Prelude.{◌≡◌, ℕ, ◌==◌, ◌||◌, Bool, IsTrue, IsFalse, if◌then◌else◌, List, [], ◌∷◌, length, map, take, All}
 use Rattle.std.specs.Prelude.{filter_map, Option, None, Some, MatchOption}
@@ -30,11 +30,11 @@ abbrev pub body_of : List ℕ → List ℕ
 body_of [] = []
 body_of (byte ∷ bytes) = if byte == 10 then bytes else body_of bytes
 
--- the byte that is meant; B for a lost letter, since B can't complete a damaged word `PART`
+-- the byte that `byte` means; for a lost letter it is B, since B can't complete a damaged word `PART`
 abbrev pub filled_byte : ℕ → ℕ
 filled_byte byte = if is_lost byte then 66 else meant_byte byte
 
--- `line` is the heading line of `h`; letters of the heading's keys may be lost.
+-- `line` is the line of the heading `h`; letters of the heading's keys may be lost.
 pub record IsDamagedHeading (s : Day) (line : List ℕ) (h : Heading) : Type 0 where
   pub is_heading : IsHeading s h
   pub text : IsLineText (map filled_byte line) (line_of (heading_words h))
@@ -45,8 +45,8 @@ is_body_byte byte = is_lost byte || is_text_byte (meant_byte byte)
 
 -- ---- The letters by which parts are compared.
 
--- The letter that a byte of a body counts as when parts are compared. A sign that may not be in a body counts as a lost
--- letter, `Some None`. A space or a line end counts as no letter.
+-- The letter for a byte of a body, when parts are compared. A sign that may not be in a body is compared like a lost
+-- letter, as `Some None`. A space or a line end is left out, as `None`.
 abbrev pub body_letter : ℕ → Option (Option ℕ)
 body_letter byte = if is_body_byte byte then received_letter byte else Some None
 
@@ -60,7 +60,7 @@ body_letters body = take 525 (filter_map body_letter body)
 abbrev pub numbers_of : Heading → PartNumbers
 numbers_of h = record { part = h.part; parts = h.parts; letters = h.letters }
 
--- `numbers` are the numbers in the heading `line`; `None` if it isn't a heading.
+-- `numbers` are the numbers in the heading `line`, or `None` if `line` isn't a heading.
 abbrev pub AreNumbersRead : Day → List ℕ → Option PartNumbers → Type 0
 AreNumbersRead s line numbers =
     MatchOption numbers ((h : Heading) → ¬ (IsDamagedHeading s line h))
@@ -79,9 +79,12 @@ IsHeadedPartAnswer s h line body = do
   _ ← Demands (All (λ byte. IsFalse (is_lost byte)) line) HeadingKeyLost
   IsDamagedBodyAnswer s h body
 
--- The answer for a part that consists of `line` and `body`. The tests come in this order. There is a heading. None of
--- its letters is lost. Each byte of the body may be in a body. The body has as many letters as the heading says. Last
--- come the keys of a Converter's part.
+-- The answer for a part that consists of `line` and `body`. The tests come in this order:
+-- - `line` is a heading.
+-- - No letter of the heading is lost.
+-- - Each byte of the body may be in a body.
+-- - The body has as many letters as the heading says.
+-- - On a Converter, the indicators give the keys.
 abbrev pub IsDamagedLinesAnswer : Day → List ℕ → List ℕ → AnswerRule PartDamage DamagedText
 IsDamagedLinesAnswer s line body = do
   h ← Finds (IsDamagedHeading s line) HeadingDamaged
@@ -93,8 +96,9 @@ IsDamagedTextAnswer s part = IsDamagedLinesAnswer s (first_line part) (body_of p
 
 -- ---- What the text of a part is, for all completions.
 
--- Some completion of `part` has a text. For each completion that has one, `shown` has this text without the lost
--- letters. The group and the list letters may be any letters.
+-- `shown` has the text of `part`, without the lost letters. Some completion of `part` has a text. For each completion
+-- that has a text, `shown` has the letters of this text at all places where no letter was lost. The group and the list
+-- letters may be any letters.
 pub record IsPartShown (s : Day) (part : List ℕ) (shown : DamagedText) : Type 0 where
   pub whole : List ℕ
   pub heading : Heading

@@ -1,4 +1,4 @@
--- How the letters of a body are tested and deciphered if some of them were lost.
+-- How the letters of a body are tested and deciphered, if some of these letters were lost.
 -- Test: tests/messages-as-worked
 use Rattle.std.specs.Prelude.{◌≡◌, ◌⊎◌, ◌↔◌, ℕ, ◌-◌, List, [], ◌∷◌, length, map, take, drop, Any, IsTrue}
 use Rattle.std.specs.Prelude.{Option, Some, None, Ok}
@@ -37,15 +37,15 @@ pub data IsGroupTest (s : Day) (received : List (Option ℕ)) (test : GroupTest)
       → IsGroupTest s received test
   GroupLost : Any (λ got. got ≡ None) received → test ≡ tests.NotTested → IsGroupTest s received test
 
--- Some letter is lost in both copies.
+-- At some place, the letter is lost in both copies.
 abbrev pub IsLostInBoth : List (Option ℕ) → List (Option ℕ) → Type 0
 IsLostInBoth (one ∷ start) (other ∷ end) = ((one ≡ None) × (other ≡ None)) ⊎ IsLostInBoth start end
 IsLostInBoth [] end = ⊥
 IsLostInBoth (one ∷ start) [] = ⊥
 
--- `test` is the result of comparing list letters: the received copies `start` and `end`, with `due`, the day's list
--- letters. It is `Wrong` if a received letter differs from the day's. Otherwise it is `NotTested` if a letter is lost
--- in both copies.
+-- `test` is the result of comparing list letters: the two received copies, `start` and `end`, are compared with the
+-- day's list letters, `due`. The result is `Wrong` if a received letter differs from the day's. Otherwise, it is
+-- `NotTested` if a letter is lost in both copies.
 pub data IsListTest (due : List ℕ) (start end : List (Option ℕ)) (test : GroupTest) : Type 0 where
   ListWrong : ¬ (Completes start due × Completes end due) → test ≡ tests.Wrong → IsListTest due start end test
   ListLost : Completes start due → Completes end due → IsLostInBoth start end → test ≡ tests.NotTested
@@ -53,7 +53,8 @@ pub data IsListTest (due : List ℕ) (start end : List (Option ℕ)) (test : Gro
   ListRight : Completes start due → Completes end due → ¬ (IsLostInBoth start end) → test ≡ tests.Right
       → IsListTest due start end test
 
--- `lost` says in which copies of the indicators (the first and the last ten letters) a letter is lost.
+-- `lost` says which copies of the indicators have a lost letter. One copy is the first ten letters, the other copy the
+-- last ten.
 pub record AreLostCopies (received : List (Option ℕ)) (lost : LostCopies) : Type 0 where
   pub at_start : IsTrue lost.at_start ↔ Any (λ got. got ≡ None) (take 10 received)
   pub at_end : IsTrue lost.at_end ↔ Any (λ got. got ≡ None) (drop (length received - 10) received)
@@ -73,8 +74,8 @@ abbrev pub text_part : {A : Type 0} → Option Indicator → List A → List A
 text_part (Some i) letters = drop 5 letters
 text_part None letters = slice_range letters 10 (length letters - 10)
 
--- `keys` are the keys of the body `received`. On a rotor machine, they are the keys in the heading. On the Converter
--- M-209, they are the keys in both copies of the indicators, and their internal key.
+-- `keys` are the keys of the body `received`. On a rotor machine, these are the keys in the heading. On the Converter
+-- M-209, these are the keys that both copies of the indicators give, and the internal key that follows from them.
 abbrev pub AreTextKeys : Day → Option Indicator → List (Option ℕ) → TextKeys → Type 0
 AreTextKeys s (Some i) received keys = HasIndicator s (Some i) × (keys ≡ text_keys.Rotor i)
 AreTextKeys s None received keys =
@@ -83,14 +84,14 @@ AreTextKeys s None received keys =
     × IsWindow (sheet_key s) pin.indicator.external
     × IsInternalKey (enciphered_choice s pin.indicator) pin.internal.items
 
--- The letters in the windows, or on the pin wheels, before the text is deciphered. On a rotor machine, they are the
--- message key; on the Converter M-209, the internal key.
+-- The letters that the windows or the pin wheels show before the text is deciphered: the message key on a rotor
+-- machine, the internal key on the Converter M-209.
 abbrev pub text_window : Day → TextKeys → List ℕ
 text_window s (text_keys.Rotor i) = deciphered_key s i
 text_window s (text_keys.Pin pin) = pin.internal.items
 
--- `shown` has the text of each completion of `received`, without the lost letters. It also has `received` itself, and
--- the keys. With these keys, the machine gives the letters shown, whatever the lost letters were.
+-- `shown` has the text of each completion of `received`, without the lost letters. It also has `received` itself, the
+-- keys, and the warnings. With these keys, the machine gives the letters in `shown`, whatever the lost letters were.
 pub record IsTextShown (s : Day) (i : Option Indicator) (received : List (Option ℕ))
     (shown : DamagedText) : Type 0 where
   pub each : (whole text : List ℕ) → Completes received whole → IsLettersText s i whole text
@@ -101,9 +102,11 @@ pub record IsTextShown (s : Day) (i : Option Indicator) (received : List (Option
       → shown.letters.items ≡ covered (text_part i received) (cipher_from s (text_window s shown.keys) whole)
   pub warnings : AreWarnings s i received shown
 
--- The answer for the letters of a body. On a rotor machine, they always give a text. On the Converter M-209, three
--- tests come in this order. The copies give each key letter. Each external letter is on its wheel. There is an internal
--- key.
+-- The answer for the letters of a body. On a rotor machine, the letters always give a text. On the Converter M-209,
+-- three tests come in this order:
+-- - The copies give each key letter.
+-- - Each external letter is on its wheel.
+-- - There is an internal key.
 abbrev pub IsDamagedLettersAnswer : Day → Option Indicator → List (Option ℕ) → AnswerRule PartDamage DamagedText
 IsDamagedLettersAnswer s (Some i) received = FindsAlways (IsTextShown s (Some i) received)
 IsDamagedLettersAnswer s None received = do
@@ -114,7 +117,8 @@ IsDamagedLettersAnswer s None received = do
 
 -- ---- What the code holds. No public contract cites this definition.
 
--- The answer for `received`, the letters between the indicators, with the keys `keys`.
+-- The answer for `received`, the letters between the indicators, if the keys are `keys`: the letters of the text, and
+-- the internal key.
 abbrev pub IsKeyedTextAnswer : Day → PinKeys → List (Option ℕ) → AnswerRule PartDamage (ArrayVec (Option ℕ) × ArrayVec ℕ)
 IsKeyedTextAnswer s keys received = do
   _ ← Demands (IsWindow (sheet_key s) keys.external) KeyNotOnWheel

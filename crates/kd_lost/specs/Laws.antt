@@ -1,4 +1,4 @@
--- What the laws of this crate say about damaged parts, their ciphers, and forms of one message.
+-- The statements of this crate's laws about damaged parts, their ciphers, and forms of one message.
 use Rattle.std.specs.Prelude.{◌≡◌, ℕ, false, List, [], ◌∷◌, ◌++◌, All, IsTrue, true, map, slice_get, Option, Some, None}
 use Rattle.std.specs.Prelude.{Result, Ok}
 use Rattle.std.specs.List.{Contains}
@@ -18,8 +18,8 @@ use Rattle.kd_lost.specs.DamagedPart.{AreNumbersRead, IsDamagedTextAnswer, first
 use Rattle.kd_lost.specs.OneMessage.{are_of_one_message, bodies_agree}
 use Rattle.kd_lost.specs.Tidy.{tidied}
 
--- If two texts have the same letter at a place, both are deciphered to the same letter there. The other letters may
--- differ.
+-- If two texts have the same letter at a place, their ciphers have the same letter at this place. At other places, the
+-- two texts may differ.
 abbrev pub CiphersAgreeWhereTextsDo : Type 0
 CiphersAgreeWhereTextsDo =
     (key : EngineKey) (text other : List ℕ) (place : ℕ) → slice_get text place ≡ slice_get other place
@@ -43,19 +43,19 @@ PartsReadAreShownWhole =
     → IsPartAnswer s p part (Ok read) → IsDamagedTextAnswer s part answer
     → (shown : DamagedText) × (answer ≡ Ok shown) × IsShownWhole read.letters shown
 
--- If `receive` reads a part, this crate finds its number, and the number of parts.
+-- If `receive` reads a part, this crate finds the part's number, and the number of parts.
 abbrev pub PartsReadHaveNumbers : Type 0
 PartsReadHaveNumbers =
     (s : Day) (p : PartStart) (part : List ℕ) (read : ReadPart) (found : Option PartNumbers)
     → IsPartAnswer s p part (Ok read) → AreNumbersRead s (first_line part) found
     → (numbers : PartNumbers) × (found ≡ Some numbers) × (numbers.part ≡ p.number) × (numbers.parts ≡ read.parts)
 
--- If `receive` reads a form, this crate cuts it into the same parts.
+-- If `receive` reads a form, this crate cuts the form into the same parts.
 abbrev pub FormsReadHaveTheirParts : Type 0
 FormsReadHaveTheirParts =
     (s : Day) (form text : List ℕ) → IsTextOf s form text → form_parts form ≡ parts_of form
 
--- If `receive` reads a form, nothing before its first heading is passed over.
+-- If `receive` reads a form, no line before the form's first heading is passed over.
 abbrev pub FormsReadAreTidy : Type 0
 FormsReadAreTidy = (s : Day) (form text : List ℕ) → IsTextOf s form text → tidied form ≡ form
 
@@ -64,16 +64,16 @@ abbrev pub IsReadWell : DamagedPart → Type 0
 IsReadWell read =
     (shown : DamagedText) × (read.text ≡ Ok shown) × (shown.group ≡ tests.Right) × AreWholeCopies shown.copies
 
--- If `receive` reads a form, all its parts are read without a warning. The letters shown are, one part after another,
--- the text of the form.
+-- If `receive` reads a form, all parts of the form are read without a warning. The letters of the parts, one part after
+-- another, are the text of the form.
 abbrev pub FormsReadAreShownWhole : Type 0
 FormsReadAreShownWhole =
     (s : Day) (form text : List ℕ) (reads : List DamagedPart) → IsTextOf s form text
     → AreReadOf s (damaged_parts_of form) reads
     → All IsReadWell reads × (text ≡ map (shown_byte (space_letter s)) (shown_letters reads) ++ 10 ∷ [])
 
--- In a form of one message, take any two parts with the same part number. At each place, their bodies have the same
--- letter, unless one of them lost it. This also holds of parts that aren't read.
+-- In a form of one message, take any two parts with the same part number. At each place that both bodies have, their
+-- letters are equal, unless one of the two letters is lost. This also holds if a part can't be read.
 abbrev pub RepetitionsAgree : Type 0
 RepetitionsAgree =
     (before after : List DamagedPart) (one other : DamagedPart) (numbers again : PartNumbers)

@@ -1,6 +1,6 @@
--- What may have been sent if letters were lost on the air. A lost letter is a `?` or `-`, a small letter means its
--- capital, and a tab means a space.
--- Code: the reader puts A in place of each lost letter, deciphers, and leaves out what it deciphered there.
+-- The letters that may have been sent if letters were lost on the air. A lost letter is a `?` or `-`, a small letter
+-- means its capital letter, and a tab means a space.
+-- Code: the reader puts A in place of each lost letter, deciphers, and leaves out the letters deciphered there.
 -- Test: tests/messages-as-worked
 use Rattle.std.specs.Prelude.{◌≡◌, ℕ, ◌-◌, ◌<◌, ◌==◌, ◌&&◌, ◌||◌, nat_le, Bool, IsTrue, IsFalse, if◌then◌else◌}
 use Rattle.std.specs.Prelude.{List, [], ◌∷◌, map, filter_map, Option, Some, None, option_map, unwrap_or}
@@ -13,12 +13,12 @@ use Rattle.kd_form.specs.Sending.{letter_of_byte}
 abbrev pub is_lost : ℕ → Bool
 is_lost byte = byte == 63 || byte == 45
 
--- the byte that is meant: the capital letter for a small letter, a space for a tab, otherwise the byte
+-- the byte that `byte` means: the capital letter for a small letter, a space for a tab, otherwise `byte` itself
 abbrev pub meant_byte : ℕ → ℕ
 meant_byte byte = if nat_le 97 byte && nat_le byte 122 then byte - 32 else if byte == 9 then 32 else byte
 
--- `sent` may have been sent where `byte` was received. For a lost letter, that is any capital letter; otherwise it is
--- the byte that is meant.
+-- The byte `sent` may have been sent where `byte` was received. For a lost letter, `sent` is any capital letter;
+-- otherwise it is the byte that `byte` means.
 pub data MayHaveBeen (byte sent : ℕ) : Type 0 where
   AnyLetter : IsTrue (is_lost byte) → IsTrue (is_capital sent) → MayHaveBeen byte sent
   AsReceived : IsFalse (is_lost byte) → sent ≡ meant_byte byte → MayHaveBeen byte sent
@@ -32,7 +32,7 @@ IsCompletion (byte ∷ received) [] = ⊥
 
 -- ---- Letters: `None` is a lost one.
 
--- the letter that a byte of a body stands for; `Some None` for a lost letter, `None` for no letter
+-- the letter that a byte of a body stands for; `Some None` for a lost letter, `None` if the byte isn't a letter
 abbrev pub received_letter : ℕ → Option (Option ℕ)
 received_letter byte = if is_lost byte then Some None else option_map Some (letter_of_byte None (meant_byte byte))
 
@@ -40,12 +40,12 @@ received_letter byte = if is_lost byte then Some None else option_map Some (lett
 abbrev pub received_letters : List ℕ → List (Option ℕ)
 received_letters body = filter_map received_letter body
 
--- The letter is the received one or, where a letter was lost, any letter.
+-- The letter is the received letter or, if the received letter is lost, any letter.
 abbrev pub IsLetterFor : Option ℕ → ℕ → Type 0
 IsLetterFor None letter = letter < 26
 IsLetterFor (Some got) letter = letter ≡ got
 
--- `whole` is the received text with some letter in place of each lost one.
+-- `whole` is the received text with some letter in place of each lost letter.
 abbrev pub Completes : List (Option ℕ) → List ℕ → Type 0
 Completes [] [] = Unit {0}
 Completes (got ∷ received) (letter ∷ whole) = IsLetterFor got letter × Completes received whole

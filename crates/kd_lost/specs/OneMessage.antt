@@ -10,13 +10,13 @@ use Rattle.kd_lost.specs.Lost.{is_lost}
 
 -- ---- Two parts that were read.
 
--- whether both letters may stand for one sent letter: they are equal, or one is lost
+-- whether both letters may come from one sent letter: they are equal, or at least one is lost
 abbrev pub letter_agrees : Option ℕ → Option ℕ → Bool
 letter_agrees (Some one) (Some other) = one == other
 letter_agrees (Some one) None = true
 letter_agrees None other = true
 
--- whether two bodies are equally long, and have agreeing letters at each place
+-- whether two bodies are equally long, and their letters agree at each place
 abbrev pub letters_agree : List (Option ℕ) → List (Option ℕ) → Bool
 letters_agree (letter ∷ one) (again ∷ other) = letter_agrees letter again && letters_agree one other
 letters_agree [] [] = true
@@ -30,8 +30,8 @@ same_letters (letter ∷ one) (again ∷ other) = letter == again && same_letter
 same_letters [] (again ∷ other) = false
 same_letters (letter ∷ one) [] = false
 
--- Whether the keys are the same. On a rotor machine, these are both keys of the heading; on the Converter M-209, the
--- letters of the indicators.
+-- Whether the keys are the same: on a rotor machine, both keys in the heading; on the Converter M-209, the letters of
+-- the indicators.
 abbrev pub same_keys : TextKeys → TextKeys → Bool
 same_keys (text_keys.Rotor one) (text_keys.Rotor other) =
     same_letters one.ground_setting other.ground_setting && same_letters one.enciphered_key other.enciphered_key
@@ -40,7 +40,7 @@ same_keys (text_keys.Pin one) (text_keys.Pin other) =
 same_keys (text_keys.Rotor one) (text_keys.Pin other) = false
 same_keys (text_keys.Pin one) (text_keys.Rotor other) = false
 
--- whether two texts may be of the same part, sent twice. A text that couldn't be read agrees with any.
+-- Whether two texts may be of one part, sent twice. A text that couldn't be read agrees with any text.
 abbrev pub texts_agree : Result DamagedText PartDamage → Result DamagedText PartDamage → Bool
 texts_agree (Ok one) (Ok other) =
     letters_agree one.received.items other.received.items && same_keys one.keys other.keys
@@ -49,7 +49,7 @@ texts_agree (Err damage) other = true
 
 -- ---- Any two parts, be they read or not.
 
--- whether two bodies have agreeing letters at each place, up to the end of the shorter body
+-- whether the letters of two bodies agree at each place, up to the end of the shorter body
 abbrev pub bodies_agree : List (Option ℕ) → List (Option ℕ) → Bool
 bodies_agree (letter ∷ one) (again ∷ other) = letter_agrees letter again && bodies_agree one other
 bodies_agree [] other = true
@@ -63,7 +63,7 @@ ends_within one other = is_err other.text || nat_le one.came other.came
 abbrev pub key_signs : List ℕ → List ℕ
 key_signs heading = later_words (later_words (later_words heading))
 
--- whether both signs may stand for one sent sign: they are equal, or one is lost
+-- whether both signs may come from one sent sign: they are equal, or at least one is lost
 abbrev pub sign_agrees : ℕ → ℕ → Bool
 sign_agrees sign again = sign == again || (is_lost sign || is_lost again)
 
@@ -81,7 +81,7 @@ keys_agree one other = signs_agree (key_signs one.heading.bytes) (key_signs othe
 abbrev pub count_signs : List ℕ → List ℕ
 count_signs heading = first_word (later_words (later_words heading))
 
--- whether both counts have equally many signs, and these agree
+-- whether both counts have equally many signs, and the signs agree
 abbrev pub same_count : List ℕ → List ℕ → Bool
 same_count one other = length one == length other && signs_agree one other
 
@@ -94,8 +94,8 @@ counts_agree one other =
 abbrev pub heading_repeats : DamagedPart → DamagedPart → Bool
 heading_repeats one other = counts_agree one other && keys_agree one other
 
--- Whether two parts may be the same part, sent twice. Their bodies, and the counts and keys in their headings, agree.
--- If both are read, their texts agree. If one is read, the other isn't longer.
+-- Whether two parts may be one part, sent twice. Their bodies agree, and so do the counts and the keys in their
+-- headings. If both parts are read, their texts agree. If one part is read, the other part doesn't have more letters.
 abbrev pub may_repeat : DamagedPart → DamagedPart → Bool
 may_repeat one other =
     bodies_agree one.body.items other.body.items
@@ -103,7 +103,7 @@ may_repeat one other =
 
 -- ---- The parts of a form.
 
--- Whether two headings can be of one message. They give the same number of parts. Their part numbers differ or, if
+-- Whether two headings can be of one message. Both give the same number of parts. Their part numbers differ or, if
 -- `agree` is true, may be equal.
 abbrev pub numbers_agree : PartNumbers → PartNumbers → Bool → Bool
 numbers_agree one other agree =
@@ -119,12 +119,12 @@ headings_agree None other agree = true
 abbrev pub parts_agree : DamagedPart → DamagedPart → Bool
 parts_agree one other = headings_agree one.numbers other.numbers (may_repeat one other)
 
--- whether the part can be of one message with each of the other parts
+-- whether the part can be of one message with each part of the list
 abbrev pub agrees_with_each : DamagedPart → List DamagedPart → Bool
 agrees_with_each part [] = true
 agrees_with_each part (other ∷ others) = parts_agree part other && agrees_with_each part others
 
--- whether any two of the parts can be of one message
+-- whether the parts, taken two by two, can always be of one message
 abbrev pub are_of_one_message : List DamagedPart → Bool
 are_of_one_message [] = true
 are_of_one_message (part ∷ parts) = agrees_with_each part parts && are_of_one_message parts

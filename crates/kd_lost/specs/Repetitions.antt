@@ -1,5 +1,5 @@
--- Parts that came several times: a letter that is lost in one copy is taken from another. Copies have the same part
--- number, the same keys, and equally many letters.
+-- Parts that came several times: a letter that one copy of a part lost is taken from another copy. Copies have the same
+-- part number, the same keys, and equally many letters.
 -- Test: tests/cases/curator-messages.toml
 use Rattle.std.specs.Prelude.{ℕ, ◌+◌, ◌==◌, ◌&&◌, Bool, true, false, if◌then◌else◌, is_some, slice_index_or}
 use Rattle.std.specs.Prelude.{List, [], ◌∷◌, ◌++◌, length, slice_get, Option, Some, None}
@@ -25,8 +25,8 @@ abbrev pub has_keys_of : DamagedText → DamagedText → Bool
 has_keys_of one other =
     same_keys one.keys other.keys && length one.received.items == length other.received.items
 
--- The letter at `place` of a copy of `shown`. It is `None` if the letter is lost, or the text isn't a copy. `same` says
--- whether both parts have the same number.
+-- The letter at `place` of a text, if this text is a copy of `shown`. It is `None` if the letter is lost, or the text
+-- isn't a copy. `same` says whether the two parts have the same number.
 abbrev pub letter_of_copy : Bool → DamagedText → ℕ → Option DamagedText → Option ℕ
 letter_of_copy same shown place None = None
 letter_of_copy same shown place (Some text) =
@@ -38,7 +38,7 @@ abbrev pub copied_letter : DamagedPart → DamagedText → ℕ → DamagedPart �
 copied_letter read shown place other =
     letter_of_copy (is_same_part read.numbers other.numbers) shown place (shown_text other)
 
--- the first letter or, if it is lost, the second
+-- the first letter or, if it is lost, the second letter
 abbrev pub letter_or : Option ℕ → Option ℕ → Option ℕ
 letter_or (Some letter) other = Some letter
 letter_or None other = other
@@ -56,33 +56,34 @@ abbrev pub completed_byte : Option ℕ → ℕ → ℕ
 completed_byte (Some letter) byte = if is_lost byte then letter + 65 else byte
 completed_byte None byte = byte
 
--- the bytes of a body, with letters from copies in place of lost ones; its first letter stands at `place`
+-- The bytes of a body, with letters from copies in place of lost letters. The first letter of these bytes has the place
+-- `place` in the body.
 abbrev pub completed_from : List DamagedPart → DamagedPart → DamagedText → ℕ → List ℕ → List ℕ
 completed_from copies read shown place [] = []
 completed_from copies read shown place (byte ∷ bytes) =
     completed_byte (known_letter copies read shown place) byte
     ∷ completed_from copies read shown (if is_some (received_letter byte) then place + 1 else place) bytes
 
--- The part, with letters from its copies in place of lost ones. A part without a text is unchanged. `read` is what was
--- read of the part alone.
+-- The part, with letters from its copies in place of lost letters. A part without a text is unchanged. `read` is what
+-- was read of the part alone.
 abbrev pub completed_with : List DamagedPart → DamagedPart → Option DamagedText → List ℕ → List ℕ
 completed_with copies read None part = part
 completed_with copies read (Some shown) part =
     first_line part ++ completed_from copies read shown 0 (from_line_end part)
 
--- The part, with letters from its copies in place of lost ones. `copies` are all parts, each read alone. The second
--- argument is what was read of the part to complete.
+-- The part, with letters from its copies in place of lost letters. `copies` are all parts, each read alone. The second
+-- argument is what was read of the part alone.
 abbrev pub completed_of : List DamagedPart → Option DamagedPart → List ℕ → List ℕ
 completed_of copies None part = part
 completed_of copies (Some read) part = completed_with copies read (shown_text read) part
 
--- the part at place `index` of the form, with letters from its copies in place of lost ones
+-- the part at place `index` of the form, with letters from its copies in place of lost letters
 abbrev pub completed_at : List DamagedPart → ℕ → List ℕ → List ℕ
 completed_at copies index part = completed_of copies (slice_get copies index) part
 
 -- ---- Which parts complete each other.
 
--- the parts that may complete each other: all, if they are of one message; otherwise none
+-- the parts that may complete each other: all parts, if they are of one message; otherwise none
 abbrev pub copies_in : List DamagedPart → List DamagedPart
 copies_in parts = if are_of_one_message parts then parts else []
 
@@ -97,6 +98,6 @@ are_kept (alone ∷ parts) (again ∷ others) = is_kept alone again && are_kept 
 are_kept [] (again ∷ others) = false
 are_kept (alone ∷ parts) [] = false
 
--- the parts read again, if each keeps its letters; otherwise the parts as each was read alone
+-- the parts read again, if each keeps its number and its letters; otherwise the parts as they were read alone
 abbrev pub completed_or : List DamagedPart → List DamagedPart → List DamagedPart
 completed_or alone again = if are_kept alone again then again else alone

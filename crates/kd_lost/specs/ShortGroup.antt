@@ -1,5 +1,5 @@
--- The first short group of a body: it doesn't have five letters, though letters follow it. `desk send` writes groups of
--- five.
+-- The first short group of a body: this group doesn't have five letters, and more letters follow. `desk send` writes
+-- groups of five letters.
 -- Test: tests/cases/curator-messages.toml
 use Rattle.std.specs.Prelude.{◌≡◌, ◌≢◌, ℕ, ◌+◌, ◌<◌, ◌/◌, ◌%◌, List, length, slice_index, take, Option, None, MatchOption}
 use Rattle.kd_lost.specs.Lost.{received_letter}

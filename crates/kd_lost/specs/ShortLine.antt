@@ -1,4 +1,5 @@
--- The first short line of a body: it has letters, but not 50, and letters follow it. `desk send` writes lines of 50.
+-- The first short line of a body: this line has letters, but not 50, and more letters follow. `desk send` writes lines
+-- of 50 letters.
 use Rattle.std.specs.Prelude.{ℕ, ◌+◌, ◌-◌, ◌==◌, ◌&&◌, not, nat_lt, Bool, if◌then◌else◌, List, [], ◌∷◌, length}
 use Rattle.std.specs.Prelude.{Option, None, Some}
 use Rattle.kd_lost.specs.declared.short_line.ShortLine.{ShortLine}
@@ -9,17 +10,17 @@ use Rattle.kd_lost.specs.Lost.{received_letters}
 abbrev pub letters_on : List ℕ → ℕ
 letters_on bytes = length (received_letters bytes)
 
--- whether a line with this many letters is neither empty nor full
+-- whether a line with this many letters has letters, but not 50
 abbrev pub is_short : ℕ → Bool
 is_short letters = not (letters == 0) && not (letters == 50)
 
--- the rest of the bytes from the start of each line after the first
+-- for each line after the first, the bytes from the start of this line to the end
 abbrev pub later_lines : List ℕ → List (List ℕ)
 later_lines [] = []
 later_lines (byte ∷ bytes) = if byte == 10 then bytes ∷ later_lines bytes else later_lines bytes
 
--- The first short line in a list. Each item begins with a line, and has all bytes after it, too. The first line has the
--- number `number`; the body has `all` letters.
+-- The first short line in a list. Each item of the list has a line, and then all later bytes of the body. The line in
+-- the first item has the number `number`. The body has `all` letters.
 abbrev pub short_line_from : ℕ → ℕ → List (List ℕ) → Option ShortLine
 short_line_from all number [] = None
 short_line_from all number (bytes ∷ others) =

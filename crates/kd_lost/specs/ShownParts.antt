@@ -11,7 +11,7 @@ use Rattle.kd_lost.specs.Texts.{lost_in, shown_text, text_within}
 
 -- ---- Numbers. Only a heading gives them: a part with a damaged heading has no number.
 
--- the number of parts that a heading gives; `later` if the heading is damaged
+-- the number of parts that a heading gives; if the heading is damaged, `later`
 abbrev pub parts_or : ℕ → Option PartNumbers → ℕ
 parts_or later (Some numbers) = numbers.parts
 parts_or later None = later
@@ -21,7 +21,7 @@ abbrev pub total_of : List DamagedPart → ℕ
 total_of [] = 0
 total_of (part ∷ parts) = parts_or (total_of parts) part.numbers
 
--- `others`, after the part number that a heading gives, if it gives one
+-- the numbers `others`, after the part number that a heading gives; only `others` if the heading is damaged
 abbrev pub number_before : Option PartNumbers → List ℕ → List ℕ
 number_before (Some numbers) others = numbers.part ∷ others
 number_before None others = others
@@ -31,7 +31,7 @@ abbrev pub numbers_of : List DamagedPart → List ℕ
 numbers_of [] = []
 numbers_of (part ∷ parts) = number_before part.numbers (numbers_of parts)
 
--- whether no number is less than the one before it, and the first isn't less than `before`
+-- whether each number is at least the number before it, and the first number is at least `before`
 abbrev pub are_in_order : ℕ → List ℕ → Bool
 are_in_order before [] = true
 are_in_order before (number ∷ numbers) = nat_le before number && are_in_order number numbers
@@ -47,26 +47,28 @@ times_of parts number = count_by (λ part. is_number number part.numbers) parts
 
 -- ---- Repetitions.
 
--- Whether the second text tells more than the first. It does if there is no first text, or if the second text lost
--- fewer letters. It also does if both lost equally many, and only the second has a right count (`counted`).
+-- Whether the second text tells more than the first text. It does in these cases:
+-- - There is a second text, but no first text.
+-- - The second text has fewer lost letters.
+-- - Both have equally many lost letters, and only the second text has a right count (`counted`).
 abbrev pub is_text_worse : Bool → Option DamagedText → Option DamagedText → Bool
 is_text_worse counted (Some one) (Some other) =
     nat_lt (lost_in other) (lost_in one) || (counted && lost_in other == lost_in one)
 is_text_worse counted None (Some other) = true
 is_text_worse counted one None = false
 
--- whether the second part's text tells more
+-- whether the text of the second part tells more than the text of the first part
 abbrev pub is_worse : DamagedPart → DamagedPart → Bool
 is_worse one other = is_text_worse (is_err one.text && is_ok other.text) (shown_text one) (shown_text other)
 
--- the later part, if its text tells more; otherwise the first part
+-- `later`, if its text tells more than the text of `part`; otherwise `part`
 abbrev pub better : DamagedPart → Option DamagedPart → Option DamagedPart
 better part None = Some part
 better part (Some later) =
     if is_worse part later then Some later else Some part
 
--- The part that is shown under this number: the one whose text tells most. If several tell most, it is the first of
--- them.
+-- The part that is shown under this number: the part whose text tells most. If the texts of several parts tell most, it
+-- is the first of these parts.
 abbrev pub shown_under : List DamagedPart → ℕ → Option DamagedPart
 shown_under [] number = None
 shown_under (part ∷ parts) number =
@@ -77,7 +79,7 @@ abbrev pub text_in : Option DamagedPart → Option DamagedText
 text_in None = None
 text_in (Some part) = shown_text part
 
--- Whether the part that is shown under this number has all letters of the text. True if there is no number, or no text.
+-- Whether the part that is shown under this number has all letters of `text`. True if there is no number, or no text.
 abbrev pub is_covered_by : List DamagedPart → Option DamagedText → Option PartNumbers → Bool
 is_covered_by parts text None = true
 is_covered_by parts text (Some numbers) = text_within text (text_in (shown_under parts numbers.part))
@@ -85,12 +87,13 @@ is_covered_by parts text (Some numbers) = text_within text (text_in (shown_under
 abbrev pub is_covered : List DamagedPart → DamagedPart → Bool
 is_covered parts part = is_covered_by parts (shown_text part) part.numbers
 
--- whether each part in `parts` has its letters in the part of `all` that is shown under its number
+-- whether the letters of each part in `parts` are in the part of `all` that is shown under the same number
 abbrev pub are_covered : List DamagedPart → List DamagedPart → Bool
 are_covered all [] = true
 are_covered all (part ∷ parts) = is_covered all part && are_covered all parts
 
--- whether the parts are shown as one message: any two can be of one message, and no received letter is left out
+-- Whether the parts are shown as one message. Any two of them can always be of one message, and no received letter is
+-- left out.
 abbrev pub is_one_message : List DamagedPart → Bool
 is_one_message parts = are_of_one_message parts && are_covered parts parts
 
@@ -114,8 +117,8 @@ IsNumberWhole parts number = MatchOption (shown_under parts number) ⊥ IsReadWh
 abbrev pub MayBeOfTheDay : DamagedPart → Type 0
 MayBeOfTheDay part = IfSome (shown_text part) (λ shown. shown.group ≢ Wrong)
 
--- The form is one whole message. The parts are shown as one message. Each part has a number, and none is of another day
--- or network. Under each number, from 1 to the number of parts, there is a text without a lost letter.
+-- The form is one whole message. The parts are shown as one message. Each part has a number, and no part is of another
+-- day or network. Under each number, from 1 to the number of parts, a text without a lost letter is shown.
 pub record IsWhole (parts : List DamagedPart) : Type 0 where
   pub one_message : IsTrue (is_one_message parts)
   pub numbered : All (λ part. part.numbers ≢ None) parts

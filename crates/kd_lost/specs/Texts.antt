@@ -11,7 +11,7 @@ abbrev pub text_or : Result DamagedText PartDamage → Option DamagedText → Op
 text_or (Ok shown) counted = Some shown
 text_or (Err damage) counted = counted
 
--- The text that is shown of a part. If its count is wrong or damaged, this is its text by count.
+-- The text that is shown of a part: its text or, if there is none, its text by count.
 abbrev pub shown_text : DamagedPart → Option DamagedText
 shown_text part = text_or part.text part.by_count
 
@@ -19,20 +19,20 @@ shown_text part = text_or part.text part.by_count
 abbrev pub lost_in : DamagedText → ℕ
 lost_in shown = count_by (λ letter. is_none letter) shown.letters.items
 
--- whether the first letter is lost, or the second is the same
+-- whether the first letter is lost, or the second letter is equal to it
 abbrev pub letter_within : Option ℕ → Option ℕ → Bool
 letter_within None again = true
 letter_within (Some letter) (Some again) = letter == again
 letter_within (Some letter) None = false
 
--- whether `other` has each letter of `one` that isn't lost, at the same place
+-- whether each letter of `one` that isn't lost stands in `other`, at the same place
 abbrev pub letters_within : List (Option ℕ) → List (Option ℕ) → Bool
 letters_within [] other = true
 letters_within (letter ∷ one) (again ∷ other) = letter_within letter again && letters_within one other
 letters_within (letter ∷ one) [] = is_none letter && letters_within one []
 
--- Whether the second text has each letter of the first, and no more lost letters than it. True if there is no first
--- text.
+-- Whether the second text has each letter of the first text, and at most as many lost letters. True if there is no
+-- first text.
 abbrev pub text_within : Option DamagedText → Option DamagedText → Bool
 text_within None other = true
 text_within (Some one) (Some other) =

@@ -1,4 +1,4 @@
--- The text of a part in which no letter is lost, whatever its group or its list letters.
+-- The text of a part in which no letter is lost, whatever letters its group or its list letters are.
 -- Test: tests/messages-as-worked
 use Rattle.std.specs.Prelude.{◌≡◌, ℕ, ◌-◌, List, length, take, drop, slice_index, All, IsTrue, Option, Some, None}
 use Rattle.kd_tables.specs.Text.{is_text_byte}
@@ -26,14 +26,14 @@ pub record IsPinText (s : Day) (letters text : List ℕ) : Type 0 where
   pub is_key : IsInternalKey (enciphered_choice s (keys_of_body letters)) internal
   pub is : text ≡ cipher_from s internal (text_of_body letters)
 
--- `text` is the text of the body `letters`, whatever its group or list letters are. If the heading has an indicator,
--- the body is a rotor machine's; otherwise the Converter's.
+-- `text` is the text of the body `letters`, whatever its group or list letters are. If there is an indicator, the body
+-- is a rotor machine's; otherwise it is a Converter's.
 abbrev pub IsLettersText : Day → Option Indicator → List ℕ → List ℕ → Type 0
 IsLettersText s (Some i) letters text = text ≡ cipher_from s (deciphered_key s i) (drop 5 letters)
 IsLettersText s None letters text = IsPinText s letters text
 
--- `part` has the heading `h` and the text `text`, whatever its group or list letters are. Besides, `receive` tests only
--- these letters, and the number of the part.
+-- `part` has the heading `h` and the text `text`, whatever its group or list letters are. `receive` makes these tests
+-- and two more: of the group or the list letters, and of the numbers in the heading.
 pub record IsPartText (s : Day) (part : List ℕ) (h : Heading) (text : List ℕ) : Type 0 where
   pub body : List ℕ
   pub has : HasHeading s part h body

@@ -91,7 +91,7 @@ fn list_of(received: &[Option<Letter>]) -> ArrayVec<Option<Letter>, 520>
 
 /// Deciphers `received`, the letters of a Converter's text, with `keys`; lost letters stay lost.
 ///
-/// Returns the internal key as well.
+/// Also returns the internal key.
 fn decipher_with_keys(
     day: &SheetDay,
     keys: &PinKeys,
@@ -113,7 +113,7 @@ fn decipher_with_keys(
     }
 }
 
-/// Deciphers `received` with the letters of `window` in the windows; lost letters stay lost.
+/// Deciphers `received`; at the start, the windows show the letters `window`. Lost letters stay lost.
 fn decipher_covered(
     machine: &mut DayMachine,
     window: &[Letter],

@@ -1,4 +1,4 @@
-//! Reads a part whose letter count is wrong or damaged. The number of letters that came stands for the count.
+//! Reads a part whose letter count is wrong or damaged. The number of letters that came is used in place of the count.
 ghost use Rattle.std.specs.Prelude.{◌≡◌, ◌++◌, drop, flat_map, MatchResult};
 ghost use Rattle.kd_lost.specs.ByCount.{IsFoundIn, counted_part, explains, first_word, from_blank, heading_count, later_words};
 ghost use Rattle.kd_lost.specs.ByCount.{is_count_doubted, numbers_by_count, part_line, telling_line};
@@ -14,7 +14,7 @@ use itoa::Buffer;
 use kd_state::SheetDay;
 use std::alloc::Global;
 
-/// The short line of `part`, if its missing letters explain the heading's count; otherwise `None`.
+/// The short line of `part`, if the heading's count is right once this line has 50 letters; otherwise `None`.
 pub fn part_line(part: &DamagedPart) -> Option<ShortLine>
     ensures { result ≡ part_line part.now }
 {
@@ -30,7 +30,7 @@ fn telling_line(counted: usize, came: usize, short: &Option<ShortLine>) -> Optio
     }
 }
 
-/// Whether the heading's count `counted` would be right if the line `short` had 50 letters.
+/// Whether the heading's count `counted` would be right if line `short` had all of its 50 letters; `came` letters came.
 fn explains(counted: usize, came: usize, short: ShortLine) -> bool
     ensures { result ≡ explains counted came short }
 {
@@ -79,8 +79,8 @@ pub(crate) fn find_by_count(
     }
 }
 
-/// The numbers of a part. If the heading is valid as it came, they are its numbers. If it is damaged, and a text was
-/// found by count, they are the numbers found with the text.
+/// The numbers of a part. If the heading as it came is valid, its numbers. If the heading is damaged, and a text was
+/// found by count, the numbers that were found with this text.
 pub(crate) fn numbers_by_count(
     given: Option<PartNumbers>,
     counted: Option<PartNumbers>,

@@ -10,7 +10,8 @@ use arrayvec::ArrayVec;
 use kd_form::keys::PinKeys;
 use kd_tables::Letter;
 
-/// Puts the keys together from `start` and `end`, the eight letters of the keys before and after the text.
+/// Puts the keys together from the eight key letters before the text, `start`, and the eight key letters after it,
+/// `end`.
 pub(crate) fn keys_of_copies(
     start: &[Option<Letter>],
     end: &[Option<Letter>],

@@ -2,12 +2,12 @@
 
 /// Why the text of a part can't be read.
 ///
-/// The key letters of a Converter M-209's part have numbers. The chosen letter has number 0. The external letter of a
+/// The key letters of a Converter M-209's part are numbered. The chosen letter is number 0. The external letter of a
 /// wheel has the wheel's number, from 1 to 6.
 #[derive(Clone, Copy, Debug, PartialEq, Eq)]
 pub enum PartDamage {
-    /// The part doesn't begin with a valid heading of the day's model. Lost letters in the heading's keys alone don't
-    /// cause this fault.
+    /// The part doesn't begin with a valid heading of the day's model. A heading may be valid though letters of its
+    /// keys are lost.
     HeadingDamaged,
     /// A letter of the ground setting or of the enciphered message key is lost in the heading.
     HeadingKeyLost,

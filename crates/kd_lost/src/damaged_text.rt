@@ -38,13 +38,13 @@ pub struct PinTextKeys {
     pub internal: ArrayVec<Letter, 6>,
 }
 
-/// Whether the letters by which a receiver knows the day are the day's.
+/// Whether the letters that tell a receiver the day are the day's letters.
 #[derive(Clone, Copy, Debug, PartialEq, Eq)]
 pub enum GroupTest {
-    /// These letters are the day's.
+    /// These letters are the day's letters.
     Right,
-    /// These letters aren't the day's. The part was made with another day's settings, or the letters were changed on
-    /// the air.
+    /// These letters aren't the day's letters. The part was made with another day's settings, or the letters were
+    /// changed on the air.
     Wrong,
     /// These letters weren't compared: a letter of the group, or a list letter in both copies, is lost.
     NotTested,

@@ -20,13 +20,13 @@ use crate::tidy::{respaced, tidied};
 use kd_state::SheetDay;
 use std::alloc::Global;
 
-/// The most parts that are read of a form. A message has at most 99 parts, but some may come twice.
+/// The greatest number of parts that are read of a form. A message has at most 99 parts, but some parts may come twice.
 const MOST_PARTS: usize = 255;
 
 /// Why a form in which letters were lost isn't read.
 #[derive(Clone, Copy, Debug, PartialEq, Eq)]
 pub enum DamagedFormFault {
-    /// There was no memory for what is read of the parts.
+    /// There wasn't enough memory to read the parts.
     NoMemory,
     /// The form has more than 255 parts.
     TooManyParts,
@@ -34,9 +34,10 @@ pub enum DamagedFormFault {
 
 /// Reads each part of `form`. A letter that is lost in one copy of a part is taken from another copy.
 ///
-/// A part begins at each line that is taken for a heading. The line begins like `PART`. It also has a digit or a slash,
-/// or a lost sign in place of its number. Lines before the first heading are passed over, unless one of them may have
-/// been a heading. A form that `receive` reads is cut into the same parts.
+/// A part begins at each line that is taken for a heading. Such a line begins like `PART`, and has a digit, a slash or
+/// a lost sign in place of its number. Lines before the first heading are passed over, unless one of these lines may
+/// belong to a part: it begins like `PART`, or with two groups of five letters. If `receive` reads a form, it cuts the
+/// form into the same parts as this function.
 pub fn read_damaged_form(
     alloc: Global,
     day: &SheetDay,
@@ -59,8 +60,8 @@ pub fn read_damaged_form(
     }
 }
 
-/// Reads each part of `form`, with letters from `copies` in place of lost ones. `copies` is empty, or has the parts of
-/// the form, each read alone.
+/// Reads each part of `form`, with letters from `copies` in place of lost letters. `copies` is empty, or has the parts
+/// of the form, each read alone.
 fn read_parts(
     alloc: Global,
     day: &SheetDay,
@@ -92,8 +93,8 @@ fn read_parts(
     Ok(parts)
 }
 
-/// Reads the part at place `index` of its form. It begins on line `line`, and letters from its copies stand in place of
-/// lost ones.
+/// Reads the part at place `index` of its form, with letters from its copies in place of lost letters. The part begins
+/// on line `line`.
 fn read_one(
     alloc: Global,
     day: &SheetDay,
@@ -142,8 +143,8 @@ fn read_placed(
     }
 }
 
-/// Reads `part` as it stands, if its first line is a heading. Otherwise reads it with single spaces between the words
-/// of this line.
+/// Reads `part` as it stands, if its first line is a heading. Otherwise reads `part` with single spaces between the
+/// words of the first line.
 fn read_as_meant(
     alloc: Global,
     day: &SheetDay,
@@ -176,7 +177,8 @@ fn is_headed(day: &SheetDay, part: &[u8]) -> bool
     read_damaged_part(day, part).numbers.is_some()
 }
 
-/// Reads `part` as it stands. If its count is wrong or damaged, also reads it with the number of letters that came.
+/// Reads `part` as it stands. If the count in its heading may be wrong, also reads `part` by count, with the number of
+/// letters that came.
 fn read_with_count(
     alloc: Global,
     day: &SheetDay,

@@ -2,8 +2,8 @@
 ghost use Rattle.kd_lost.specs.Laws.{CiphersAgreeWhereTextsDo, PartsReadAreShownWhole, PartsReadHaveNumbers};
 ghost use Rattle.kd_lost.specs.Laws.{FormsReadAreShownWhole, FormsReadAreTidy, FormsReadHaveTheirParts, RepetitionsAgree};
 
-/// If two texts have equal letters at a place, both are enciphered to equal letters there. The other letters may
-/// differ.
+/// If two texts have the same letter at a place, their ciphers have the same letter at this place. At other places, the
+/// two texts may differ.
 #[tactic(auto, using(crate::proofs::Ciphers::ciphers_agree))]
 pub fn ciphers_agree_where_texts_do()
     ensures { CiphersAgreeWhereTextsDo }
@@ -15,16 +15,17 @@ pub fn parts_read_are_shown_whole()
     ensures numbers { PartsReadHaveNumbers }
 {}
 
-/// If `receive` reads a form, this crate cuts it into the same parts, and reads the same text, without a warning.
+/// If `receive` reads a form, this crate cuts the form into the same parts, and reads the same text, without a warning.
 ///
-/// Nothing before the form's first heading is passed over.
+/// No line before the form's first heading is passed over.
 pub fn forms_read_are_shown_whole()
     ensures tidy { FormsReadAreTidy }
     ensures parts { FormsReadHaveTheirParts }
     ensures shown { FormsReadAreShownWhole }
 {}
 
-/// In a form of one message, parts with the same number don't have different letters at any place.
+/// In a form of one message, take two parts with the same number. At each place that both bodies have, their letters
+/// are equal, unless one of the two letters is lost.
 #[tactic(auto, using(crate::proofs::OneMessage::repetitions_agree))]
 pub fn repetitions_agree()
     ensures { RepetitionsAgree }

@@ -1,8 +1,8 @@
-//! Forms in which letters were lost on the air: everything that can be read of them without guessing.
+//! Reads all parts of a form in which letters were lost on the air, as far as this is possible without guessing.
 //!
-//! A lost letter is a `?` or `-`, and a small letter means its capital. The text of a part is shown without the letters
-//! that were lost. A part whose keys were lost isn't read. Parts may come twice or in another order. This crate also
-//! says which of them are shown, and whether they are one whole message.
+//! A lost letter is a `?` or `-`, and a small letter means its capital letter. The text of a part is shown without the
+//! lost letters. A part whose keys were lost isn't read. Parts may come twice or in another order. This crate also says
+//! which parts are shown, and whether the shown parts are one whole message.
 #![tactic(auto)]
 
 mod body;

@@ -13,7 +13,7 @@ use crate::part::{DamagedPart, PartNumbers};
 use crate::received::is_lost;
 use kd_tables::Letter;
 
-/// Whether any two of the parts can be of one message.
+/// Whether the parts, taken two by two, can always be of one message.
 pub fn are_of_one_message(parts: &[DamagedPart]) -> bool
     ensures { result ≡ are_of_one_message parts.now }
 {
@@ -42,7 +42,7 @@ fn parts_agree(one: &DamagedPart, other: &DamagedPart) -> bool
     }
 }
 
-/// Whether two parts may be the same part, sent twice.
+/// Whether two parts may be one part, sent twice.
 fn may_repeat(one: &DamagedPart, other: &DamagedPart) -> bool
     ensures { result ≡ may_repeat one.now other.now }
 {
@@ -109,7 +109,7 @@ fn signs_agree(one: &[u8], other: &[u8]) -> bool
     true
 }
 
-/// Whether both signs may stand for one sent sign: they are equal, or one is lost.
+/// Whether both signs may come from one sent sign: they are equal, or at least one is lost.
 fn sign_agrees(sign: u8, again: u8) -> bool
     ensures { result ≡ sign_agrees sign again }
 {
@@ -123,7 +123,7 @@ fn ends_within(one: &DamagedPart, other: &DamagedPart) -> bool
     other.text.is_err() || one.came <= other.came
 }
 
-/// Whether two bodies have agreeing letters at each place, up to the end of the shorter body.
+/// Whether the letters of two bodies agree at each place, up to the end of the shorter body.
 fn bodies_agree(one: &[Option<Letter>], other: &[Option<Letter>]) -> bool
     ensures { result ≡ bodies_agree one.now other.now }
 {
@@ -135,14 +135,14 @@ fn bodies_agree(one: &[Option<Letter>], other: &[Option<Letter>]) -> bool
     true
 }
 
-/// Whether two headings can be of one message. `agree` says whether their parts may be the same part.
+/// Whether two headings can be of one message. `agree` says whether the two parts may be one part, sent twice.
 fn numbers_agree(one: &PartNumbers, other: &PartNumbers, agree: bool) -> bool
     ensures { result ≡ numbers_agree one.now other.now agree }
 {
     one.parts == other.parts && (one.part != other.part || agree)
 }
 
-/// Whether two texts may be of the same part, sent twice. A text that couldn't be read agrees with any text.
+/// Whether two texts may be of one part, sent twice. A text that couldn't be read agrees with any text.
 fn texts_agree(
     one: &Result<DamagedText, PartDamage>,
     other: &Result<DamagedText, PartDamage>,
@@ -158,7 +158,7 @@ fn texts_agree(
     }
 }
 
-/// Whether two bodies are equally long, and have agreeing letters at each place.
+/// Whether two bodies are equally long, and their letters agree at each place.
 fn letters_agree(one: &[Option<Letter>], other: &[Option<Letter>]) -> bool
     ensures { result ≡ letters_agree one.now other.now }
 {
@@ -170,7 +170,7 @@ fn letters_agree(one: &[Option<Letter>], other: &[Option<Letter>]) -> bool
     one.is_empty() && other.is_empty()
 }
 
-/// Whether both letters may stand for one sent letter: they are equal, or one is lost.
+/// Whether both letters may come from one sent letter: they are equal, or at least one is lost.
 fn letter_agrees(one: &Option<Letter>, other: &Option<Letter>) -> bool
     ensures { result ≡ letter_agrees one.now other.now }
 {

@@ -34,7 +34,7 @@ use kd_tables::Letter;
 #[derive(Drop)]
 pub struct DamagedPart {
     /// The numbers in the heading; `None` if the heading is damaged. If only the count is damaged, and the part is read
-    /// by count, `letters` is how many letters came.
+    /// by count, `letters` is the number of letters that came.
     pub numbers: Option<PartNumbers>,
     /// The first signs of the heading line as it came, at most 64. `?` stands for each sign that may not be in a
     /// heading.
@@ -47,20 +47,21 @@ pub struct DamagedPart {
     pub text: Result<DamagedText, PartDamage>,
     /// The first wrong sign of the body, if it has one.
     pub wrong_sign: Option<WrongSign>,
-    /// The text by count, if the heading's count is wrong or damaged. It is read with the number of letters that came
-    /// as the count.
+    /// The text by count, if the heading's count may be wrong. To read this text, the number of letters that came is
+    /// used as the count.
     pub by_count: Option<DamagedText>,
     /// The first line of the body that has letters, but not 50, though letters follow it. `None` if there is none.
     pub short_line: Option<ShortLine>,
     /// The number of the first group that doesn't have five letters, though letters follow it. `None` if there is none.
     pub short_group: Option<usize>,
-    /// Whether needless blanks in the part's first line were dropped. They are if the line is no heading with them.
+    /// Whether needless blanks in the part's first line were dropped. They are dropped if the line isn't a heading
+    /// otherwise.
     pub respaced: bool,
     /// Whether each byte of the part means itself: none is a small letter or a tab.
     pub as_spelled: bool,
     /// Whether the part looks like an order to send instead of a received form.
     pub is_order: bool,
-    /// The line of the form on which the part begins, counted from 1. It is 1 if the part is read by itself.
+    /// The line of the form on which the part begins, counted from 1. For a part that is read without a form, it is 1.
     pub line: usize,
 }
 
@@ -77,8 +78,8 @@ pub struct PartNumbers {
 
 /// Reads a part of a form, without the letters that were lost.
 ///
-/// `day` says which headings are valid. If no letter is lost, the text is the one that `receive` gives. If you know a lost
-/// letter of a key, put it into the form, and read the form again.
+/// `day` says which headings are valid. If no letter is lost, the text is the one that `receive` gives. If a letter of
+/// a key is lost, but you know it, put it into the form, and read the form again.
 pub fn read_damaged_part(day: &SheetDay, part: &[u8]) -> DamagedPart
     ensures numbers { AreNumbersRead day.now (first_line part.now) result.numbers }
     ensures heading { result.heading.bytes ≡ heading_signs (first_line part.now) }
@@ -101,7 +102,7 @@ pub fn read_damaged_part(day: &SheetDay, part: &[u8]) -> DamagedPart
     read
 }
 
-/// Reads a part; the fields `as_spelled` and `is_order` are still to be set.
+/// Reads a part, but doesn't yet set the fields `as_spelled` and `is_order`.
 fn read_split_part(day: &SheetDay, part: &[u8]) -> DamagedPart
     ensures numbers { AreNumbersRead day.now (first_line part.now) result.numbers }
     ensures heading { result.heading.bytes ≡ heading_signs (first_line part.now) }
@@ -188,7 +189,7 @@ fn numbers_of(heading: &Heading) -> PartNumbers
     }
 }
 
-/// Reads the body of a part with the heading `heading` in its line `line`.
+/// Reads the body of a part whose heading is `heading`, received as `line`.
 fn read_body_after(
     day: &SheetDay,
     heading: &Heading,

@@ -1,4 +1,4 @@
-//! The bytes of a part as they were received: which letters they stand for, and which of them are lost.
+//! The bytes of a part as they were received: the letters for which they stand, and the lost letters among them.
 ghost use Rattle.std.specs.Prelude.{◌≡◌, ◌≤◌, ◌++◌, ◌↔◌, List, length, map, take, All, Any, Contains, None, IsTrue, IsFalse, is_some};
 ghost use Rattle.std.specs.List.{count_by};
 ghost use Rattle.std.specs.Option.{option_to_list};
@@ -18,7 +18,7 @@ pub(crate) fn is_lost(byte: u8) -> bool
     byte == b'?' || byte == b'-'
 }
 
-/// The byte that `byte` means: the capital letter for a small one, a space for a tab, otherwise `byte` itself.
+/// The byte that `byte` means: the capital letter for a small letter, a space for a tab, otherwise `byte` itself.
 pub(crate) fn meant_byte(byte: u8) -> u8
     ensures { result ≡ meant_byte byte }
 {
@@ -54,7 +54,7 @@ pub(crate) fn filled_line(line: &[u8]) -> ArrayVec<u8, 64>
     kept
 }
 
-/// Whether a letter of `line` is lost.
+/// Whether `line` has a sign for a lost letter.
 pub(crate) fn has_lost_byte(line: &[u8]) -> bool
     ensures lost { OnTrue result (Any (λ byte. IsTrue (is_lost byte)) line.now) }
     ensures none { OnFalse result (All (λ byte. IsFalse (is_lost byte)) line.now) }
@@ -112,8 +112,8 @@ pub(crate) fn body_letters(body: &[u8]) -> ArrayVec<Option<Letter>, 525>
     letters
 }
 
-/// The letter that a byte of a body counts as. It is `Some(None)` for a lost letter, and for a sign that may not be in
-/// a body.
+/// The letter for a byte of a body, when parts are compared. It is `Some(None)` for a lost letter, and for a sign that
+/// may not be in a body.
 fn body_letter(byte: u8) -> Option<Option<Letter>>
     ensures { result ≡ body_letter byte }
 {
@@ -132,14 +132,14 @@ pub(crate) fn letter_count(body: &[u8]) -> usize
     body.iter().filter(|byte| is_received(byte)).count()
 }
 
-/// Whether `byte` is a letter, or a lost one.
+/// Whether `byte` stands for a letter, received or lost.
 pub(crate) fn is_received(byte: &u8) -> bool
     ensures { result ≡ is_some (received_letter byte.now) }
 {
     received_letter(*byte).is_some()
 }
 
-/// Appends `letter`, received or lost, if there is one, and there is room for it.
+/// Appends `letter`, received or lost. Appends nothing if there is no letter, or no room.
 fn keep_letter(letters: &mut ArrayVec<Option<Letter>, 525>, letter: Option<Option<Letter>>)
     ensures { letters.old.items ≡ take 525 letters.old.items
         → letters.new.items ≡ take 525 (letters.old.items ++ option_to_list letter) }
@@ -149,7 +149,7 @@ fn keep_letter(letters: &mut ArrayVec<Option<Letter>, 525>, letter: Option<Optio
     }
 }
 
-/// The letter that a byte of a body stands for; `Some(None)` for a lost letter, `None` for no letter.
+/// The letter that a byte of a body stands for; `Some(None)` for a lost letter, `None` if the byte isn't a letter.
 fn received_letter(byte: u8) -> Option<Option<Letter>>
     ensures { result ≡ received_letter byte }
 {

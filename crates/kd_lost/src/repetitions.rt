@@ -1,4 +1,4 @@
-//! Parts that came several times: a letter that is lost in one copy is taken from another.
+//! Parts that came several times: a letter that one copy of a part lost is taken from another copy.
 ghost use Rattle.std.specs.Prelude.{◌≡◌, ◌++◌, MatchResult, None, Some, slice_index_or};
 ghost use Rattle.kd_lost.specs.Repetitions.{are_kept, completed_byte, completed_from, completed_with, copied_letter};
 ghost use Rattle.kd_lost.specs.Repetitions.{has_keys_of, is_kept, is_same_part, known_letter};
@@ -13,8 +13,8 @@ use crate::tidy::line_and_rest;
 use kd_tables::Letter;
 use std::alloc::Global;
 
-/// The bytes of `part`, with letters from its copies in place of lost ones. `read` is the part as it was read alone,
-/// and `shown` is its text.
+/// The bytes of `part`, with letters from its copies in place of lost letters. `read` is the part as it was read alone,
+/// and `shown` is the text of `read`.
 pub(crate) fn completed_part(
     alloc: Global,
     copies: &[DamagedPart],
@@ -37,7 +37,7 @@ pub(crate) fn completed_part(
     Ok(bytes)
 }
 
-/// Appends the bytes of a body, with letters from the part's copies in place of lost ones.
+/// Appends the bytes of a body, with letters from the part's copies in place of lost letters.
 fn push_completed(
     bytes: &mut Vec<u8>,
     copies: &[DamagedPart],

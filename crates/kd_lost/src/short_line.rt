@@ -8,7 +8,7 @@ use kd_state::split_once;
 /// A line of a body that has letters, but not 50, though letters follow it.
 #[derive(Clone, Copy, Debug, PartialEq, Eq)]
 pub struct ShortLine {
-    /// The line of the part, counted from 1. On line 1 stands the heading.
+    /// The line's number in the part, counted from 1. The heading is line 1.
     pub line: usize,
     /// How many letters the line has, lost ones included.
     pub letters: usize,
@@ -16,7 +16,7 @@ pub struct ShortLine {
     pub before: usize,
 }
 
-/// The first short line of `body`, the bytes after the heading line of a part.
+/// The first short line of `body`. `body` has the bytes after the heading line of a part.
 pub(crate) fn first_short_line(body: &[u8]) -> Option<ShortLine>
     ensures { result ≡ short_line body.now }
 {
@@ -40,15 +40,15 @@ pub(crate) fn first_short_line(body: &[u8]) -> Option<ShortLine>
     None
 }
 
-/// Whether a line with this many letters is neither empty nor full, and letters follow it. `rest` has the bytes after
-/// the line.
+/// Whether a line with this many letters has letters, but not 50, and letters follow it. `rest` has the bytes after the
+/// line.
 fn is_short_before(letters: usize, rest: &[u8]) -> bool
     ensures { result ≡ (is_short letters && nat_lt 0 (letters_on rest.now)) }
 {
     is_short(letters) && letters_on(rest) > 0
 }
 
-/// Whether a line with this many letters is neither empty nor full.
+/// Whether a line with this many letters has letters, but not 50.
 fn is_short(letters: usize) -> bool
     ensures { result ≡ is_short letters }
 {

@@ -24,7 +24,7 @@ pub fn total_of(parts: &[DamagedPart]) -> u8
     }
 }
 
-/// Whether no part number is less than the one before it, and the first isn't less than `before`.
+/// Whether each part number is at least the part number before it, and the first part number is at least `before`.
 ///
 /// Parts without a number don't count.
 pub fn are_in_order(before: u8, parts: &[DamagedPart]) -> bool
@@ -59,8 +59,8 @@ pub fn times_of(parts: &[DamagedPart], number: u16) -> usize
         .count()
 }
 
-/// The part that is shown under this number: the one whose text tells most. If several tell most, it is the first of
-/// them.
+/// The part that is shown under this number: the part whose text tells most. If the texts of several parts tell most,
+/// it is the first of these parts.
 pub fn shown_under(parts: &[DamagedPart], number: u16) -> Option<&DamagedPart>
     ensures { MatchOption result
         (shown_under parts.now number ≡ None)
@@ -79,8 +79,10 @@ pub fn shown_under(parts: &[DamagedPart], number: u16) -> Option<&DamagedPart>
     }
 }
 
-/// Whether the text of `other` tells more than the text of `one`. It does if `one` has no text, or if `other` lost
-/// fewer letters. It also does if both lost equally many, and only the count of `other` is right.
+/// Whether the text of `other` tells more than the text of `one`. It does in these cases:
+/// - `other` has a text, but `one` has none.
+/// - `other` has fewer lost letters.
+/// - Both have equally many lost letters, and only `other` has a right count.
 fn is_worse(one: &DamagedPart, other: &DamagedPart) -> bool
     ensures { result ≡ is_worse one.now other.now }
 {
@@ -94,14 +96,15 @@ fn is_worse(one: &DamagedPart, other: &DamagedPart) -> bool
     }
 }
 
-/// Whether the parts are shown as one message: any two can be of one message, and no received letter is left out.
+/// Whether the parts are shown as one message. Taken two by two, they can always be of one message, and no received
+/// letter is left out.
 pub fn is_one_message(parts: &[DamagedPart]) -> bool
     ensures { result ≡ is_one_message parts.now }
 {
     are_of_one_message(parts) && are_covered(parts, parts)
 }
 
-/// Whether each part of `parts` has its letters in the part of `all` that is shown under its number.
+/// Whether the letters of each part of `parts` are in the part of `all` that is shown under the same number.
 fn are_covered(all: &[DamagedPart], parts: &[DamagedPart]) -> bool
     ensures { result ≡ are_covered all.now parts.now }
 {
@@ -156,7 +159,7 @@ fn are_numbered(parts: &[DamagedPart]) -> bool
     }
 }
 
-/// Whether neither group nor list letters show that a part is of another day or network.
+/// Whether no group and no list letters show that a part is of another day or network.
 fn may_be_of_the_day(parts: &[DamagedPart]) -> bool
     ensures { IsTrue result ↔ All MayBeOfTheDay parts.now }
 {

@@ -6,7 +6,7 @@ use crate::damaged_text::DamagedText;
 use crate::part::DamagedPart;
 use kd_tables::Letter;
 
-/// The text that is shown of a part. If its count is wrong or damaged, this is its text by count.
+/// The text that is shown of a part: its text or, if there is none, its text by count.
 pub fn shown_text(part: &DamagedPart) -> Option<&DamagedText>
     ensures { MatchOption result
         (shown_text part.now ≡ None)
@@ -19,7 +19,7 @@ pub fn shown_text(part: &DamagedPart) -> Option<&DamagedText>
     }
 }
 
-/// Whether the text of `other` has each letter of the text of `one`, and no more lost letters than it.
+/// Whether the text of `other` has each letter of the text of `one`, and at most as many lost letters.
 pub(crate) fn is_text_within(one: &DamagedPart, other: &DamagedPart) -> bool
     ensures { result ≡ text_within (shown_text one.now) (shown_text other.now) }
 {
@@ -33,7 +33,7 @@ pub(crate) fn is_text_within(one: &DamagedPart, other: &DamagedPart) -> bool
     }
 }
 
-/// Whether `other` has each letter of `one` that isn't lost, at the same place.
+/// Whether each letter of `one` that isn't lost stands in `other`, at the same place.
 fn are_letters_within(one: &[Option<Letter>], other: &[Option<Letter>]) -> bool
     ensures { result ≡ letters_within one.now other.now }
 {

@@ -1,4 +1,5 @@
-//! The warnings of a part: whether its group or its list letters are the day's, and which copies lost letters.
+//! The warnings of a part: whether its group or its list letters are the day's letters, and which copies of the
+//! indicators lost letters.
 ghost use Rattle.std.specs.Prelude.{◌≡◌, ◌≢◌, ◌≤◌, ◌↔◌, length, map, take, All, Any, None, Some, IsTrue, MatchOption};
 ghost use Rattle.std.specs.Bool.{OnTrue, OnFalse};
 ghost use Rattle.kd_form.specs.PartMaking.{list_letters};
@@ -76,7 +77,7 @@ fn completes(received: &[Option<Letter>], letters: &[Letter]) -> bool
     received.is_empty() && letters.is_empty()
 }
 
-/// Whether a letter is lost at the same place of both copies.
+/// Whether, at some place, the letter is lost in both copies.
 fn is_lost_in_both(start: &[Option<Letter>], end: &[Option<Letter>]) -> bool
     ensures { IsTrue result ↔ IsLostInBoth start.now end.now }
 {

@@ -8,7 +8,7 @@ use crate::received::{is_body_byte, is_received, letter_count};
 /// A sign that may not be in a body. It is no letter, no lost letter, no blank, and no part of a line end.
 #[derive(Clone, Copy, Debug, PartialEq, Eq)]
 pub struct WrongSign {
-    /// The line of the part on which the sign stands, counted from 1. On line 1 stands the heading.
+    /// The number of the sign's line in the part, counted from 1. The heading is line 1.
     pub line: usize,
     /// The place of the sign among the letters of its line, counted from 1.
     pub letter: usize,
@@ -41,7 +41,7 @@ pub(crate) fn first_wrong_sign(body: &[u8]) -> Option<WrongSign>
     None
 }
 
-/// The place of the letter at `index` among the letters of `body`, counted from 1.
+/// The place of the byte at `index`, counted from 1 among the letters of `body`.
 #[tactic(auto, using(crate::proofs::Bytes::letters_counted))]
 fn place_at(body: &[u8], index: usize) -> usize
     requires { index ≤ length body.now }
@@ -59,7 +59,7 @@ fn line_after(line: usize, byte: u8) -> usize
     if byte == b'\n' { line + 1 } else { line }
 }
 
-/// The number that the next letter after `byte` has on its line. A letter in place of `byte` would have the number
+/// The number, on its line, of the next letter after `byte`. A letter in place of `byte` would have the number
 /// `letter`.
 fn letter_after(letter: usize, byte: u8) -> usize
     requires { letter < 2 ^ 63 + 2 }

@@ -1,4 +1,5 @@
--- The templates of a message's pages, except those of the sheets, and how many values each takes.
+-- The templates of a message's pages, each with the number of values that it takes. The templates of a part's sheet are
+-- in the crate `kd_part_sheet`.
 use Rattle.kd_pictures.specs.Checked.{Takes}
 use Rattle.kd_message.specs.declared.texts.TheConstants as texts
 

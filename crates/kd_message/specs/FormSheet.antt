@@ -16,7 +16,7 @@ use Rattle.kd_part_sheet.specs.Rows.{pieces}
 abbrev pub form_head : Language → Day → List ℕ
 form_head l s = filled (text_in l texts.FORM) (model_name (day_model s) ∷ decimal (day_number s) ∷ [])
 
--- the head of a part: its number, the number of parts, the model, the day, and how many letters it has
+-- the head of a part: its number, the number of parts, the model, the day, and the number of the part's letters
 abbrev pub part_head : Language → Model → ℕ → ℕ → ℕ → ℕ → List ℕ
 part_head l model day part parts letters = filled (text_in l texts.FORM_PART) (
     decimal part ∷ decimal parts ∷ model_name model ∷ decimal day ∷ decimal part ∷ decimal parts ∷ decimal letters ∷ [])

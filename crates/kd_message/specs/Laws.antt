@@ -26,8 +26,8 @@ use Rattle.kd_lost.specs.ShownParts.{IsWhole, is_number, shown_under, times_of, 
 use Rattle.kd_lost.specs.Texts.{lost_in, shown_text}
 use Rattle.kd_message.specs.TextSheet.{came_text, read_text, text_begin, text_part_head}
 
--- The lamps of a row are the cipher of the letters that are pressed in this row. The cipher starts from the windows to
--- which the earlier rows lead.
+-- The lamps of a row show the ciphertext of the letters that are pressed in this row. The machine starts at the windows
+-- to which the keys of the earlier rows lead.
 abbrev pub RowsAreEnciphered : Type 0
 RowsAreEnciphered =
     (s : Day) (start before row : List ℕ)
@@ -40,13 +40,13 @@ letter_of signs.Nothing = None
 letter_of signs.Lost = None
 letter_of (signs.Letter letter) = Some letter
 
--- the cells of a body whose letters are pressed
+-- the cells of a body with the letters that are pressed
 abbrev pub pressed_of : List Cell → List Cell
 pressed_of cells = filter (λ cell. cell.is_pressed) cells
 
--- The rows of a part that is read can be deciphered, whatever keys are pressed for the lost letters. The windows are
--- set as the sheet shows. Then the machine turns the pressed keys `keys` into the letters below the line. There, `?`
--- stands for each lost letter, and nothing for a space.
+-- The rows of a part that is read can be deciphered, whatever keys are pressed for the lost letters. The operator sets
+-- the windows that the sheet shows, and presses `keys`. Then the machine gives the letters below the line. Below a lost
+-- letter stands `?`, and for a space nothing.
 abbrev pub RowsAreDeciphered : Type 0
 RowsAreDeciphered =
     (s : Day) (part : List ℕ) (shown : DamagedText) (keys : List ℕ) → IsDamagedTextAnswer s part (Ok shown)
@@ -58,7 +58,7 @@ RowsAreDeciphered =
 
 -- ---- Whole messages.
 
--- the letters of a part's text; none if there is no part, or it isn't read
+-- the letters of a part's text; none if there is no part, or the part isn't read
 abbrev pub letters_of_part : Option DamagedPart → List (Option ℕ)
 letters_of_part None = []
 letters_of_part (Some part) = letters_in part.text
@@ -68,8 +68,8 @@ abbrev pub message_letters : List DamagedPart → List (Option ℕ)
 message_letters parts =
     flat_map (λ number. letters_of_part (shown_under parts number)) (range_with_len 1 (total_of parts))
 
--- If `desk receive` reads a form, the form is one whole message. Joined, the shown texts of its parts are the text that
--- `desk receive` gives.
+-- If `desk receive` reads a form, the form is one whole message. The page shows a text for each number of a part.
+-- Joined in the order of the numbers, these texts are the text that `desk receive` gives.
 abbrev pub FormsReadAreWhole : Type 0
 FormsReadAreWhole =
     (s : Day) (form text : List ℕ) (parts : List DamagedPart) → IsTextOf s form text → AreFormParts s form parts
@@ -79,14 +79,15 @@ FormsReadAreWhole =
 abbrev pub IsOn : List ℕ → List ℕ → Type 0
 IsOn page piece = (before : List ℕ) × (after : List ℕ) × (page ≡ before ++ piece ++ after)
 
--- `text` has each letter of `other` that isn't lost, at the same place.
+-- Each letter of the text `other` that isn't lost stands in `text`, too, at the same place.
 abbrev pub HasLettersOf : DamagedText → DamagedText → Type 0
 HasLettersOf text other =
     (place letter : ℕ) → slice_get other.letters.items place ≡ Some (Some letter)
     → slice_get text.letters.items place ≡ Some (Some letter)
 
 -- If a part has a text, even if only by count, the page shows a text under the part's number. The shown text has each
--- letter of the part's own text, and no more lost letters. `alone` are the parts, each read by itself.
+-- letter of the part's own text, and at most as many lost letters. `read.alone` has the parts, each as it is read
+-- without the others.
 abbrev pub NothingReadIsHidden : Type 0
 NothingReadIsHidden =
     (l : Language) (s : Day) (form : List ℕ) (parts : List DamagedPart) (read : AreFormParts s form parts)
@@ -117,8 +118,8 @@ WholeMessagesHaveOneTotal =
     → Contains parts one → Contains parts other → one.numbers ≡ Some numbers → other.numbers ≡ Some others
     → numbers.parts ≡ others.parts
 
--- Take the first part of a whole message, and any other part with the same number, both of them read. Their bodies have
--- equally many letters. At each place, they have the same letter, unless one of them lost it.
+-- Take the first part of a whole message, and any other part with the same number. If both parts are read, their bodies
+-- have equally many letters. At each place, the two letters are equal, unless one of them is lost.
 abbrev pub RepetitionsHaveTheLetters : Type 0
 RepetitionsHaveTheLetters =
     (one other : DamagedPart) (others : List DamagedPart) (numbers again : PartNumbers) (shown later : DamagedText)
@@ -133,9 +134,8 @@ abbrev pub IsClear : List ℕ → Type 0
 IsClear part = All (λ byte. IsFalse (is_lost byte) × (meant_byte byte ≡ byte)) part
 
 -- Let a form be one whole message, with no lost letter, no small letter, no tab, and no heading with needless blanks.
--- Then `desk receive` reads some parts of the form, one for each number, in the order of their numbers. They give the
--- letters that the page shows. So once the parts are sorted, and repeated ones left out, the shown text is the one that
--- `desk receive` gives.
+-- Then there are parts of the form, one for each number and in the order of the numbers, that `desk receive` reads as a
+-- form. `desk receive` gives the text that the page shows.
 abbrev pub WholeMessagesAreRead : Type 0
 WholeMessagesAreRead =
     (s : Day) (form : List ℕ) (parts : List DamagedPart) → AreFormParts s form parts

@@ -1,5 +1,5 @@
--- How the page shows a part without a number. Its heading is damaged, or it is an order in place of a form. It isn't
--- read.
+-- How the page shows a part without a number. Either the part's heading is damaged, or the part is an order in place of
+-- a form. Such a part isn't read.
 use Rattle.std.specs.Prelude.{decimal, ℕ, ◌==◌, if◌then◌else◌, List, [], ◌∷◌, ◌++◌}
 use Rattle.kd_tables.specs.declared.model.Model.{Model}
 use Rattle.kd_tables.specs.declared.model.Model.TheVariants as models
@@ -13,8 +13,8 @@ use Rattle.kd_part_sheet.specs.declared.markup.TheConstants.{SECTION_END}
 use Rattle.kd_message.specs.declared.texts.TheConstants as texts
 use Rattle.kd_message.specs.TextSheet.{heading_fault}
 
--- The words for where a part without a number stands. It stands after the part with the number `after` or, if `after`
--- is 0, before all parts with numbers.
+-- The words that say where a part without a number stands: after the part with number `after` or, if `after` is 0,
+-- before all numbered parts.
 abbrev pub lone_words : Language → ℕ → List ℕ
 lone_words l after =
     if after == 0 then text_in l texts.LONE_FIRST else filled (text_in l texts.LONE_AFTER) (decimal after ∷ [])
@@ -23,7 +23,7 @@ lone_words l after =
 unfoldable pub listed_lone : Language → ℕ → List ℕ
 listed_lone l after = texts.LISTED_LONE.now ++ lone_words l after ++ text_in l texts.LISTED_LONE_END
 
--- the words for what to ask for: the heading; if no letter of the body came, the whole part
+-- the words for what to ask for: the heading or, if no letter of the body came (`came` is 0), the whole part
 abbrev pub lone_asked : Language → ℕ → List ℕ
 lone_asked l came = if came == 0 then text_in l texts.ALL_OF_IT else text_in l texts.ITS_HEADING
 
@@ -41,7 +41,7 @@ heading_example models.M3 = texts.THREE_LETTER_HEADING.now
 heading_example models.M4 = texts.FOUR_LETTER_HEADING.now
 heading_example models.M209 = texts.HEADING_WITHOUT_KEYS.now
 
--- the words for a damaged heading: the line as it came, and an example of a valid heading
+-- the words that say that a heading is damaged, with the line as it came, and an example of a valid heading
 unfoldable pub damaged_heading : Language → Model → DamagedPart → List ℕ
 damaged_heading l model part =
     heading_fault l part.line (text_in l texts.HEADING_DAMAGED) ++ text_in l texts.HEADING_CAME ++ part.heading.bytes

@@ -1,5 +1,5 @@
--- The notes on standard error about a form: what is wrong with its parts, and what to ask for. They have the words of
--- the page.
+-- The notes on standard error about a form: what is wrong with its parts, and what to ask for. The notes use the page's
+-- words.
 -- Test: tests/cases/curator-messages.toml
 use Rattle.std.specs.Prelude.{decimal, ℕ, false, if◌then◌else◌, List, [], ◌∷◌, ◌++◌}
 use Rattle.std.specs.Prelude.{Option, Some, None, Result, Ok, Err}
@@ -19,7 +19,7 @@ use Rattle.kd_lost.specs.ShownParts.{is_one_message}
 use Rattle.kd_message.specs.TextSheet.{asked_words, count_asked, counted_reason, first_text_group, groups_told, has_lost}
 use Rattle.kd_message.specs.TextSheet.{is_wrong_day, lost_groups, reason_text}
 
--- the number of a part, with which its note begins
+-- the words for a part's number, at the start of a note about the part
 abbrev pub note_name : Language → PartName → List ℕ
 note_name l name = filled (text_in l texts.NOTE_PART) (decimal name.part ∷ decimal name.parts ∷ [])
 
@@ -28,11 +28,11 @@ unfoldable pub note_line : Language → PartName → List ℕ → List ℕ → L
 note_line l name reason words =
     note_name l name ++ reason ++ text_in l texts.NOTE_ASK ++ words ++ texts.NOTE_END.now
 
--- the note that the form is of another day or network; empty unless the part's group or list letters show it
+-- the note that the form is from another day or network; empty unless the part's group or list letters show this
 abbrev pub day_note : Language → PartName → GroupTest → List ℕ
 day_note l name group = if is_wrong_day group then note_name l name ++ text_in l texts.NOTE_OTHER_DAY else []
 
--- the note that letters are lost, and that asks for the groups in which they are lost
+-- the note that letters are lost; it asks for the groups in which they are lost
 abbrev pub lost_line : Language → PartName → List (Option ℕ) → List ℕ
 lost_line l name letters =
     note_line l name (text_in l texts.NOTE_LOST)
@@ -45,7 +45,7 @@ lost_note l name letters = if has_lost letters then lost_line l name letters els
 unfoldable pub read_note : Language → PartName → DamagedText → List ℕ
 read_note l name shown = day_note l name shown.group ++ lost_note l name shown.letters.items
 
--- The notes on a part that isn't read with its own count. The last argument is its text by count.
+-- The notes on a part that can't be read with the count in its heading. The last argument is the part's text by count.
 abbrev pub damage_note : Language → PartName → DamagedPart → PartDamage → Option DamagedText → List ℕ
 damage_note l name part damage (Some shown) =
     note_line l name (counted_reason l part damage ++ groups_told l part.came part.short_group)

@@ -44,11 +44,11 @@ sheet_to_receive model = if is_converter model then PinReceive else RotorReceive
 
 -- ---- What a section of the page has for a part: its line in the list of the sheets, its sheet, its text.
 
--- a part that isn't read, as a line in the list of the sheets
+-- the line for a part that isn't read, in the list of the sheets
 abbrev pub listed_unread : Language → PartName → List ℕ
 listed_unread l name = filled (text_in l texts.LISTED_UNREAD) (decimal name.part ∷ decimal name.parts ∷ [])
 
--- a part as a line in the list of the sheets; the last argument is its text
+-- the line for a part in the list of the sheets; the last argument is the part's text
 abbrev pub listed_text : Language → PartName → Option DamagedText → List ℕ
 listed_text l name (Some shown) = listed_sheet l name.sheet name.part name.parts
 listed_text l name None = listed_unread l name
@@ -74,7 +74,7 @@ abbrev pub text_or_damage : Language → Day → PartName → DamagedPart → Re
 text_or_damage l s name part (Ok shown) = read_text l (sheet_to_receive (day_model s)) s name shown
 text_or_damage l s name part (Err damage) = counted_or_damage l s name part damage part.by_count
 
--- the words of a section on a part that came `times` times
+-- the words in `section` for a part that came `times` times
 abbrev pub part_in : Section → Language → Day → PartName → ℕ → DamagedPart → List ℕ
 part_in sections.Listed l s name times part = listed_text l name (shown_text part)
 part_in sections.Worked l s name times part = worked_text l s name (shown_text part)
@@ -82,14 +82,14 @@ part_in sections.Noted l s name times part = part_note l name part
 part_in sections.Texts l s name times part =
     text_part_head l name ++ came_text l times ++ text_or_damage l s name part part.text ++ SECTION_END.now
 
--- the words of a section on a part that didn't come
+-- the words in `section` for a part that didn't come
 abbrev pub missing_in : Section → Language → PartName → List ℕ
 missing_in sections.Listed l name = listed_unread l name
 missing_in sections.Worked l name = []
 missing_in sections.Noted l name = missing_note l name
 missing_in sections.Texts l name = text_part_head l name ++ missing_text l name ++ SECTION_END.now
 
--- The words of a section on a part without a number. `after` is the number of the last numbered part before it.
+-- The words in `section` for a part without a number. `after` is the number of the last numbered part before this part.
 abbrev pub lone_in : Section → Language → Day → ℕ → DamagedPart → List ℕ
 lone_in sections.Listed l s after part = listed_lone l after
 lone_in sections.Worked l s after part = []
@@ -103,26 +103,26 @@ abbrev pub number_or : ℕ → Option PartNumbers → ℕ
 number_or before (Some numbers) = numbers.part
 number_or before None = before
 
--- The words of a section on unnumbered parts. These stand between the part with number `after` and the next numbered
--- part. `before` is the last number before `parts`.
+-- The words in `section` for those unnumbered parts among `parts` that come after number `after`, and before the next
+-- numbered part. `before` is the last number before `parts`.
 abbrev pub lone_after : Section → Language → Day → ℕ → ℕ → List DamagedPart → List ℕ
 lone_after section l s after before [] = []
 lone_after section l s after before (part ∷ parts) =
     (if is_none part.numbers && before == after then lone_in section l s after part else [])
     ++ lone_after section l s after (number_or before part.numbers) parts
 
--- the words of a section on the part that is shown under a number; if there is none, that it didn't come
+-- the words in `section` for the part that is shown under a number or, if there is none, for a part that didn't come
 abbrev pub shown_in : Section → Language → Day → PartName → ℕ → Option DamagedPart → List ℕ
 shown_in section l s name times (Some part) = part_in section l s name times part
 shown_in section l s name times None = missing_in section l name
 
--- the words of a section on the part with a number, then on the unnumbered parts after it
+-- the words in `section` for the part with number `number`, then for the unnumbered parts after this part
 abbrev pub number_in : Section → Language → Day → List DamagedPart → ℕ → List ℕ
 number_in section l s parts number =
     shown_in section l s (part_name s number (total_of parts)) (times_of parts number) (shown_under parts number)
     ++ lone_after section l s number 0 parts
 
--- the words of a section on the unnumbered parts at the beginning, then on the part with each number
+-- the words in `section` for the unnumbered parts at the beginning, then for the part with each number
 abbrev pub by_number : Section → Language → Day → List DamagedPart → List ℕ
 by_number section l s parts =
     lone_after section l s 0 0 parts ++ flat_map (number_in section l s parts) (range_with_len 1 (total_of parts))
@@ -133,12 +133,13 @@ abbrev pub name_at : Day → ℕ → PartNumbers → PartName
 name_at s place numbers =
     record { model = day_model s; day = day_number s; sheet = place; part = numbers.part; parts = numbers.parts }
 
--- The words of a section on the part at `place`. `before` is the last part number before it.
+-- The words in `section` for the part at `place`. `before` is the last part number before this part.
 abbrev pub part_at : Section → Language → Day → ℕ → ℕ → Option PartNumbers → DamagedPart → List ℕ
 part_at section l s place before (Some numbers) part = part_in section l s (name_at s place numbers) 1 part
 part_at section l s place before None part = lone_in section l s before part
 
--- The words of a section on the parts from `place` on. `before` is the last part number before them.
+-- The words in `section` for the parts `parts`, the first of which is at `place`. `before` is the last part number
+-- before them.
 abbrev pub as_they_came : Section → Language → Day → ℕ → ℕ → List DamagedPart → List ℕ
 as_they_came section l s place before [] = []
 as_they_came section l s place before (part ∷ parts) =
@@ -152,12 +153,12 @@ section_text section l s parts =
 
 -- ---- The page.
 
--- how many sheets the page has at most
+-- the greatest number of sheets that the page can have
 abbrev pub sheet_count : List DamagedPart → ℕ
 sheet_count parts = max (total_of parts) (length parts)
 
--- The file. It has the list of the sheets, a sheet for each part that is read, and the texts of all parts. With the
--- texts stands what to ask the other station for.
+-- The file. It has the list of the sheets, a sheet for each part that is read, and a last sheet with the texts of all
+-- parts. The last sheet also says what to ask the other station for.
 unfoldable pub receive_text : Language → Day → List DamagedPart → List ℕ
 receive_text l s parts =
     title_text l (text_in l texts.TITLE_TO_RECEIVE) s ++ list_head l (sheet_count parts)
@@ -167,7 +168,7 @@ receive_text l s parts =
     ++ text_if (is_any_read parts) (note l (sheet_to_receive (day_model s)) (day_model s))
     ++ texts.ARTICLE_END.now ++ FOOT.now
 
--- all notes on the form for standard error
+-- all notes that are written to standard error about the form
 unfoldable pub receive_notes : Language → Day → List DamagedPart → List ℕ
 receive_notes l s parts = several_note l parts ++ section_text sections.Noted l s parts
 
@@ -177,13 +178,13 @@ abbrev pub page_fault : DamagedFormFault → ReceivePageFault
 page_fault form_faults.NoMemory = faults.NoMemory
 page_fault form_faults.TooManyParts = faults.TooManyParts
 
--- whether a write failed, so that the page isn't complete
+-- whether a write failed; then the page isn't complete
 abbrev pub is_device_fault : Result Bool ReceivePageFault → Bool
 is_device_fault (Err faults.Device) = true
 is_device_fault _ = false
 
--- `ReceivedPageWritten`: the page of the form's parts was written. If the sink failed, only a prefix of it was. The
--- answer says whether the parts are one whole message.
+-- `ReceivedPageWritten`: the page of the form's parts was written or, if the sink failed, only a prefix of the page. If
+-- the sink didn't fail, the answer says whether the parts are one whole message.
 -- `FormNotRead`: nothing was written.
 pub data IsReceivePageAnswer (l : Language) (s : Day) (form : List ℕ) (sink : Port)
     (answer : Result Bool ReceivePageFault) : Type 0 where
@@ -195,7 +196,7 @@ pub data IsReceivePageAnswer (l : Language) (s : Day) (form : List ℕ) (sink : 
   FormNotRead : (fault : DamagedFormFault) → IsFormFault (damaged_parts_of form) fault
       → answer ≡ Err (page_fault fault) → IsUntouched sink → IsReceivePageAnswer l s form sink answer
 
--- `Told` holds of the notes for standard error. There are none if the form has too many parts, or memory is short.
+-- `Told` holds of the notes for standard error. If the form has too many parts, or memory is short, there may be none.
 pub data IsFormNoted (l : Language) (s : Day) (form : List ℕ) (Told : List ℕ → Type 0)
     (answer : Result Bool ReceivePageFault) : Type 0 where
   Noted : (parts : List DamagedPart) → AreFormParts s form parts → Told (receive_notes l s parts)
@@ -204,7 +205,7 @@ pub data IsFormNoted (l : Language) (s : Day) (form : List ℕ) (Told : List ℕ
 
 -- ---- What the code holds. No public contract cites these definitions.
 
--- The machine can show the letters of the keys of the part's text, even if it is a text by count.
+-- The machine can show the letters of the keys of the part's text, also if the part is read by count.
 abbrev pub HasShowableKeys : Day → DamagedPart → Type 0
 HasShowableKeys s part = IfSome (shown_text part) (λ shown. AreShowable s shown.keys)
 

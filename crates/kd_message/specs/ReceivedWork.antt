@@ -1,4 +1,4 @@
--- The letters that the operator presses and finds for a received part.
+-- What the operator does for a received part: the letters to press, and the letters that the machine then shows.
 use Rattle.std.specs.Prelude.{ℕ, ◌-◌, List, ◌++◌, length, map, take, drop, Some, None}
 use Rattle.std.specs.List.{slice_range}
 use Rattle.kd_state.specs.SheetDay.{Day}
@@ -29,7 +29,7 @@ rotor_received s i shown =
           ++ received_cells None (drop 5 shown.received.items) shown.letters.items;
     }
 
--- the body on a Converter: the letters between the indicators are deciphered, all others are skipped
+-- the body on a Converter: the letters between the indicators are deciphered, and the indicators are skipped
 abbrev pub pin_body : Day → DamagedText → List Cell
 pin_body s shown =
     map skipped (take 10 shown.received.items)
@@ -46,12 +46,12 @@ pin_received s k shown = record {
   body = pin_body s shown;
 }
 
--- the letters that are pressed and found for a text with these keys
+-- the letters that are pressed, and those that light up, for a text with these keys
 abbrev pub work_with : Day → TextKeys → DamagedText → Work
 work_with s (text_keys.Rotor i) shown = rotor_received s i shown
 work_with s (text_keys.Pin k) shown = pin_received s k shown
 
--- the letters that are pressed and found on the sheet of a received part
+-- the letters that are pressed, and those that light up, on the sheet of a received part
 abbrev pub received_work : Day → DamagedText → Work
 received_work s shown = work_with s shown.keys shown
 

@@ -63,7 +63,7 @@ part_name s part parts = record { model = day_model s; day = day_number s; sheet
 abbrev pub sheet_to_send : Model → Sheet
 sheet_to_send model = if is_converter model then PinSend else RotorSend
 
--- no warnings, as for each part to send
+-- no warnings: a part to send has none
 abbrev pub no_warnings : Warnings
 no_warnings = record { letters_lost = false; copies_lost = false; wrong_day = false; not_tested = false }
 
@@ -89,8 +89,8 @@ send_text l s parts works made =
 
 -- ---- What is worked for an order, and its form.
 
--- `works` has, for each part, the letters that are pressed, and those that light up. The part's piece of the text is
--- enciphered with the part's keys.
+-- `works` has, for each part, the letters that are pressed, and those that light up. On a part's sheet, the part's
+-- piece of the text is enciphered with the part's keys.
 abbrev pub AreWorks : Day → List Keys → List (List ℕ) → List Work → Type 0
 AreWorks s [] [] works = works ≡ []
 AreWorks s (k ∷ keys) (piece ∷ pieces) works =
@@ -98,8 +98,8 @@ AreWorks s (k ∷ keys) (piece ∷ pieces) works =
 AreWorks s [] (piece ∷ pieces) works = ⊥
 AreWorks s (k ∷ keys) [] works = ⊥
 
--- `made` are the parts of a form with `parts` parts, from number `part` on. Each is its piece of the text, enciphered
--- with its keys.
+-- `made` are the parts of a form with `parts` parts, from number `part` on. Each part has one piece of the text,
+-- enciphered with the part's keys.
 abbrev pub AreMade : Day → ℕ → ℕ → List Keys → List (List ℕ) → List Part → Type 0
 AreMade s part parts [] [] made = made ≡ []
 AreMade s part parts (k ∷ keys) (piece ∷ pieces) made =
@@ -132,12 +132,12 @@ IsSendRefusal m s order fault =
     IsKeyFault m s fault
     ⊎ (IsReadyOnKey m s × IsFaultOrNoMemory (IsSendFault s order) ((form : List ℕ) × IsFormOf s order form) fault)
 
--- whether a write failed, so that the page isn't complete
+-- whether a write failed; then the page isn't complete
 abbrev pub is_device : Result (Unit {0}) SendPageFault → Bool
 is_device (Err Device) = true
 is_device _ = false
 
--- `PageWritten`: the order has a form, and the page was written. If the sink failed, only a prefix of it was.
+-- `PageWritten`: the order has a form, and the page was written or, if the sink failed, only a prefix of the page.
 -- `Refused`: nothing was written.
 pub data IsSendPageAnswer (l : Language) (m : Parts) (s : Day) (order : List ℕ) (sink : Port)
     (answer : Result (Unit {0}) SendPageFault) : Type 0 where
@@ -154,7 +154,8 @@ pub data IsSendPageAnswer (l : Language) (m : Parts) (s : Day) (order : List ℕ
 abbrev pub HasForm : Day → List ℕ → Type 0
 HasForm s order = (form : List ℕ) × IsFormOf s order form
 
--- The keys are for the parts from number `part` on. They are valid on the day, and each piece of the text has its keys.
+-- `keys` are the keys of the parts from number `part` on. The keys are valid on the day, and there is one key for each
+-- piece of the text.
 pub record AreKeysOfText (s : Day) (part parts : ℕ) (keys : List Keys) (text : List ℕ) : Type 0 where
   pub of_the_day : All (AreKeys s) keys
   pub suited : InTurn (IsKeysAnswer s) part keys (Ok tt)

@@ -1,4 +1,4 @@
--- The sheet with the text of a received form, and what to ask the other station for.
+-- The sheet with the text of a received form, and with what to ask the other station for.
 use Rattle.std.specs.Prelude.{decimal, ℕ, ◌+◌, ◌-◌, ◌/◌, ◌==◌, nat_le, nat_lt, ◌&&◌, ◌||◌, not, Bool, true, false, is_none}
 use Rattle.std.specs.Prelude.{if◌then◌else◌}
 use Rattle.std.specs.Prelude.{List, [], ◌∷◌, ◌++◌, map, Option, Some, None}
@@ -38,7 +38,7 @@ abbrev pub text_part_head : Language → PartName → List ℕ
 text_part_head l name = filled (text_in l texts.TEXT_PART) (
     decimal name.part ∷ decimal name.parts ∷ model_name name.model ∷ decimal name.day ∷ [])
 
--- the numbers, with `first` before the first number, and commas before the other numbers
+-- the list `numbers`, with `first` before its first number, and a comma before each later number
 abbrev pub numbers_after : List ℕ → List ℕ → List ℕ
 numbers_after first [] = []
 numbers_after first (number ∷ numbers) = first ++ decimal number ++ numbers_after COMMA.now numbers
@@ -47,16 +47,17 @@ numbers_after first (number ∷ numbers) = first ++ decimal number ++ numbers_af
 unfoldable pub order_words : Language → List ℕ → List ℕ
 order_words l numbers = text_in l texts.ORDER ++ numbers_after [] numbers ++ text_in l texts.ORDER_END
 
--- the numbers in a heading: the part's, and the number of parts
+-- the two numbers in a heading: the part's number, and the number of parts
 unfoldable pub heading_words : PartNumbers → List ℕ
 heading_words numbers = decimal numbers.part ++ texts.OF_PARTS.now ++ decimal numbers.parts
 
--- `first`, the heading's numbers and `more`; only `others` if the heading is damaged
+-- `first`, then the heading's two numbers, then `more`; if the heading is damaged, only `others`
 abbrev pub heading_then : List ℕ → Option PartNumbers → List ℕ → List ℕ → List ℕ
 heading_then first (Some numbers) more others = first ++ heading_words numbers ++ more
 heading_then first None more others = others
 
--- the numbers in the undamaged headings, with `first` before the first heading's, and commas before the others'
+-- The numbers in the undamaged headings. `first` stands before the numbers of the first heading, and a comma before the
+-- numbers of each later heading.
 abbrev pub headings_after : List ℕ → List DamagedPart → List ℕ
 headings_after first [] = []
 headings_after first (part ∷ parts) =
@@ -66,8 +67,8 @@ headings_after first (part ∷ parts) =
 unfoldable pub several_words : Language → List DamagedPart → List ℕ
 several_words l parts = text_in l texts.SEVERAL ++ headings_after [] parts ++ text_in l texts.SEVERAL_END
 
--- The sentence that the parts aren't of one message. If they are, it says in which order they came; it is empty if
--- their numbers rise.
+-- The sentence that the parts aren't of one message. If the parts are of one message, the sentence gives the order in
+-- which they came; it is empty if they came in the order of their numbers.
 abbrev pub order_text : Language → List DamagedPart → List ℕ
 order_text l parts =
     if is_one_message parts
@@ -89,8 +90,8 @@ abbrev pub begins_late : List DamagedPart → Bool
 begins_late [] = false
 begins_late (part ∷ parts) = nat_lt 1 part.line
 
--- The sentence that some of the form was passed over, or that some signs were read as other signs. Empty if nothing
--- was.
+-- The sentence that some of the form was passed over, or that some signs were read as other signs. Empty if neither is
+-- so.
 abbrev pub passed_text : Language → List DamagedPart → List ℕ
 passed_text l parts =
     if begins_late parts || is_any_smoothed parts then text_in l texts.PASSED_OVER else []
@@ -126,14 +127,15 @@ abbrev pub has_lost : List (Option ℕ) → Bool
 has_lost [] = false
 has_lost (letter ∷ letters) = is_none letter || has_lost letters
 
--- how many groups at the start of the list have lost letters, before the first group without one
+-- how many groups with lost letters stand at the start of the list, before the first group with no lost letter
 abbrev pub run_length : List (List (Option ℕ)) → ℕ
 run_length [] = 0
 run_length (group ∷ groups) = if has_lost group then run_length groups + 1 else 0
 
--- The words for the groups that lost letters. `first` stands before the first of them. The list begins with group
--- `number`. Successive groups are named together, where the first of them stands. `before` says whether the group
--- before the list lost letters, too.
+-- The words for the groups that lost letters. The list begins with group `number`. Successive groups with lost letters
+-- are named together, as *groups 3 to 5*. `first` stands before the first words, and a comma between the words.
+-- `before` says whether the group just before the list lost letters. If it did, such groups at the start of the list
+-- are already named.
 abbrev pub lost_groups : Language → List ℕ → Bool → ℕ → List (List (Option ℕ)) → List ℕ
 lost_groups l first before number [] = []
 lost_groups l first before number (group ∷ groups) =
@@ -208,7 +210,7 @@ read_text l sheet s name shown =
 
 -- ---- A part that isn't read.
 
--- The words for a line of the form. It is line `number` of a part that begins on line `line` of the form.
+-- The words for line `number` of a part. The part begins on line `line` of the form.
 abbrev pub line_words : Language → ℕ → ℕ → List ℕ
 line_words l line number = text_in l texts.LINE ++ decimal (line + number - 1)
 
@@ -220,13 +222,13 @@ heading_fault l line fault = line_words l line 1 ++ fault
 abbrev pub sign_words : Language → ℕ → List ℕ
 sign_words l byte = if nat_le 48 byte && nat_le byte 57 then decimal (byte - 48) else text_in l texts.THIS_SIGN
 
--- The sentence about a wrong sign, with its place. The part begins on line `line` of the form.
+-- The sentence about a wrong sign, with the sign's place. The part begins on line `line` of the form.
 unfoldable pub sign_text : Language → ℕ → WrongSign → List ℕ
 sign_text l line sign =
     line_words l line sign.line ++ text_in l texts.LETTER_OF_LINE ++ decimal sign.letter ++ texts.COLON.now
     ++ sign_words l sign.byte ++ text_in l texts.NO_LETTER
 
--- the sentence about the wrong sign of a body
+-- the sentence about a sign in the body that isn't a letter
 abbrev pub bad_byte_text : Language → ℕ → Option WrongSign → List ℕ
 bad_byte_text l line (Some sign) = sign_text l line sign
 bad_byte_text l line None = text_in l texts.BAD_BYTE
@@ -252,20 +254,22 @@ abbrev pub short_text : Language → ℕ → Option ShortLine → List ℕ
 short_text l line (Some short) = short_words l line short
 short_text l line None = []
 
--- The words for what to ask for if the count is wrong or damaged: the count, and the first short group. If no group is
--- short, and the count is only wrong, ask for the lines once the count is confirmed.
+-- The words for what to ask for if the count is wrong or damaged. With a short group, these are the count and the first
+-- such group. Without a short group, a damaged count is asked for. For a wrong count, the words ask for the count and,
+-- if the count was right, for the lines.
 abbrev pub count_asked : Language → PartDamage → Option ℕ → List ℕ
 count_asked l damage (Some group) = text_in l texts.ITS_COUNT ++ COMMA.now ++ group_words l group
 count_asked l damages.HeadingDamaged None = text_in l texts.ITS_COUNT
 count_asked l _ None = text_in l texts.ITS_COUNT_OR_LINES
 
--- The words for what to ask for if the count is wrong, and the part isn't read. If a short line explains the count,
--- these are its ten groups.
+-- The words for what to ask for if the count is wrong, and the part isn't read. If a short line explains the wrong
+-- count, ask for the ten groups of this line.
 abbrev pub short_groups : Language → Option ℕ → Option ShortLine → List ℕ
 short_groups l group (Some short) = groups_words l (short.before / 5 + 1) (short.before / 5 + 10)
 short_groups l group None = count_asked l damages.CountWrong group
 
--- the sentences about the heading's count, the number of letters that came, and the line in which letters are missing
+-- the sentences about a wrong count: the heading's count, the number of letters that came and, if there is one, the
+-- line in which letters are missing
 unfoldable pub count_text : Language → DamagedPart → List ℕ
 count_text l part =
     counts_text l (heading_count part.numbers) part.came ++ short_text l part.line (part_line part)
@@ -295,8 +299,8 @@ asked_words l part (damages.KeyLetterLost number) = key_letter_groups l part.cam
 asked_words l part damages.KeyNotOnWheel = indicator_groups l part.came
 asked_words l part damages.NoInternalKey = indicator_groups l part.came
 
--- The paragraph about a part that isn't read, for the reason `reason`. It has the checkbox to ask for a repetition;
--- `words` say what to repeat.
+-- The paragraph about a part that isn't read: the reason `reason`, and the checkbox to ask for a repetition. `words`
+-- say what to repeat.
 unfoldable pub unread_text : Language → PartName → List ℕ → List ℕ → List ℕ
 unread_text l name reason words =
     text_in l texts.UNREAD ++ reason ++ texts.REASON_END.now ++ ask_text l name.part words
@@ -323,8 +327,8 @@ abbrev pub counted_reason : Language → DamagedPart → PartDamage → List ℕ
 counted_reason l part damages.HeadingDamaged = damaged_count l part.line part.came
 counted_reason l part _ = counts_text l (heading_count part.numbers) part.came
 
--- The sentence that names the first short group. If no group is short, it says that the number of letters that came may
--- be right.
+-- The sentence that names the first short group. If no group is short, the sentence says that the number of letters
+-- that came may be right.
 abbrev pub groups_told : Language → ℕ → Option ℕ → List ℕ
 groups_told l came (Some group) =
     text_in l texts.SHORT_GROUP ++ decimal group ++ text_in l texts.SHORT_GROUP_END

@@ -1,5 +1,5 @@
-//! Parts that are read by count, since the count in the heading is wrong or damaged. The number of letters that came
-//! stands for it.
+//! Parts that are read by count. The count in the heading is wrong or damaged; in its place, the number of letters that
+//! came is used.
 ghost use Rattle.std.specs.Prelude.{None, Some};
 ghost use Rattle.kd_pictures.specs.Drawing.{Draws};
 ghost use Rattle.kd_message.specs.TextSheet.{counted_reason, counted_text, damaged_count, groups_told};
@@ -68,8 +68,8 @@ fn draw_damaged_count<W: Sink>(sink: &mut W, language: Language, line: usize, ca
     draw_in(sink, language, COUNT_DAMAGED_END);
 }
 
-/// Writes which group is the first that doesn't have five letters. If there is none, writes that the number of letters
-/// that came may be right.
+/// Writes the number of the first group that doesn't have five letters. If each group has five, writes that the number
+/// of letters that came may be right.
 pub(crate) fn draw_groups_told<W: Sink>(
     sink: &mut W,
     language: Language,

@@ -1,4 +1,4 @@
-//! The words for the groups of a body, for which the other station is asked.
+//! The words for groups of a body. The other station is asked for these groups.
 ghost use Rattle.std.specs.Prelude.{◌≡◌, ◌+◌, ◌≤◌, length};
 ghost use Rattle.kd_pictures.specs.Drawing.{Draws};
 ghost use Rattle.kd_part_sheet.specs.Rows.{pieces};
@@ -21,9 +21,10 @@ pub(crate) fn has_lost(letters: &[Option<Letter>]) -> bool
     }
 }
 
-/// Writes which groups of `letters` lost letters. `first` stands before the first of them.
+/// Writes which groups of `letters` lost letters. `first` stands before the first group that is named.
 ///
-/// `before` says whether the group before `letters` lost letters, too.
+/// `before` says whether the group just before `letters` lost letters. If it did, such groups at the start of `letters`
+/// are already named.
 pub(crate) fn draw_lost_groups<W: Sink>(
     sink: &mut W,
     language: Language,
@@ -49,7 +50,7 @@ pub(crate) fn draw_lost_groups<W: Sink>(
     }
 }
 
-/// How many groups at the start of `letters` have lost letters, before the first group without one.
+/// How many groups with lost letters stand at the start of `letters`, before the first group with no lost letter.
 fn run_length(letters: &[Option<Letter>]) -> usize
     ensures groups { result ≡ run_length (pieces 5 letters.now) }
     ensures few { result ≤ length letters.now }

@@ -4,13 +4,13 @@ ghost use Rattle.kd_message.specs.Laws.{FormsReadAreWhole, NothingReadIsHidden, 
 ghost use Rattle.kd_message.specs.Laws.{RepetitionsHaveTheLetters, WholeMessagesAreOnThePage, WholeMessagesAreRead};
 ghost use Rattle.kd_message.specs.Laws.{WholeMessagesHaveOneTotal};
 
-/// A row can be worked by itself: its lamps follow from its keys and from the windows before it.
+/// A row can be worked by itself: its lamps depend only on its keys and on the windows before it.
 pub fn rows_are_enciphered()
     ensures { RowsAreEnciphered }
 {}
 
-/// The letters below the line are what the machine makes of the received letters above it. For lost letters, any keys
-/// may be pressed.
+/// The letters below the line are the machine's plaintext for the received letters above it. For lost letters, the
+/// operator may press any keys.
 pub fn rows_are_deciphered()
     ensures { RowsAreDeciphered }
 {}
@@ -25,13 +25,14 @@ pub fn forms_read_are_whole()
     ensures { FormsReadAreWhole }
 {}
 
-/// For each part that can be read, the page shows a text with all its letters, under the same number.
+/// If a part can be read, the page shows a text under the part's number, with all of the letters that came in this
+/// part.
 pub fn nothing_read_is_hidden()
     ensures { NothingReadIsHidden }
 {}
 
 /// In a whole message, all headings give the same number of parts. Parts with the same number have the same letters,
-/// except where one was lost.
+/// except where a letter was lost.
 pub fn whole_messages_agree()
     ensures total { WholeMessagesHaveOneTotal }
     ensures repetitions { RepetitionsHaveTheLetters }
@@ -43,7 +44,7 @@ pub fn whole_messages_are_on_the_page()
 {}
 
 /// Let a form be a whole message with no lost letter, no small letter, no tab, and no heading with needless blanks.
-/// Once its parts are sorted, and repeated ones left out, `desk receive` gets the same text.
+/// `desk receive` gives the page's text once the parts are sorted, and repeated parts left out.
 pub fn whole_messages_are_read()
     ensures { WholeMessagesAreRead }
 {}

@@ -1,5 +1,5 @@
-//! How the page shows a part without a number. Its heading is damaged, or it is an order in place of a form. It isn't
-//! read.
+//! How the page shows a part without a number. Either the part's heading is damaged, or the part is an order in place
+//! of a form. Such a part isn't read.
 ghost use Rattle.std.specs.Prelude.{◌≡◌};
 ghost use Rattle.kd_pictures.specs.Drawing.{Draws};
 ghost use Rattle.kd_message.specs.LoneParts.{damaged_heading, heading_example, listed_lone, lone_ask, lone_asked};
@@ -19,8 +19,8 @@ use kd_pictures::{Language, draw, draw_in};
 use kd_state::SheetDay;
 use kd_tables::{Model, Sink};
 
-/// Writes where a part without a number stands. It stands after the part with the number `after` or, if `after` is 0,
-/// before all numbered parts.
+/// Writes where a part without a number stands: after the part with number `after` or, if `after` is 0, before all
+/// numbered parts.
 pub(crate) fn draw_lone_words<W: Sink>(sink: &mut W, language: Language, after: u8)
     ensures { Draws W.taken W.has_failed sink.old sink.new (lone_words language after) }
 {
@@ -91,7 +91,7 @@ pub(crate) fn draw_lone_reason<W: Sink>(
     }
 }
 
-/// Writes that a heading is damaged: the line as it came, and an example of a valid heading.
+/// Writes that a heading is damaged, with the line as it came, and an example of a valid heading.
 fn draw_damaged_heading<W: Sink>(sink: &mut W, language: Language, model: Model, part: &DamagedPart)
     ensures { Draws W.taken W.has_failed sink.old sink.new
         (damaged_heading language model part.now) }
@@ -126,7 +126,7 @@ fn draw_lone_ask<W: Sink>(sink: &mut W, language: Language, part: &DamagedPart)
     }
 }
 
-/// Writes the checkbox to ask for the heading. If no letter of the body came (`came` is 0), it is for the whole part.
+/// Writes the checkbox to ask for the heading or, if no letter of the body came (`came` is 0), for the whole part.
 fn draw_lone_box<W: Sink>(sink: &mut W, language: Language, came: usize)
     ensures { Draws W.taken W.has_failed sink.old sink.new (lone_box language came) }
 {
@@ -135,7 +135,7 @@ fn draw_lone_box<W: Sink>(sink: &mut W, language: Language, came: usize)
     draw(sink, ASK_END);
 }
 
-/// The words for what to ask for: the heading. If no letter of the body came (`came` is 0), it is the whole part.
+/// The words for what to ask for: the heading or, if no letter of the body came (`came` is 0), the whole part.
 pub(crate) fn lone_asked(language: Language, came: usize) -> &'static str
     ensures { result.now ≡ lone_asked language came }
 {

@@ -74,7 +74,7 @@ fn draw_other_day<W: Sink>(sink: &mut W, language: Language, name: PartName)
     draw_in(sink, language, NOTE_OTHER_DAY);
 }
 
-/// Writes the number of a part, with which its note begins.
+/// Writes the words for a part's number, at the start of a note about the part.
 fn draw_note_name<W: Sink>(sink: &mut W, language: Language, name: PartName)
     ensures { Draws W.taken W.has_failed sink.old sink.new
         (note_name language name) }
@@ -123,7 +123,8 @@ fn draw_lost_line<W: Sink>(
     draw(sink, NOTE_END);
 }
 
-/// Writes the notes on a part that is read by count: the count is wrong or damaged, and what else is wrong.
+/// Writes the notes on a part that is read by count: that the count is wrong or damaged, and then the notes on its
+/// text.
 fn draw_counted_note<W: Sink>(
     sink: &mut W,
     language: Language,

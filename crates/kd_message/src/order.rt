@@ -33,7 +33,7 @@ pub(crate) fn read_head<'a>(reader: &mut HeadReader, day: &SheetDay, order: &'a 
     &[]
 }
 
-/// The letters of the text's next part, and the bytes after them.
+/// Reads the letters of the text's next part. Returns them, and the bytes after them.
 pub(crate) fn take_piece<'a>(day: &SheetDay, text: &'a [u8]) -> (ArrayVec<Letter, 500>, &'a [u8])
     ensures piece { result.0.items ≡ take (part_size day.now) (text_letters day.now text.now) }
     ensures rest { text_letters day.now result.1.now
@@ -51,7 +51,7 @@ pub(crate) fn take_piece<'a>(day: &SheetDay, text: &'a [u8]) -> (ArrayVec<Letter
     (letters, &[])
 }
 
-/// Appends the letter for `byte`, if it stands for one.
+/// Appends the letter that `byte` stands for, if any.
 fn push_letter(letters: &mut ArrayVec<Letter, 500>, for_space: &Option<Letter>, byte: u8)
     requires { length letters.old.items < 500 }
     ensures { letters.new.items ≡ letters.old.items ++ letters_from for_space.now (byte ∷ []) }

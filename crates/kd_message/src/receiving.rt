@@ -43,7 +43,7 @@ use std::alloc::Global;
 /// Why the page of a form isn't written.
 #[derive(Clone, Copy, Debug, PartialEq, Eq)]
 pub enum ReceivePageFault {
-    /// There was no memory for what is read of the parts.
+    /// There wasn't enough memory to read the parts.
     NoMemory,
     /// The form has more than 255 parts.
     TooManyParts,
@@ -51,11 +51,12 @@ pub enum ReceivePageFault {
     Device,
 }
 
-/// Writes the page in `language` that shows how to decipher `form` by hand, with the form's text. The machine is on the
+/// Writes the page in `language` that shows how to decipher `form` by hand, and the form's text. The machine is on the
 /// day's key.
 ///
 /// Writes to `notes` what is wrong with the form, and what to ask for. Returns whether the form is one whole message of
-/// the day, with all of its text. For `Device`, a prefix of the page is written. For other faults, nothing is written.
+/// the day, with no letter of its text lost. For `Device`, a prefix of the page is written. For the other faults,
+/// nothing is written.
 pub fn write_receive_page<W: Sink, E: Sink>(
     alloc: Global,
     language: Language,
@@ -94,7 +95,7 @@ fn page_fault(fault: DamagedFormFault) -> ReceivePageFault
     }
 }
 
-/// A section of the page, or the notes.
+/// A section of the page, or the notes on standard error.
 #[derive(Clone, Copy)]
 pub(crate) enum Section {
     /// The list of the sheets.
@@ -132,7 +133,7 @@ fn draw_page<W: Sink>(sink: &mut W, language: Language, day: &SheetDay, parts: &
     draw(sink, FOOT);
 }
 
-/// How many sheets the page has at most.
+/// The greatest number of sheets that the page can have.
 fn sheet_count(parts: &[DamagedPart]) -> u16
     requires { length parts.now ≤ 255 }
     ensures { result ≡ sheet_count parts.now }
@@ -171,7 +172,7 @@ fn draw_section<W: Sink>(
     }
 }
 
-/// Writes the words of a section on the unnumbered parts at the beginning, then on the part with each number.
+/// Writes the words in `section` for the unnumbered parts at the beginning, then for the part with each number.
 fn draw_by_number<W: Sink>(
     sink: &mut W,
     section: Section,
@@ -195,7 +196,7 @@ fn draw_by_number<W: Sink>(
     );
 }
 
-/// Writes the words of a section on the parts with the `count` numbers from `number` on.
+/// Writes the words in `section` for the parts with `count` successive numbers, from `number` on.
 fn draw_numbers<W: Sink>(
     sink: &mut W,
     section: Section,
@@ -216,7 +217,7 @@ fn draw_numbers<W: Sink>(
     }
 }
 
-/// Writes the words of a section on the part with `number`, then on the unnumbered parts after it.
+/// Writes the words in `section` for the part with `number`, then for the unnumbered parts after this part.
 fn draw_number<W: Sink>(
     sink: &mut W,
     section: Section,
@@ -234,7 +235,8 @@ fn draw_number<W: Sink>(
     draw_lone_after(sink, section, language, day, number as u8, 0, parts);
 }
 
-/// Writes the words of a section on the part that is shown under `number`; if there is none, that it didn't come.
+/// Writes the words in `section` for the part that is shown under `number` or, if there is none, for a part that didn't
+/// come.
 fn draw_shown<W: Sink>(
     sink: &mut W,
     section: Section,
@@ -259,8 +261,8 @@ fn draw_shown<W: Sink>(
     }
 }
 
-/// Writes the words of a section on unnumbered parts. These stand between the part with number `after` and the next
-/// numbered part.
+/// Writes the words in `section` for those unnumbered parts among `parts` that come after number `after`, and before
+/// the next numbered part.
 ///
 /// `before` is the last number before `parts`.
 fn draw_lone_after<W: Sink>(
@@ -283,7 +285,7 @@ fn draw_lone_after<W: Sink>(
     }
 }
 
-/// Whether a part has no number, and `before`, the last part number before it, is `after`.
+/// Whether a part has no number, and the last part number before it, `before`, equals `after`.
 fn is_lone_after(after: u8, before: u8, numbers: &Option<PartNumbers>) -> bool
     ensures { result ≡ (is_none numbers.now && before == after) }
 {
@@ -303,7 +305,8 @@ fn number_or(before: u8, numbers: &Option<PartNumbers>) -> u8
     }
 }
 
-/// Writes the words of a section on a part without a number, if `before`, the last part number before it, is `after`.
+/// Writes the words in `section` for a part without a number, if the last part number before it, `before`, equals
+/// `after`.
 fn draw_lone_if<W: Sink>(
     sink: &mut W,
     is_there: bool,
@@ -323,7 +326,8 @@ fn draw_lone_if<W: Sink>(
     }
 }
 
-/// Writes the words of a section on a part without a number. `after` is the number of the last numbered part before it.
+/// Writes the words in `section` for a part without a number. `after` is the number of the last numbered part before
+/// this part.
 fn draw_lone<W: Sink>(
     sink: &mut W,
     section: Section,
@@ -343,8 +347,8 @@ fn draw_lone<W: Sink>(
     }
 }
 
-/// Writes the words of a section on the parts from `place` on, in the order of arrival. `before` is the last part
-/// number before them.
+/// Writes the words in `section` for the parts in the order of arrival. The first of them is at `place`, and `before`
+/// is the last part number before them.
 fn draw_as_they_came<W: Sink>(
     sink: &mut W,
     section: Section,
@@ -366,7 +370,7 @@ fn draw_as_they_came<W: Sink>(
     }
 }
 
-/// Writes the words of a section on the part at `place`. `before` is the last part number before it.
+/// Writes the words in `section` for the part at `place`. `before` is the last part number before this part.
 fn draw_part_at<W: Sink>(
     sink: &mut W,
     section: Section,
@@ -402,7 +406,7 @@ fn name_at(day: &SheetDay, place: u8, numbers: &PartNumbers) -> PartName
     }
 }
 
-/// Writes the words of a section on a part that came `times` times.
+/// Writes the words in `section` for a part that came `times` times.
 fn draw_part<W: Sink>(
     sink: &mut W,
     section: Section,
@@ -424,7 +428,7 @@ fn draw_part<W: Sink>(
     }
 }
 
-/// Writes a part as a line in the list of the sheets.
+/// Writes the line for a part in the list of the sheets.
 fn draw_listed<W: Sink>(sink: &mut W, language: Language, name: PartName, part: &DamagedPart)
     ensures { Draws W.taken W.has_failed sink.old sink.new
         (listed_text language name (shown_text part.now)) }
@@ -435,7 +439,7 @@ fn draw_listed<W: Sink>(sink: &mut W, language: Language, name: PartName, part: 
     }
 }
 
-/// Writes a part that isn't read as a line in the list of the sheets.
+/// Writes the line for a part that isn't read, in the list of the sheets.
 fn draw_listed_unread<W: Sink>(sink: &mut W, language: Language, name: PartName)
     ensures { Draws W.taken W.has_failed sink.old sink.new (listed_unread language name) }
 {
@@ -450,7 +454,7 @@ fn draw_listed_unread<W: Sink>(sink: &mut W, language: Language, name: PartName)
     );
 }
 
-/// Writes the sheet for a part, if it is read.
+/// Writes the sheet for a part, if the part is read.
 fn draw_worked<W: Sink>(
     sink: &mut W,
     language: Language,
@@ -501,7 +505,8 @@ fn sheet_to_receive(model: Model) -> Sheet
     }
 }
 
-/// Writes the section on a part's text. It has its head, how often it came, and its text or why it isn't read.
+/// Writes the section on a part's text: its head, how often the part came, and the text or the reason why the part
+/// isn't read.
 fn draw_part_text<W: Sink>(
     sink: &mut W,
     language: Language,
@@ -539,7 +544,7 @@ fn draw_text_or_damage<W: Sink>(
     }
 }
 
-/// Writes the words of a section on a part that didn't come.
+/// Writes the words in `section` for a part that didn't come.
 fn draw_missing_in<W: Sink>(sink: &mut W, section: Section, language: Language, name: PartName)
     ensures { Draws W.taken W.has_failed sink.old sink.new (missing_in section language name) }
 {

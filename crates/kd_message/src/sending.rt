@@ -40,7 +40,7 @@ use std::alloc::Global;
 /// Why the page of an order isn't written.
 #[derive(Clone, Copy, Debug, PartialEq, Eq)]
 pub enum SendPageFault {
-    /// A fault that `send` also returns: one of the machine or of the order, or too little memory.
+    /// A fault that `send` returns, too: a fault of the machine or of the order, or a lack of memory.
     Order(FormFault),
     /// A write to the sink failed.
     Device,
@@ -60,7 +60,7 @@ impl From<FormFault> for SendPageFault {
 /// Writes the page in `language` that shows how to encipher `order` by hand on `machine`. The machine must be on the
 /// day's key.
 ///
-/// For a fault of `send`, nothing is written. For `Device`, a prefix of the page is written.
+/// For a fault that `send` returns, too, nothing is written. For `Device`, a prefix of the page is written.
 pub fn write_send_page<W: Sink>(
     alloc: Global,
     language: Language,
@@ -221,7 +221,7 @@ fn draw_part_sheets<W: Sink>(
     }
 }
 
-/// No warnings, as for each part to send.
+/// No warnings: a part to send has none.
 const NO_WARNINGS: Warnings = Warnings {
     letters_lost: false,
     copies_lost: false,
@@ -280,7 +280,7 @@ fn draw_form_parts<W: Sink>(
     }
 }
 
-/// Writes the part of the form in which `text` is enciphered with `keys`.
+/// Writes a part of the form: `text`, enciphered with `keys`.
 fn draw_made_part<W: Sink>(
     sink: &mut W,
     language: Language,

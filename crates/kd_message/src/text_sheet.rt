@@ -1,4 +1,4 @@
-//! The sheet with the text of a received form, and what to ask the other station for.
+//! The sheet with the text of a received form, and with what to ask the other station for.
 ghost use Rattle.std.specs.Prelude.{◌≡◌, ◌∷◌, ◌≤◌, [], decimal, false, length, map};
 ghost use Rattle.kd_pictures.specs.Drawing.{Draws};
 ghost use Rattle.kd_form.specs.Sending.{space_letter};
@@ -45,7 +45,8 @@ pub(crate) fn draw_text_sheet_head<W: Sink>(sink: &mut W, language: Language, da
     );
 }
 
-/// Writes that some of the form was passed over, or that some signs were read as other signs, if so.
+/// Writes that some of the form was passed over, or that some signs were read as other signs. Writes nothing if neither
+/// is so.
 pub(crate) fn draw_passed<W: Sink>(sink: &mut W, language: Language, parts: &[DamagedPart])
     ensures { Draws W.taken W.has_failed sink.old sink.new (passed_text language parts.now) }
 {
@@ -76,8 +77,8 @@ fn is_any_smoothed(parts: &[DamagedPart]) -> bool
     }
 }
 
-/// Writes that the parts aren't of one message. If they are, writes in which order they came, unless their numbers
-/// rise.
+/// Writes that the parts aren't of one message. If they are of one message, writes in which order they came, unless
+/// they came in the order of their numbers.
 pub(crate) fn draw_order<W: Sink>(sink: &mut W, language: Language, parts: &[DamagedPart])
     ensures { Draws W.taken W.has_failed sink.old sink.new (order_text language parts.now) }
 {
@@ -99,8 +100,8 @@ fn draw_several_words<W: Sink>(sink: &mut W, language: Language, parts: &[Damage
     draw_in(sink, language, SEVERAL_END);
 }
 
-/// Writes the numbers in the undamaged headings. `first` stands before the first heading's numbers, commas before the
-/// others'.
+/// Writes the numbers in the undamaged headings. `first` stands before the numbers of the first heading, a comma before
+/// the numbers of each later heading.
 fn draw_headings<W: Sink>(sink: &mut W, first: &str, parts: &[DamagedPart])
     ensures { Draws W.taken W.has_failed sink.old sink.new
         (headings_after first.now parts.now) }
@@ -116,7 +117,7 @@ fn draw_headings<W: Sink>(sink: &mut W, first: &str, parts: &[DamagedPart])
     }
 }
 
-/// Writes the numbers in a heading: the part's, and the number of parts.
+/// Writes the two numbers in a heading: the part's number, and the number of parts.
 fn draw_heading_words<W: Sink>(sink: &mut W, numbers: &PartNumbers)
     ensures { Draws W.taken W.has_failed sink.old sink.new (heading_words numbers.now) }
 {
@@ -125,7 +126,7 @@ fn draw_heading_words<W: Sink>(sink: &mut W, numbers: &PartNumbers)
     draw_count(sink, usize::from(numbers.parts));
 }
 
-/// Writes how often a part came, if it came more than once.
+/// Writes how often a part came, if the part came more than once.
 pub(crate) fn draw_came<W: Sink>(sink: &mut W, language: Language, times: usize)
     ensures { Draws W.taken W.has_failed sink.old sink.new (came_text language times) }
 {
@@ -154,7 +155,8 @@ fn draw_order_words<W: Sink>(sink: &mut W, language: Language, parts: &[DamagedP
     draw_in(sink, language, ORDER_END);
 }
 
-/// Writes the numbers of the parts that have one. `first` stands before the first number, commas before the others.
+/// Writes the numbers of the parts that have one. `first` stands before the first number, a comma before each later
+/// one.
 fn draw_numbers<W: Sink>(sink: &mut W, first: &str, parts: &[DamagedPart])
     ensures { Draws W.taken W.has_failed sink.old sink.new
         (numbers_after first.now (numbers_of parts.now)) }

@@ -18,13 +18,14 @@ pub const LIST_OF_SEVERAL: Text = (
     "<nav class=sheets aria-label=\"Blätter\">\n<ul>\n",
 );
 
-/// A part in the list of the sheets. Its values are the number of its sheet, its own number, and the number of parts.
+/// A part in the list of the sheets. The values are the number of the part's sheet, the part's number, and the number
+/// of parts.
 pub const LISTED_PART: Text = (
     "<li><a href=\"#part-~\">Part ~ of ~</a>\n",
     "<li><a href=\"#part-~\">Teil ~ von ~</a>\n",
 );
 
-/// A part that isn't read, in the list of the sheets. Its values are its number and the number of parts.
+/// A part that isn't read, in the list of the sheets. The values are the part's number and the number of parts.
 pub const LISTED_UNREAD: Text = (
     "<li><a href=\"#text\">Part ~ of ~</a>, not read\n",
     "<li><a href=\"#text\">Teil ~ von ~</a>, nicht lesbar\n",
@@ -73,8 +74,8 @@ pub const LIST_END_WITH_TEXT: Text = (
     "<li><a href=\"#text\">Klartext</a>\n</ul>\n</nav>\n",
 );
 
-/// The head of the sheet with the text, and the head of each part on it. The sheet's values are the model and the day.
-/// A part's values are its number, the number of parts, the model, and the day.
+/// The head of the sheet with the text; its values are the model and the day. Then the head of each part on this sheet;
+/// its values are the part's number, the number of parts, the model, and the day.
 pub const TEXT_SHEET: Text = (
     "<article id=text class=form>\n<header>\n<h1>~, day ~: text</h1>\n<p class=fields><span>From</span><span>Time</span><span>Read by</span></p>\n</header>\n",
     "<article id=text class=form>\n<header>\n<h1>~, Tag ~: Klartext</h1>\n<p class=fields><span>Von</span><span>Uhrzeit</span><span>Entschlüsselt durch</span></p>\n</header>\n",
@@ -85,7 +86,8 @@ pub const TEXT_PART: Text = (
     "<section>\n<h2>Teil ~ von ~<span>~, Tag ~: Klartext</span></h2>\n",
 );
 
-/// The start of a text: its lines may break between any letters, or between words. Then the end of a text.
+/// The start of a text whose lines may break between any letters, and of a text whose lines break between words. Then
+/// the end of either text.
 pub const TEXT_LETTERS: &str = "<p class=\"text letters\">";
 
 pub const TEXT_WORDS: &str = "<p class=\"text words\">";
@@ -98,7 +100,7 @@ pub const PASSED_OVER: Text = (
     "<p>Einiges im Spruch ist übergangen oder gelesen, wie es gemeint ist: Zeilen vor dem ersten Spruchkopf, Leerzeichen in einem Spruchkopf, Tabulatoren, Kleinbuchstaben.</p>\n",
 );
 
-/// The order in which the parts came: the words before the parts' numbers, and after them.
+/// The sentence about the order in which the parts came: the words before the parts' numbers, and the words after them.
 pub const ORDER: Text = (
     "<p>The parts came in this order: ",
     "<p>Die Teile kamen in dieser Reihenfolge: ",
@@ -106,7 +108,8 @@ pub const ORDER: Text = (
 
 pub const ORDER_END: Text = (".</p>\n", ".</p>\n");
 
-/// The parts aren't of one message: the words before the numbers in the headings, and after them.
+/// The sentence that the parts aren't of one message: the words before the numbers in the headings, and the words after
+/// them.
 pub const SEVERAL: Text = (
     "<p class=reason><b>Not one message.</b> The headings give different numbers of parts, or parts with one number differ or can’t be put together: ",
     "<p class=reason><b>Teile verschiedener Sprüche.</b> Die Spruchköpfe nennen verschiedene Zahlen von Teilen, oder Teile mit einer Nummer weichen voneinander ab oder passen nicht zusammen: ",
@@ -120,7 +123,7 @@ pub const SEVERAL_END: Text = (
 /// The sign between a part's number and the number of parts.
 pub const OF_PARTS: &str = "/";
 
-/// How often a part came: the words before the number, and after it.
+/// The sentence about how often a part came: the words before the number, and the words after it.
 pub const CAME: Text = ("<p>This part came ", "<p>Dieser Teil kam ");
 
 pub const CAME_END: Text = (
@@ -137,7 +140,8 @@ pub const ASK: Text = (
 /// The word before a group's number.
 pub const GROUP: Text = ("group ", "Gruppe ");
 
-/// Several groups in a row: the words before the number of the first group, and before the number of the last.
+/// Several groups in a row: the word before the number of the first group, and the word before the number of the last
+/// group.
 pub const GROUPS: Text = ("groups ", "Gruppen ");
 
 pub const TO_GROUP: Text = (" to ", " bis ");
@@ -149,7 +153,8 @@ pub const ITS_KEYS: Text = (
     "Grundstellung und Schlüssel des Spruchkopfs",
 );
 
-/// What to ask for: the count in a heading. Or the count and, once it is confirmed, the lines of the body.
+/// What to ask for if no group is short. For a damaged count, this is the count. For a wrong count, it is the count
+/// and, once the count is confirmed, the lines of the body.
 pub const ITS_COUNT: Text = ("its count", "Buchstabenzahl");
 
 pub const ITS_COUNT_OR_LINES: Text = (
@@ -162,7 +167,7 @@ pub const ALL_OF_IT: Text = ("all of it", "alles");
 /// The end of the checkbox.
 pub const ASK_END: &str = "</b></label>\n";
 
-/// A part that isn't read: the words before the reason, and after it.
+/// The paragraph about a part that isn't read: the words before the reason, and the end after it.
 pub const UNREAD: Text = (
     "<p class=reason><b>Not read.</b> ",
     "<p class=reason><b>Nicht lesbar.</b> ",
@@ -179,8 +184,8 @@ pub const HEADING_DAMAGED: Text = (
     ": Der Spruchkopf ist verstümmelt.",
 );
 
-/// A damaged heading: the words before the line as it came, before an example of a heading, and after the example. The
-/// examples are for three wheels, for four wheels, and for the Converter M-209.
+/// The sentence about a damaged heading: the words before the line as it came, before an example of a heading, and
+/// after the example. Then the examples: for three wheels, for four wheels, and for the Converter M-209.
 pub const HEADING_CAME: Text = (" It came as “", " Er kam als „");
 
 pub const HEADING_LIKE: Text = ("”, and should be like ", "“ und sollte sein wie ");
@@ -210,8 +215,8 @@ pub const BAD_BYTE: Text = (
     "Ein Zeichen des Spruchs ist kein Buchstabe.",
 );
 
-/// A wrong sign: the words before its place in its line, and before the sign. Then the word for a sign that isn't a
-/// digit, and the words after the sign.
+/// The sentence about a wrong sign: the words before its place in its line, and before the sign. Then the words for a
+/// sign that isn't a digit, and the words after the sign.
 pub const LETTER_OF_LINE: Text = (", letter ", ", Buchstabe ");
 
 pub const COLON: &str = ": ";
@@ -226,8 +231,8 @@ pub const COUNT_CAME: Text = (", but ", ", eingegangen: ");
 
 pub const COUNT_END: Text = (" came.", ".");
 
-/// A part that is read by count: the words before what is wrong with its count. Then the words before and after the
-/// number of letters that came, if the count is damaged.
+/// The paragraph about a part that is read by count: the words before what is wrong with its count. Then, for a damaged
+/// count, the words before and after the number of letters that came.
 pub const BY_COUNT: Text = (
     "<p class=reason><b>Read by the letters that came.</b> ",
     "<p class=reason><b>Gelesen nach den eingegangenen Buchstaben.</b> ",
@@ -240,12 +245,14 @@ pub const COUNT_DAMAGED: Text = (
 
 pub const COUNT_DAMAGED_END: Text = (" letters came.", " Buchstaben.");
 
-/// A group that doesn't have five letters: the words before its number, and after it.
+/// The sentence about a group that doesn't have five letters: the words before the group's number, and the words after
+/// it.
 pub const SHORT_GROUP: Text = (" Group ", " Gruppe ");
 
 pub const SHORT_GROUP_END: Text = (" hasn’t five letters.", " hat nicht fünf Buchstaben.");
 
-/// Each group but the last has five letters: the words before the number of letters that came, and after it.
+/// The sentence that each group but the last has five letters: the words before the number of letters that came, and
+/// after it.
 pub const FULL_GROUPS: Text = (
     " Each group but the last has five letters, so ",
     " Jede Gruppe bis auf die letzte hat fünf Buchstaben, also kann ",
@@ -253,7 +260,7 @@ pub const FULL_GROUPS: Text = (
 
 pub const FULL_GROUPS_END: Text = (" may be right.", " stimmen.");
 
-/// A short line: the words before the line, before the number of its letters, and after this number.
+/// The sentence about a short line: the words before the line, before the number of its letters, and after this number.
 pub const GAP: &str = " ";
 
 pub const LINE_HAS: Text = (" has ", " hat ");
@@ -289,8 +296,8 @@ pub const FORM: Text = (
     "<article id=form class=form>\n<header>\n<h1>~, Tag ~: Funkspruch</h1>\n<p class=fields><span>An</span><span>Von</span><span>Uhrzeit</span><span>Befördert durch</span></p>\n</header>\n",
 );
 
-/// The head of a part of the form. The values are its number, the number of parts, the model, and the day. Then come
-/// its number, the number of parts, and the number of letters.
+/// The head of a part of the form. The first values are the part's number, the number of parts, the model, and the day.
+/// Then come the part's number and the number of parts once more, and the number of letters.
 pub const FORM_PART: Text = (
     "<section>\n<h2>Part ~ of ~<span>~, day ~: form for the radio</span></h2>\n<p class=heading><span>part <b>PART ~/~</b></span><span>letters <b>~</b></span>",
     "<section>\n<h2>Teil ~ von ~<span>~, Tag ~: Funkspruch</span></h2>\n<p class=heading><span>Teil <b>PART ~/~</b></span><span>Buchstaben <b>~</b></span>",
@@ -329,8 +336,8 @@ pub const ARTICLE_END: &str = "</article>\n";
 
 // ---- What is told on standard error.
 
-/// A note about a part. The values are its number and the number of parts. Then the words before what to ask for, and
-/// the ends of the note.
+/// A note about a part. The values are the part's number and the number of parts. Then the words before what to ask
+/// for, and the ends of notes.
 pub const NOTE_PART: Text = ("Part ~ of ~: ", "Teil ~ von ~: ");
 
 pub const NOTE_ASK: Text = (" Ask for ", " Wiederholen lassen: ");
@@ -341,7 +348,7 @@ pub const LINE_END: &str = "\n";
 
 pub const NOTE_END: &str = ".\n";
 
-/// The notes on a part that is read.
+/// What is wrong with a part that is read, in the notes on standard error.
 pub const NOTE_LOST: Text = ("Letters are lost.", "Buchstaben fehlen.");
 
 pub const NOTE_OTHER_DAY: Text = (

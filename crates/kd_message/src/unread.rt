@@ -1,4 +1,4 @@
-//! Parts that aren't read: why, and what to ask the other station for.
+//! Writes why parts aren't read, and what to ask the other station for.
 ghost use Rattle.std.specs.Prelude.{◌≡◌, ◌+◌, ◌-◌, Some};
 ghost use Rattle.kd_pictures.specs.Drawing.{Draws};
 ghost use Rattle.kd_message.specs.TextSheet.{ask_text, asked_words, bad_byte_text, counts_text, damage_text};
@@ -113,7 +113,7 @@ pub(crate) fn draw_heading_fault<W: Sink>(
     draw(sink, fault);
 }
 
-/// Writes the words for a line of the form. It is line `number` of a part that begins on line `line` of the form.
+/// Writes the words for line `number` of a part. The part begins on line `line` of the form.
 pub(crate) fn draw_line_words<W: Sink>(sink: &mut W, language: Language, line: usize, number: usize)
     ensures { Draws W.taken W.has_failed sink.old sink.new (line_words language line number) }
 {
@@ -121,7 +121,8 @@ pub(crate) fn draw_line_words<W: Sink>(sink: &mut W, language: Language, line: u
     draw(sink, Buffer::new().format(line_of_form(line, number)));
 }
 
-/// The number of a line in the form. It is line `number` of a part that begins on line `line` of the form.
+/// The number of a line, counted from the start of the form. It is line `number` of its part, and the part begins on
+/// line `line` of the form.
 fn line_of_form(line: usize, number: usize) -> u128
     ensures { result ≡ line + number - 1 }
 {
@@ -183,7 +184,8 @@ pub(crate) fn draw_counts<W: Sink>(sink: &mut W, language: Language, counted: us
     draw_in(sink, language, COUNT_END);
 }
 
-/// Writes the heading's count, the number of letters that came, and the line in which letters are missing.
+/// Writes the heading's count, the number of letters that came and, if there is one, the line in which letters are
+/// missing.
 fn draw_count_wrong<W: Sink>(sink: &mut W, language: Language, part: &DamagedPart)
     ensures { Draws W.taken W.has_failed sink.old sink.new (count_text language part.now) }
 {
@@ -200,8 +202,7 @@ fn draw_short<W: Sink>(sink: &mut W, language: Language, line: usize, short: Opt
     }
 }
 
-/// Writes how many letters the line `short` has, and that a full line has 50. The part begins on line `line` of the
-/// form.
+/// Writes how many letters a short line has, and that a full line has 50. The part begins on line `line` of the form.
 fn draw_short_words<W: Sink>(sink: &mut W, language: Language, line: usize, short: ShortLine)
     ensures { Draws W.taken W.has_failed sink.old sink.new (short_words language line short) }
 {
@@ -212,8 +213,8 @@ fn draw_short_words<W: Sink>(sink: &mut W, language: Language, line: usize, shor
     draw_in(sink, language, FULL_LINE);
 }
 
-/// Writes what to ask for if the count is wrong, and the part isn't read. If a short line explains the count, these are
-/// its ten groups.
+/// Writes what to ask for if the count is wrong, and the part isn't read. If a short line explains the wrong count,
+/// asks for the ten groups of this line.
 fn draw_short_groups<W: Sink>(
     sink: &mut W,
     language: Language,

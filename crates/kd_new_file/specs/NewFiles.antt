@@ -1,24 +1,24 @@
--- Files by their names, and what a new file adds to them.
+-- Files by their names, and what a new file adds to these files.
 -- Code: `begin` makes a file under another name, and `publish` renames it. Files in memory are a map.
 -- Test: tests/new-files
 use Rattle.std.specs.Prelude.{◌≡◌, ℕ, List, Option, Some, None, String, Vec, bytes_eq, option_map}
 use Rattle.std.specs.BTreeMap.{BTreeMap, get_by_text}
 use Rattle.std.specs.Map.{update}
 
--- the bytes of the file with a name; `None` if there is no file with this name
+-- Files by their names: for a name, the file's bytes, or `None` if no file has this name.
 abbrev pub FilesByName : Type 0
 FilesByName = List ℕ → Option (List ℕ)
 
--- `files`, after the file `name` got the bytes `content`; if they are `None`, the file is gone
+-- `files`, once the file `name` has the bytes `content`; if `content` is `None`, the file is gone
 abbrev pub with_content : FilesByName → List ℕ → Option (List ℕ) → FilesByName
 with_content files name content = update bytes_eq files name content
 
--- No file of `old` is called `name`. `new` has the files of `old`, and a file called `name` with these bytes. If the
--- files `old` aren't known, the files `new` aren't known either.
+-- No file in `old` is called `name`. `new` has the files of `old`, and a file called `name` with these bytes. If `old`
+-- is `None`, because the files aren't known, `new` is `None`, too.
 abbrev pub AddsFile : Option FilesByName → Option FilesByName → List ℕ → Option (List ℕ) → Type 0
 AddsFile None new name bytes = new ≡ None
 AddsFile (Some files) new name bytes = (files name ≡ None) × (new ≡ Some (with_content files name bytes))
 
--- the files of a map, which has the bytes for each name
+-- the files of a map that has the bytes of a file for each file's name
 abbrev pub files_in : {A B : Type 0} → BTreeMap (String A) (Vec ℕ B) → FilesByName
 files_in map name = option_map (λ bytes. bytes.items) (get_by_text map name)

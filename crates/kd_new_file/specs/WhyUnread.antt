@@ -5,7 +5,9 @@ use Rattle.std.specs.declared.io.ErrorKind.TheVariants.{NotADirectory, NotFound,
 use Rattle.kd_new_file.specs.declared.why_unread.WhyUnread.{WhyUnread}
 use Rattle.kd_new_file.specs.declared.why_unread.WhyUnread.TheVariants as whys
 
--- a name without a file, also since a part before the name's last `/` is no folder; no permission; or another reason
+-- The reason why a file can't be read, for an error of this kind: there is no file with this name, reading isn't
+-- permitted, or another reason. A part of the name that should be a folder may be a file; then there is no file with
+-- this name.
 abbrev pub why_by_kind : ErrorKind → WhyUnread
 why_by_kind NotFound = whys.NotThere
 why_by_kind NotADirectory = whys.NotThere

@@ -1,4 +1,5 @@
-//! New files, which are there whole or not at all, and never in place of another file; and why a file can't be read.
+//! Makes new files, which are there as a whole or not at all, and never replace another file. Also says why a file
+//! can't be read.
 #![tactic(auto)]
 
 mod host_new_files;

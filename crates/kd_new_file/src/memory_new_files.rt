@@ -9,7 +9,7 @@ use kd_tables::MemorySink;
 use std::alloc::Global;
 use std::collections::BTreeMap;
 
-/// Files in memory. A new file can have at most `CAP` bytes.
+/// Files in memory. Each new file can have at most `CAP` bytes.
 #[derive(Drop)]
 pub struct MemoryNewFiles<const CAP: usize> {
     pub alloc: Global,

@@ -1,4 +1,4 @@
-//! A new file is written under another name. Once it is whole, it is renamed to its own name.
+//! Writing new files. A new file is written under another name. Once the file is whole, it is renamed to its own name.
 ghost use Rattle.std.specs.Prelude.{◌≡◌, ◌≢◌, ◌↔◌, ◌++◌, [], ℕ, codes, decimal, Option, Some, Err, IfErr, IfOk, IfSome, IsSome, OnErr, OnOk, false, string_bytes};
 ghost use Rattle.std.specs.Option.{option_map};
 ghost use Rattle.kd_new_file.specs.NewFiles.{AddsFile, FilesByName};
@@ -7,7 +7,7 @@ use crate::new_file_fault::NewFileFault;
 use crate::new_files::NewFiles;
 use std::alloc::Global;
 
-/// How many other names are tried at most.
+/// The greatest number of other names that are tried.
 const NAMES: u8 = 100;
 
 /// Begins a new file under another name, in the folder of `name`. Returns this other name, and the empty file.
@@ -41,9 +41,9 @@ pub fn begin<N: NewFiles>(
     Err(NewFileFault::Device)
 }
 
-/// Renames the new file `file` to `name`. It was begun under the name `other`, and is whole.
+/// Renames the new file `file` to `name`. The file was begun under the name `other`, and is whole.
 ///
-/// Returns `Taken` if there already is a file called `name`. After a fault, no name has the new file.
+/// Returns `Taken` if there already is a file called `name`. After a fault, the new file has no name, and is lost.
 pub fn publish<N: NewFiles>(
     files: &mut N,
     file: N::Written,

@@ -1,4 +1,4 @@
-//! `NewFiles`: a trait for making files in folders, and for looking at what is there.
+//! `NewFiles`: a trait for making files in folders, and for asking why a file can't be read.
 ghost use Rattle.std.specs.Prelude.{◌≡◌, ◌↔◌, [], false, List, ℕ, Option, None, Some, IfOk, IfSome, IsSome, Err, OnErr};
 ghost use Rattle.std.specs.Option.{option_map};
 ghost use Rattle.kd_new_file.specs.NewFiles.{AddsFile, FilesByName, with_content};
@@ -7,12 +7,12 @@ use crate::new_file_fault::NewFileFault;
 use crate::why_unread::WhyUnread;
 use kd_tables::Sink;
 
-/// Folders in which files are made, named, removed, and looked at.
+/// Folders in which files are made, named, and removed. They also say why a file can't be read.
 pub trait NewFiles {
     /// A file that is being written.
     type Written: Sink + Drop;
 
-    /// The files, by their names. `None` if they aren't known, as on the host.
+    /// The files, by their names. `None` if the files aren't known, as on the host.
     ///
     /// A file that is still being written counts as empty.
     ghost held: { Self → Option FilesByName } = { λ _. None };
@@ -27,8 +27,8 @@ pub trait NewFiles {
             (λ files. (result ≡ Err NewFileFault.Taken) ↔ IsSome (files name.now)) }
         ensures refused { OnErr result (held self.new ≡ held self.old) };
 
-    /// Stores all bytes that `file` has taken, and gives `file` a second name, `name`. It was made under the name
-    /// `other`.
+    /// Stores all bytes that `file` has taken. Gives `file`, which was made under the name `other`, the second name
+    /// `name`.
     ///
     /// Returns `Taken` if there already is a file called `name`.
     fn link(&mut self, file: Self::Written, other: &str, name: &str) -> Result<(), NewFileFault>
@@ -38,10 +38,10 @@ pub trait NewFiles {
             (λ files. (result ≡ Err NewFileFault.Taken) ↔ IsSome (files name.now)) }
         ensures refused { OnErr result (held self.new ≡ held self.old) };
 
-    /// Removes the name `name`, if the folder lets it.
+    /// Removes the name `name`, if the folder allows this.
     fn remove(&mut self, name: &str)
         ensures { held self.new ≡ option_map (λ files. with_content files name.now None) (held self.old) };
 
-    /// Says why the file `name` couldn't be read. No contract says which reason a folder gives.
+    /// The reason why the file `name` can't be read. No contract says which reason a folder gives.
     fn why_unread(&self, name: &str) -> WhyUnread;
 }

@@ -5,21 +5,21 @@ ghost use Rattle.kd_new_file.specs.WhyUnread.{why_by_kind};
 
 use std::io;
 
-/// Why a file can't be opened or read, as far as the folders tell.
+/// Why a file can't be opened or read, as far as the system says it.
 #[derive(Clone, Copy, Debug, PartialEq, Eq)]
 pub enum WhyUnread {
     /// There is no file with this name.
     NotThere,
-    /// It is a folder.
+    /// The name is the name of a folder.
     Folder,
-    /// The user may not read it.
+    /// The user isn't allowed to read the file.
     NotAllowed,
-    /// For another reason.
+    /// Another reason.
     Other,
 }
 
 impl WhyUnread {
-    /// Why a file can't be read whose opening gives `error`.
+    /// The reason why a file can't be read, if opening it gives `error`.
     pub fn of_error(error: &io::Error) -> WhyUnread
         ensures { result ≡ why_by_kind (error_kind error.now) }
     {

@@ -1,5 +1,5 @@
--- The checkboxes of a day's page. Each has the words for one setting and, except for pins, the setting's line.
--- The box of a machine has its spare wheels and reflectors.
+-- The checkboxes of a day's page. Each checkbox has the words for one setting and, except for pins, the setting's line.
+-- Spare wheels and reflectors are in the machine's box.
 use Rattle.std.specs.Prelude.{decimal, ℕ, ◌-◌, ◌==◌, Bool, if◌then◌else◌, List, [], ◌∷◌, ◌++◌, flat_map}
 use Rattle.std.specs.Prelude.{Option, Some, None}
 use Rattle.kd_tables.specs.declared.lug.Lug.{Lug}
@@ -30,13 +30,13 @@ use Rattle.kd_pictures.specs.Template.{filled, letter_text, ordinal_text}
 use Rattle.kd_pictures.specs.Wheels.{is_seated}
 use Rattle.kd_pictures.specs.Words.{mark_text, word_text}
 
--- the name of a slot; from the right, slots are called right, middle, left and Greek
+-- the name of a slot; from right to left, the names are right, middle, left and Greek
 abbrev pub slot_name : Model → ℕ → Word
 slot_name model slot =
     let after = slots_of model - slot in
     if after == 0 then Right else if after == 1 then Middle else if after == 2 then Left else Greek
 
--- the slot that holds the wheel; `None` if the wheel is a spare one in the box
+-- the slot of `slots` that holds the wheel; `None` if no slot does, and the wheel is a spare one in the box
 abbrev pub slot_holding : Parts → Wheel → List ℕ → Option ℕ
 slot_holding m wheel [] = None
 slot_holding m wheel (slot ∷ slots) = if is_seated m slot wheel then Some slot else slot_holding m wheel slots
@@ -46,14 +46,14 @@ abbrev pub box_ring_text : Language → Option ℕ → List ℕ
 box_ring_text l None = []
 box_ring_text l (Some ring) = filled (text_in l BOX_RING) (letter_text ring ∷ ordinal_text ring ∷ [])
 
--- the checkbox to put a spare wheel into a slot, with the ring that it has after the settings
+-- the checkbox to put a spare wheel into a slot, with the letter on which its ring has to stand
 abbrev pub from_box_text : Page → Setting → ℕ → Wheel → List ℕ
 from_box_text page x slot wheel =
     filled (text_in page.language SEAT) (
     decimal slot ∷ word_text page.language (slot_name (model_of page.after) slot) ∷ wheel_text wheel ∷ [])
     ++ box_ring_text page.language (machine_ring page.after wheel) ++ filled SEAT_END.now (setting_line x ∷ [])
 
--- The checkbox to put a wheel into a slot. It says in which slot the wheel was before, if it was in one.
+-- The checkbox to put a wheel into a slot. If the wheel was in another slot, the checkbox says in which one.
 abbrev pub seat_text : Page → Setting → ℕ → Wheel → Option ℕ → List ℕ
 seat_text page x slot wheel None = from_box_text page x slot wheel
 seat_text page x slot wheel (Some old) = filled (text_in page.language SEAT_FROM) (
@@ -71,16 +71,17 @@ lug_from_text l lug None = []
 lug_from_text l lugs.Left (Some bar) = filled (text_in l LUG_FROM) (place_text bar.0 ∷ [])
 lug_from_text l lugs.Right (Some bar) = filled (text_in l LUG_FROM) (place_text bar.1 ∷ [])
 
--- the checkbox to move a lug to a place of its bar; it also says from which place
+-- the checkbox to move a lug to a place of its bar; it also says at which place the lug is before
 abbrev pub lug_text : Language → Setting → Lug → Option (Place × Place) → Place → List ℕ
 lug_text l x lug bar place =
     filled LUG.now (word_text l (lug_word lug) ∷ []) ++ lug_from_text l lug bar
     ++ filled (text_in l LUG_END) (place_text place ∷ setting_line x ∷ [])
 
--- the mark of a pin: effective, or not; then the word for which way to set it
+-- the mark of an effective pin, or of a pin that isn't effective
 abbrev pub pin_mark : Bool → Mark
 pin_mark effective = if effective then Effective else Ineffective
 
+-- the word that says which way to set a pin
 abbrev pub pin_word : Bool → Word
 pin_word effective = if effective then On else Off
 

@@ -17,27 +17,27 @@ use Rattle.kd_page.specs.WheelSteps.{rings_in_box, rings_step, seats_step}
 use Rattle.kd_page.specs.Windows.{letters_step, windows_step}
 use Rattle.kd_pictures.specs.Words.{is_converter, mark_text}
 
--- the head of the day
+-- the head of the day: the page's title, and the number of settings
 unfoldable pub day_head : Page → List ℕ
 day_head page =
     filled texts.DAY.now (decimal page.day ∷ []) ++ page_title page
     ++ filled (text_in page.language texts.DAY_TITLED) (count_text page.language (length page.settings) ∷ [])
 
--- What to compare on a rotor machine. Pictures show its wheels before and after the settings. If there are no settings,
--- there is one picture.
+-- The words that say what to compare on a rotor machine. Pictures show its wheels before and after the settings. If
+-- there are no settings, there is one picture.
 abbrev pub wheels_text : Page → List ℕ
 wheels_text page =
     if length page.settings == 0 then one_band page.language page.after
     else both_bands page.language page.before page.after
 
--- the pictures, and the rings in the box before the settings; then the steps
+-- the pictures, the rings in the box before the settings, and the steps
 unfoldable pub rotor_text : Page → List ℕ
 rotor_text page =
     wheels_text page ++ rings_in_box page (text_in page.language texts.BOX_BEFORE) page.before
     ++ rings_step page ++ seats_step page ++ out_step page ++ in_step page ++ windows_step page
 
--- What to compare on a Converter before the first step. It has two marks: for a lug that stays, and for a lug that
--- leaves.
+-- The words that say what to compare on a Converter before the first step. They have two marks: the mark of a lug that
+-- stays, and the mark of a lug that leaves.
 unfoldable pub compare_pins : Language → List ℕ
 compare_pins l = filled (text_in l texts.COMPARE_PIN) (mark_text LugStays ∷ mark_text LugLeaves ∷ [])
 

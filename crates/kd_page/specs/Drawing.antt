@@ -1,2 +1,2 @@
--- What drawing a text means: see `Draws` in `kd_pictures`.
+-- The effect of writing a text: see `Draws` in `kd_pictures`.
 pub use Rattle.kd_pictures.specs.Drawing.{Draws}

@@ -1,4 +1,5 @@
--- The table of a Converter's bars, with the lugs that stay, leave and come. It has checkboxes for the lugs to move.
+-- The table of a Converter's bars, with marks for the lugs that stay, leave a place, or come to a place. The table has
+-- checkboxes for the lugs to move.
 use Rattle.std.specs.Prelude.{decimal, ℕ, ◌==◌, Bool, true, false, ◌&&◌, ◌||◌, if◌then◌else◌, List, [], ◌∷◌, ◌++◌}
 use Rattle.std.specs.Prelude.{flat_map}
 use Rattle.std.specs.Prelude.{Option, Some, None}
@@ -24,8 +25,8 @@ use Rattle.kd_pictures.specs.Words.{mark_text}
 abbrev pub has_lug : Place × Place → Place → Bool
 has_lug bar place = is_same_place bar.0 place || is_same_place bar.1 place
 
--- The mark of a place of a bar. The arguments say whether the place had a lug before the settings, and whether it has
--- one after them.
+-- The mark of a place of a bar. The first argument says whether the place has a lug before the settings, the second
+-- whether the place has a lug after the settings.
 abbrev pub cell_mark : Bool → Bool → Option Mark
 cell_mark true true = Some LugStays
 cell_mark true false = Some LugLeaves
@@ -47,7 +48,7 @@ abbrev pub bar_head : ℕ → Place × Place → Place × Place → List ℕ
 bar_head bar was is =
     filled (if is_same_standing was is then texts.BAR.now else texts.SET_BAR.now) (decimal bar ∷ [])
 
--- the end of a row with `count` checkboxes, which fills up the two cells for checkboxes
+-- The end of a row with `count` checkboxes. A row has two cells for checkboxes; the end fills up the empty cells.
 abbrev pub bar_end : ℕ → List ℕ
 bar_end count = if count == 0 then texts.NO_BOXES.now else if count == 1 then texts.ONE_BOX.now else texts.BOXES.now
 

@@ -21,7 +21,7 @@ unfoldable pub day_title : Language → Model → List ℕ → ℕ → List ℕ
 day_title l model sheet day =
     filled (text_in l TITLE_DAY) (model_name model ∷ decimal day ∷ []) ++ sheet_name sheet
 
--- the title of several days: the model, the first day and the last, and the name of the key sheet
+-- the title of several days: the model, the first day, the last day, and the name of the key sheet in the file `sheet`
 unfoldable pub days_title : Language → Model → List ℕ → ℕ → ℕ → List ℕ
 days_title l model sheet first last =
     filled (text_in l TITLE_DAYS) (model_name model ∷ decimal first ∷ decimal last ∷ []) ++ sheet_name sheet
@@ -34,22 +34,22 @@ title_text l model sheet first (next ∷ days) = days_title l model sheet first.
 unfoldable pub listed_text : Language → ListedDay → List ℕ
 listed_text l day = filled (text_in l NAV_DAY) (decimal day.day ∷ decimal day.day ∷ count_text l day.settings ∷ [])
 
--- the list of the days, under the file's title
+-- the list of the days; the file's title stands above it
 unfoldable pub list_of_days : Language → Model → List ℕ → ListedDay → List ListedDay → List ℕ
 list_of_days l model sheet first others =
     text_in l NAV ++ title_text l model sheet first others ++ NAV_LIST.now ++ listed_text l first
     ++ flat_map (listed_text l) others ++ NAV_END.now
 
--- the list of the days, if there are several
+-- the list of the days; empty if there is only one day
 abbrev pub nav_text : Language → Model → List ℕ → ListedDay → List ListedDay → List ℕ
 nav_text l model sheet first [] = []
 nav_text l model sheet first (next ∷ days) = list_of_days l model sheet first (next ∷ days)
 
--- the head of a file with the pages of these days of the key sheet in the file `sheet`
+-- the head of a file with the pages of these days; `sheet` is the name of the key sheet's file
 unfoldable pub head_text : Language → Model → List ℕ → ListedDay → List ListedDay → List ℕ
 head_text l model sheet first days =
     file_head l ++ title_text l model sheet first days ++ STYLE.now ++ BODY.now ++ nav_text l model sheet first days
 
--- the whole file: the head, the pages of the days, and the foot
+-- the whole file: its head, the pages of the days, and its foot
 unfoldable pub file_text : Language → Model → List ℕ → ListedDay → List ListedDay → List ℕ → List ℕ
 file_text l model sheet first days pages = head_text l model sheet first days ++ pages ++ FOOT.now

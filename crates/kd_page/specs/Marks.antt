@@ -1,5 +1,5 @@
--- A page marks a change of a thing only if the page's list has a setting of this thing. The windows of an Enigma are
--- left out here. A Converter's page also has marks for pins and lugs that stay.
+-- A page marks a change of a thing only if the page's list has a setting of this thing. A Converter's page also has
+-- marks for pins and lugs that stay. The windows of an Enigma are left out here.
 use Rattle.std.specs.Prelude.{◌≡◌, ℕ, nat_eq, Bool, true, false, ◌&&◌, List}
 use Rattle.std.specs.List.{list_any}
 use Rattle.kd_tables.specs.declared.wheel.Wheel.{Wheel}
@@ -48,8 +48,9 @@ turns_pin_wheel wheel _ = false
 
 -- ---- The laws.
 
--- Machine `m` is before the list, machine `n` after it. A thing that no setting of the list sets is the same on both.
--- So a page marks no change of this thing. A slot has no new wheel, unless the list seats this wheel there.
+-- Machine `m` is the machine before the list, and machine `n` the machine after it. A thing that no setting of the list
+-- sets is the same on both machines, so a page marks no change of this thing. A slot gets a new wheel only if the list
+-- puts this wheel into the slot.
 pub record MarksHaveSettings (m n : Parts) (list : List Setting) : Type 0 where
   pub rings : (wheel : Wheel) → list_any (sets_ring wheel) list ≡ false → machine_ring n wheel ≡ machine_ring m wheel
   pub reflector : list_any sets_reflector list ≡ false → machine_reflector n ≡ machine_reflector m

@@ -1,5 +1,5 @@
--- The settings that have a checkbox on a page, in the order of the checkboxes from the top. If settings are in the
--- order of a page, all of them have a checkbox.
+-- The settings that have a checkbox on a page, in the order of the checkboxes from the top. If settings are in a page's
+-- order, each of them has a checkbox.
 use Rattle.std.specs.Prelude.{ℕ, ◌<◌, ◌≤◌, List, [], ◌∷◌, ◌++◌, filter, flat_map, ◌≡◌, if◌then◌else◌}
 use Rattle.kd_tables.specs.declared.model.Model.{Model}
 use Rattle.kd_tables.specs.Permutation.{alphabet}
@@ -24,22 +24,23 @@ abbrev pub pin_by_pin : List Setting → List Setting
 pin_by_pin settings =
     flat_map (λ wheel. flat_map (λ letter. settings_at (pin_spot wheel letter) settings) alphabet) PIN_WHEELS
 
--- The settings that have a checkbox on the page, from the top of the page. First for rotor machines, then for
--- Converters, then for any model.
+-- the settings that have a checkbox on a rotor machine's page, in the order of the checkboxes from the top
 abbrev pub rotor_boxes : List Setting → List Setting
 rotor_boxes settings =
     settings_at (step_spot Rings) settings ++ settings_at (step_spot Seats) settings
     ++ row_by_row PlugsOut CABLES settings ++ row_by_row PlugsIn CABLES settings ++ row_by_row Turns SLOTS settings
 
+-- the settings that have a checkbox on a Converter's page, in the order of the checkboxes from the top
 abbrev pub pin_boxes : List Setting → List Setting
 pin_boxes settings = pin_by_pin settings ++ row_by_row Lugs BARS settings ++ row_by_row Turns PIN_WHEELS settings
 
+-- the settings that have a checkbox on the page of any model, in the order of the checkboxes from the top
 abbrev pub page_boxes : Model → List Setting → List Setting
 page_boxes model settings = if is_converter model then pin_boxes settings else rotor_boxes settings
 
 -- ---- The order of a page.
 
--- The keys of the items never fall. They are at least `from`, and less than `end`.
+-- The keys of the items never fall. The first key is at least `from`, and all keys are less than `end`.
 abbrev pub IsRanked : {X : Type 0} → (X → ℕ) → ℕ → ℕ → List X → Type 0
 IsRanked key from end [] = Unit {0}
 IsRanked key from end (x ∷ xs) = (from ≤ key x) × (key x < end) × IsRanked key (key x) end xs
@@ -47,7 +48,7 @@ IsRanked key from end (x ∷ xs) = (from ≤ key x) × (key x < end) × IsRanked
 abbrev pub step_number : Setting → ℕ
 step_number x = step_rank (step_of x)
 
--- The settings of a rotor machine come step by step. Within a step that has a table, they come row by row.
+-- The settings of a rotor machine come step by step. In a step that has a table, the settings come row by row.
 pub record IsRotorOrder (settings : List Setting) : Type 0 where
   pub steps : IsRanked step_number 0 7 settings
   pub no_pins : settings_at (step_spot Pins) settings ≡ []
@@ -56,8 +57,8 @@ pub record IsRotorOrder (settings : List Setting) : Type 0 where
   pub «in» : IsRanked row_of 1 14 (settings_at (step_spot PlugsIn) settings)
   pub turns : IsRanked row_of 1 5 (settings_at (step_spot Turns) settings)
 
--- The settings of a Converter come step by step. Pins come wheel by wheel, and on each wheel letter by letter. Lugs
--- come bar by bar.
+-- The settings of a Converter come step by step. Settings of pins come wheel by wheel, and on each wheel letter by
+-- letter. Settings of lugs come bar by bar.
 pub record IsPinOrder (settings : List Setting) : Type 0 where
   pub steps : IsRanked step_number 4 7 settings
   pub pins : IsRanked row_of 1 7 (settings_at (step_spot Pins) settings)
@@ -65,8 +66,8 @@ pub record IsPinOrder (settings : List Setting) : Type 0 where
   pub lugs : IsRanked row_of 1 28 (settings_at (step_spot Lugs) settings)
   pub turns : IsRanked row_of 1 7 (settings_at (step_spot Turns) settings)
 
--- Let settings be in the order of a page. Then the page's checkboxes, from the top, are for exactly these settings, in
--- this order.
+-- If settings are in a page's order, the page has a checkbox for each of these settings, in this order from the top,
+-- and no other checkbox.
 abbrev pub RotorBoxesAreTheSettings : Type 0
 RotorBoxesAreTheSettings = (settings : List Setting) → IsRotorOrder settings → rotor_boxes settings ≡ settings
 

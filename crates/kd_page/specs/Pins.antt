@@ -1,4 +1,5 @@
--- The table of a Converter's pins: which are effective after the settings, and which change.
+-- The table of a Converter's pins, with marks for the pins that are effective after the settings, and frames for the
+-- pins that change.
 use Rattle.std.specs.Prelude.{decimal, ℕ, ◌==◌, Bool, false, not, if◌then◌else◌, List, [], ◌∷◌, ◌++◌, flat_map, take}
 use Rattle.std.specs.Prelude.{drop}
 use Rattle.std.specs.Prelude.{Option, Some, None}
@@ -23,15 +24,15 @@ use Rattle.kd_pictures.specs.Words.{mark_text}
 abbrev pub pin_spot : ℕ → ℕ → Spot
 pin_spot wheel letter = record { step = Pins; row = Some wheel; cell = Some letter }
 
--- whether the pin was the same before the settings; the first argument is what it is after them
+-- whether the pin is the same before and after the settings; the first argument says whether it is effective after them
 abbrev pub is_same_pin : Bool → Option Bool → Bool
 is_same_pin effective was = option_map_or (λ old. if old then effective else not effective) was false
 
--- a pin without a setting: its letter, and its mark
+-- a pin that isn't set: its letter, and its mark
 abbrev pub pin_shown : ℕ → Bool → List ℕ
 pin_shown letter effective = filled texts.PIN_SHOWN.now (letter_text letter ∷ mark_text (pin_mark effective) ∷ [])
 
--- the content of a pin's cell: its checkbox or, if it has no setting, its letter and its mark
+-- the content of a pin's cell: the pin's checkbox or, if the pin isn't set, its letter and its mark
 abbrev pub pin_inside : Page → ℕ → ℕ → Bool → List ℕ
 pin_inside page wheel letter effective =
     let spot = pin_spot wheel letter in
@@ -44,8 +45,8 @@ abbrev pub pin_item : Page → ℕ → ℕ → Bool → List ℕ
 pin_item page wheel letter effective =
     cell_text (is_same_pin effective (machine_pin page.before wheel letter)) ++ pin_inside page wheel letter effective
 
--- The cell of a pin after the settings. It is framed if the pin changes, and empty if the wheel doesn't have the
--- letter.
+-- The cell of a pin, as the pin is after the settings. The cell is framed if the pin changes, and empty if the wheel
+-- doesn't have the letter.
 abbrev pub pin_cell : Page → ℕ → ℕ → Option Bool → List ℕ
 pin_cell page wheel letter None = texts.NO_PIN.now
 pin_cell page wheel letter (Some effective) = pin_item page wheel letter effective
@@ -54,7 +55,8 @@ abbrev pub pin_cells : Page → ℕ → List ℕ → List ℕ
 pin_cells page wheel letters =
     flat_map (λ letter. pin_cell page wheel letter (machine_pin page.after wheel letter)) letters
 
--- The words with which the settings lines of a wheel's pins begin. Empty if no pin of the wheel changes.
+-- The beginning that the settings lines of a wheel's pins share. It is empty if no pin of the wheel changes (`count` is
+-- 0).
 abbrev pub pin_lines : ℕ → ℕ → List ℕ
 pin_lines wheel count = if count == 0 then [] else filled texts.PIN_LINES.now (decimal wheel ∷ [])
 

@@ -14,16 +14,17 @@ use Rattle.kd_page.specs.Spots.{count_at, row_spot, step_spot}
 use Rattle.kd_page.specs.Steps.{idle_text, step_text}
 use Rattle.kd_pictures.specs.Template.{filled}
 
--- the row of a cable, with its checkboxes; then the same row, but empty if no plug of the cable moves
+-- the row of a cable, with the checkboxes for its plugs
 abbrev pub moving_row : Page → Step → ℕ → List ℕ
 moving_row page step number =
     filled texts.PLUG_ROW.now (decimal number ∷ []) ++ boxes_at page (row_spot step number) ++ texts.ROW_END.now
 
+-- the row of a cable; empty if no plug of the cable moves
 abbrev pub plug_row : Page → Step → ℕ → List ℕ
 plug_row page step number =
     if count_at (row_spot step number) page.settings == 0 then [] else moving_row page step number
 
--- The table of the plugs to move. `head` says what the marks mean, and has the table's head.
+-- The table of the plugs to move. `head` has the meaning of the marks, and the head of the table.
 unfoldable pub plug_table : Page → List ℕ → Step → List ℕ
 plug_table page head step = head ++ flat_map (plug_row page step) CABLES ++ texts.PLUGS_END.now
 
@@ -32,13 +33,13 @@ plugs_out page count =
     step_text page words.PlugsOut count ++ board_text page.language Out page.before page.after
     ++ plug_table page (text_in page.language texts.PLUGS_OUT) PlugsOut ++ texts.BOARD_STEP_END.now
 
--- the step of the plugs to take out; only its title if there are no such plugs
+-- the step of the plugs to take out; only its title if there are no plugs to take out
 abbrev pub out_step : Page → List ℕ
 out_step page =
     let count = count_at (step_spot PlugsOut) page.settings in
     if count == 0 then idle_text page.language words.PlugsOut else plugs_out page count
 
--- The caption, which says what the marks mean. Then the table of the `count` plugs to put in, if there are any.
+-- The caption with the meaning of the marks. Then the table of the `count` plugs to put in, if there are any.
 abbrev pub in_table : Page → ℕ → List ℕ
 in_table page count =
     if count == 0 then text_in page.language texts.CAPTION_SAME

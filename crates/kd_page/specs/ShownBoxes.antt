@@ -8,14 +8,14 @@ use Rattle.kd_page.specs.DayPage.{day_text}
 use Rattle.kd_page.specs.Page.{Page}
 use Rattle.kd_page.specs.PageOrder.{IsPinOrder, IsRotorOrder}
 
--- The text has a piece for each item, in the order of the items. There may be other text between the pieces.
+-- The text has a piece for each item, in the order of the items. Other text may stand between the pieces.
 abbrev pub HasInTurn : {X : Type 0} → (X → List ℕ) → List X → List ℕ → Type 0
 HasInTurn part [] text = Unit {0}
 HasInTurn part (x ∷ xs) text =
     (before : List ℕ) × (after : List ℕ) × (text ≡ before ++ part x ++ after) × HasInTurn part xs after
 
--- Let the settings lead from the machine before to the machine after. Then the text of the page has the checkbox of
--- each setting, in the order of the settings.
+-- If the settings turn the machine `before` into the machine `after`, the text of the page has the checkbox of each
+-- setting, in the order of the settings.
 abbrev pub HasItsBoxes : Page → Type 0
 HasItsBoxes page =
     Leads page.before page.settings page.after

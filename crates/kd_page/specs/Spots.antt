@@ -1,5 +1,5 @@
--- Where on a page a setting has its checkbox. It is at a step of the page, in a row of the step's table, and in a cell
--- of the row.
+-- The spots of a page's checkboxes. A setting's checkbox is at a step of the page. If the step has a table, the
+-- checkbox is in a row of the table; if the row has cells, it is in a cell of the row.
 use Rattle.std.specs.Prelude.{ℕ, nat_eq, Bool, true, ◌&&◌, List, filter, length, Some, None}
 use Rattle.std.specs.Option.{option_map_or}
 use Rattle.kd_state.specs.declared.setting.Setting.{Setting}
@@ -28,8 +28,8 @@ step_of (settings.PinTo wheel letter effective) = Pins
 step_of (settings.LugTo bar lug place) = Lugs
 step_of (settings.Turn slot letter) = Turns
 
--- The row of a setting in the table of its step: the number of the cable, pin wheel, bar or slot. It is 0 if the step
--- has no table.
+-- The row of a setting in the table of the setting's step: the number of the cable, pin wheel, bar or slot. It is 0 if
+-- the step has no table.
 abbrev pub row_of : Setting → ℕ
 row_of (settings.RingTo wheel letter) = 0
 row_of (settings.Seat slot wheel) = 0
@@ -40,7 +40,7 @@ row_of (settings.PinTo wheel letter effective) = wheel
 row_of (settings.LugTo bar lug place) = bar
 row_of (settings.Turn slot letter) = slot
 
--- The cell of a setting in its row: the letter of the pin. 0 if the row has no cells.
+-- The cell of a setting in the setting's row: the letter of the pin. It is 0 if the row has no cells.
 abbrev pub cell_of : Setting → ℕ
 cell_of (settings.RingTo wheel letter) = 0
 cell_of (settings.Seat slot wheel) = 0
@@ -51,15 +51,16 @@ cell_of (settings.PinTo wheel letter effective) = letter
 cell_of (settings.LugTo bar lug place) = 0
 cell_of (settings.Turn slot letter) = 0
 
--- the spot of a whole step; then the spot of a row of its table
+-- the spot of a whole step
 abbrev pub step_spot : Step → Spot
 step_spot step = record { step = step; row = None; cell = None }
 
+-- the spot of a row of a step's table
 abbrev pub row_spot : Step → ℕ → Spot
 row_spot step row = record { step = step; row = Some row; cell = None }
 
--- Whether the setting's checkbox is at this spot. It is in the spot's step and, if the spot has a row or a cell, also
--- in these.
+-- Whether the setting's checkbox is at this spot. The checkbox has to be in the spot's step. If the spot has a row or a
+-- cell, the checkbox has to be in this row or cell, too.
 abbrev pub is_at : Spot → Setting → Bool
 is_at spot x =
     nat_eq (step_rank (step_of x)) (step_rank spot.step)

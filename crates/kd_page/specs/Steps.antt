@@ -1,4 +1,4 @@
--- The title of a page, the heads of its steps, and lists of boxes.
+-- The title of a page, the heads of its steps, and lists of checkboxes.
 use Rattle.std.specs.Prelude.{ℕ, ◌==◌, if◌then◌else◌, List, [], ◌∷◌, ◌++◌}
 use Rattle.kd_state.specs.Machine.{model_of}
 use Rattle.kd_pictures.specs.declared.language.Language.{Language}
@@ -12,18 +12,19 @@ use Rattle.kd_page.specs.Spots.{step_spot}
 use Rattle.kd_pictures.specs.Template.{count_text, filled}
 use Rattle.kd_pictures.specs.Words.{word_text}
 
--- the title of the page, which is also in the heads of its steps
+-- the title of the page; it is repeated in the heads of the page's steps
 abbrev pub page_title : Page → List ℕ
 page_title page = day_title page.language (model_of page.after) page.sheet page.day
 
 unfoldable pub titled_text : Page → List ℕ
 titled_text page = page_title page ++ STEP_TITLED.now
 
--- the head of a step with this number of settings; `idle_text`: a step without anything inside
+-- the head of a step with `count` settings
 unfoldable pub step_text : Page → Word → ℕ → List ℕ
 step_text page title count =
     filled STEP.now (word_text page.language title ∷ count_text page.language count ∷ []) ++ titled_text page
 
+-- a step without settings, which has only a head
 abbrev pub idle_text : Language → Word → List ℕ
 idle_text l title = filled IDLE_STEP.now (word_text l title ∷ count_text l 0 ∷ [])
 
@@ -31,7 +32,8 @@ idle_text l title = filled IDLE_STEP.now (word_text l title ∷ count_text l 0 �
 unfoldable pub plain_step_text : Page → Word → List ℕ
 plain_step_text page title = filled PLAIN_STEP.now (word_text page.language title ∷ []) ++ titled_text page
 
--- The head of a step with more checkboxes than settings. It says the number of settings only if there are some.
+-- The head of a step that may have more checkboxes than settings. It gives the number of settings, `count`, only if
+-- this isn't 0.
 abbrev pub full_step_text : Page → Word → ℕ → List ℕ
 full_step_text page title count = if count == 0 then plain_step_text page title else step_text page title count
 

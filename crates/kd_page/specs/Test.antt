@@ -1,4 +1,5 @@
--- The test of the real machine: keys to press, the letters that the machine makes of them, and letters to set again.
+-- The test of the real machine: the keys to press, the letters that light up or are printed, and the letters to set
+-- again.
 use Rattle.std.specs.Prelude.{codes, ℕ, Bool, if◌then◌else◌, List, [], ◌∷◌, ◌++◌}
 use Rattle.std.specs.Prelude.{length}
 use Rattle.std.specs.Prelude.{false, true, replicate, flat_map, Option, Some, None}
@@ -25,17 +26,17 @@ use Rattle.kd_pictures.specs.Words.{is_converter}
 abbrev pub test_keys : Parts → List ℕ
 test_keys m = if is_converter (model_of m) then replicate 26 0 else alphabet
 
--- the words for what to set again after the test: the windows, or a Converter's letters
+-- the words that say what to set again after the test: the windows, or a Converter's letters
 abbrev pub test_end : Language → Model → List ℕ
 test_end l model = if is_converter model then text_in l texts.TEST_END_PIN else text_in l texts.TEST_END_ROTOR
 
--- the keys in groups of five, and below them the letters that the machine makes of them
+-- the keys in groups of five, and below each key the letter that lights up or is printed
 unfoldable pub test_text : Language → Parts → List ℕ
 test_text l m =
     fives_from 0 (test_keys m) ++ texts.TEST_LAMPS.now ++ fives_from 0 (physical_cipher m (test_keys m))
     ++ test_end l (model_of m)
 
--- a letter to set again; on a rotor machine, with its number
+-- a letter to set again; on a rotor machine, the letter's number stands beside it
 abbrev pub again_text : Bool → ℕ → List ℕ
 again_text has_number letter =
     if has_number then filled texts.AGAIN_ROTOR.now (letter_text letter ∷ ordinal_text letter ∷ [])
@@ -55,17 +56,18 @@ again_all separator has_number m =
 abbrev pub letters_again : Parts → List ℕ
 letters_again m = if is_converter (model_of m) then again_all (codes " ") false m else again_all (codes ", ") true m
 
--- The note at the end of the page. It has a line for the letters when the machine is put away, and the number of
--- settings.
+-- The note at the end of the page. It has the number of settings, and a line on which to write the letters when the
+-- machine is put away.
 abbrev pub note_text : Language → Model → List Setting → List ℕ
 note_text l model settings =
     filled (if is_converter model then text_in l texts.NOTE_PIN else text_in l texts.NOTE_ROTOR)
     (count_text l (length settings) ∷ [])
 
--- the title of the test; then its instructions
+-- the title of the test
 abbrev pub test_title : Model → Word
 test_title model = if is_converter model then words.PrintTest else words.LampTest
 
+-- the instructions for the test
 abbrev pub test_words : Language → Model → List ℕ
 test_words l model = if is_converter model then text_in l texts.TEST_PIN else text_in l texts.TEST_ROTOR
 

@@ -1,5 +1,5 @@
--- The steps of the rings, and of the wheels and the reflector: what comes from the box, and what goes into it, and a box to
--- tick for each setting.
+-- The steps of the rings, and of the wheels and the reflector. They say which parts come from the box, and which parts
+-- go into the box, and have the checkbox of each setting.
 use Rattle.std.specs.Prelude.{ℕ, ◌||◌, ◌==◌, Bool, false, if◌then◌else◌, List, [], ◌∷◌, ◌++◌, flat_map}
 use Rattle.std.specs.Prelude.{Option, Some, None, is_some, option_and_then, option_map}
 use Rattle.std.specs.Option.{option_map_or}
@@ -21,24 +21,25 @@ use Rattle.kd_page.specs.Page.{Page}
 use Rattle.kd_page.specs.Spots.{count_at, step_spot}
 use Rattle.kd_page.specs.Steps.{idle_text, list_text, step_text}
 
--- the wheel of a slot of machine `m`, if no slot of machine `n` has it: then the wheel is in the box of `n`
+-- `wheel`, unless it is in a slot
 abbrev pub unless_held : Wheel → Option ℕ → Option Wheel
 unless_held wheel None = Some wheel
 unless_held wheel (Some slot) = None
 
+-- the wheel in a slot of machine `m`, unless a slot of machine `n` has this wheel
 abbrev pub lone_wheel : Parts → Parts → ℕ → Option Wheel
 lone_wheel m n slot =
     option_and_then (λ seated. option_and_then (λ wheel. unless_held wheel (slot_holding n wheel SLOTS)) seated)
     (machine_slot m slot)
 
--- whether one of the slots has such a wheel
+-- whether one of the slots of machine `m` has a wheel that no slot of machine `n` has
 abbrev pub has_lone_wheel : Parts → Parts → List ℕ → Bool
 has_lone_wheel m n [] = false
 has_lone_wheel m n (slot ∷ slots) = is_some (lone_wheel m n slot) || has_lone_wheel m n slots
 
 -- ---- The wheels that come from the box.
 
--- the wheel that comes into a slot from the box, and where its ring stands on machine `m`
+-- the wheel that comes from the box into a slot, with the letter on which its ring stands on machine `m`
 abbrev pub wheel_from_box : Page → Parts → ℕ → Option (Wheel × ℕ)
 wheel_from_box page m slot =
     option_and_then (λ wheel. option_map (λ ring. (wheel, ring)) (machine_ring m wheel))
@@ -49,7 +50,7 @@ from_box_shown None = []
 from_box_shown (Some (wheel, ring)) =
     filled BOX_WHEEL.now (wheel_text wheel ∷ letter_text ring ∷ ordinal_text ring ∷ [])
 
--- these words, and the rings on machine `m` of the wheels that come from the box, slot by slot
+-- the words `told`, then the wheels that come from the box, slot by slot, each with its ring on machine `m`
 unfoldable pub all_rings_in_box : Page → List ℕ → Parts → List ℕ
 all_rings_in_box page told m =
     told ++ flat_map (λ slot. from_box_shown (wheel_from_box page m slot)) SLOTS ++ BOXED_END.now
@@ -60,7 +61,7 @@ rings_in_box page told m =
 
 -- ---- The steps.
 
--- Rings are set while the wheels are out.
+-- The step of the rings, which are set while the wheels are out of the machine.
 unfoldable pub some_rings_text : Page → ℕ → List ℕ
 some_rings_text page count =
     step_text page words.RingsOut count ++ rings_in_box page (text_in page.language BOX_AFTER) page.after
@@ -71,7 +72,7 @@ rings_step page =
     let count = count_at (step_spot Rings) page.settings in
     if count == 0 then idle_text page.language words.Rings else some_rings_text page count
 
--- the reflector before the settings, unless it is the same after them
+-- `reflector`, unless the machine still has it after the settings
 abbrev pub unless_same : Reflector → Option Reflector → Option Reflector
 unless_same reflector other =
     if option_map_or (same_reflector reflector) other false then None else Some reflector

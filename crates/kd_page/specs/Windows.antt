@@ -1,4 +1,4 @@
--- The letters to set last, in the windows or on the pin wheels. Each of these has a checkbox.
+-- The letters to set last, in the windows or on the pin wheels. Each letter has a checkbox.
 use Rattle.std.specs.Prelude.{decimal, ℕ, List, [], ◌∷◌, ◌++◌, flat_map, Option, Some, None, option_and_then}
 use Rattle.std.specs.Option.{option_or}
 use Rattle.kd_state.specs.declared.machine.parts.Parts.{Parts}
@@ -19,11 +19,11 @@ abbrev pub letter_in_slot : Parts → ℕ → Option ℕ
 letter_in_slot m slot =
     option_and_then (λ seated. option_and_then (machine_letter m) seated) (machine_slot m slot)
 
--- the letter in a slot's window, or of a pin wheel
+-- the letter in a slot's window, or on a pin wheel
 abbrev pub letter_shown : Parts → ℕ → Option ℕ
 letter_shown m number = option_or (letter_in_slot m number) (machine_pin_letter m number)
 
--- the checkbox of a window; it has the settings line if the window's letter changes
+-- the checkbox of a window; if a setting turns the window's wheel, the checkbox has the setting's line
 abbrev pub window_item : Page → ℕ → ℕ → List ℕ
 window_item page slot letter =
     filled (text_in page.language texts.WINDOW_BOX) (decimal slot ∷ letter_text letter ∷ ordinal_text letter ∷ [])

@@ -1,4 +1,5 @@
-//! The checkboxes of a day's page. Each has the words for one setting and, except for pins, the setting's line.
+//! The checkboxes of a day's page. Each checkbox has the words for one setting and, except for pins, the setting's
+//! line.
 ghost use Rattle.std.specs.Prelude.{◌≡◌, flat_map};
 ghost use Rattle.kd_state.specs.declared.setting.Setting.TheVariants.{LugTo, Seat};
 ghost use Rattle.kd_state.specs.Machine.{machine_standing};
@@ -27,7 +28,7 @@ pub(crate) fn draw_boxes<W: Sink>(sink: &mut W, page: &Page<'_>, spot: &Spot)
     draw_boxes_of(sink, page, spot, page.settings());
 }
 
-/// Writes the checkboxes of those `settings` that have their checkbox at `spot`.
+/// Writes the checkbox of each setting of `settings` whose checkbox is at `spot`.
 fn draw_boxes_of<W: Sink>(sink: &mut W, page: &Page<'_>, spot: &Spot, settings: &[Setting])
     ensures { Draws W.taken W.has_failed sink.old sink.new
         (flat_map (box_at page.now spot.now) settings.now) }
@@ -97,7 +98,7 @@ fn draw_box<W: Sink>(sink: &mut W, page: &Page<'_>, setting: &Setting)
     }
 }
 
-/// Writes the checkbox to put a wheel into a slot. It says in which slot the wheel was before, if it was in one.
+/// Writes the checkbox to put a wheel into a slot. If the wheel was in another slot, the checkbox says in which one.
 fn draw_seat<W: Sink>(sink: &mut W, page: &Page<'_>, slot: u8, wheel: Wheel)
     ensures { Draws W.taken W.has_failed sink.old sink.new
         (seat_text page.now (Seat slot wheel) slot wheel
@@ -120,7 +121,8 @@ fn draw_seat<W: Sink>(sink: &mut W, page: &Page<'_>, slot: u8, wheel: Wheel)
     }
 }
 
-/// Writes the checkbox to put a spare wheel into a slot. It says how the ring has to stand, which can't be seen later.
+/// Writes the checkbox to put a spare wheel into a slot. The checkbox says on which letter the wheel's ring has to
+/// stand, as the ring can't be seen later.
 fn draw_from_box<W: Sink>(sink: &mut W, page: &Page<'_>, slot: u8, wheel: Wheel)
     ensures { Draws W.taken W.has_failed sink.old sink.new
         (from_box_text page.now (Seat slot wheel) slot wheel) }
@@ -155,7 +157,7 @@ fn draw_box_ring<W: Sink>(sink: &mut W, language: Language, ring: Option<Letter>
     }
 }
 
-/// Writes the checkbox to move a lug to a place of its bar. It also says from which place.
+/// Writes the checkbox to move a lug to a place of its bar. The checkbox also says at which place the lug is before.
 fn draw_lug<W: Sink>(sink: &mut W, page: &Page<'_>, bar: u8, lug: Lug, place: Place)
     ensures { Draws W.taken W.has_failed sink.old sink.new
         (lug_text page.now.language (LugTo bar lug place) lug
@@ -191,7 +193,7 @@ fn slot_name(model: Model, slot: u8) -> Word
     }
 }
 
-/// The slot among `slots` that holds the wheel. `None` if none does: the wheel is a spare one in the box.
+/// The slot of `slots` that holds the wheel. `None` if no slot does, and the wheel is a spare one in the box.
 pub(crate) fn slot_holding(machine: &Machine, wheel: Wheel, slots: &[u8]) -> Option<u8>
     ensures { result ≡ slot_holding machine.now wheel slots.now }
 {

@@ -64,7 +64,7 @@ fn draw_rotor_steps<W: Sink>(sink: &mut W, page: &Page<'_>)
     draw_windows_step(sink, page);
 }
 
-/// Writes what to compare first, with pictures of the wheels.
+/// Writes the words that say what to compare first, with pictures of the wheels.
 fn draw_wheels<W: Sink>(sink: &mut W, page: &Page<'_>)
     ensures { Draws W.taken W.has_failed sink.old sink.new (wheels_text page.now) }
 {
@@ -84,7 +84,7 @@ fn draw_pin_steps<W: Sink>(sink: &mut W, page: &Page<'_>)
     draw_letters_step(sink, page);
 }
 
-/// Writes what to compare first on a Converter.
+/// Writes the words that say what to compare first on a Converter.
 #[tactic(auto, unfolding(crate::specs::DayPage::compare_pins))]
 fn draw_compare_pins<W: Sink>(sink: &mut W, language: Language)
     ensures { Draws W.taken W.has_failed sink.old sink.new (compare_pins language) }

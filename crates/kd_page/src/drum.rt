@@ -1,4 +1,4 @@
-//! The table of a Converter's bars, with the lugs that stay, leave and come.
+//! The table of a Converter's bars, with marks for the lugs that stay, leave a place, or come to a place.
 ghost use Rattle.std.specs.Prelude.{◌≡◌, ◌++◌, flat_map};
 ghost use Rattle.kd_tables.specs.Places.{places};
 ghost use Rattle.kd_state.specs.Machine.{machine_standing};
@@ -31,7 +31,7 @@ pub(crate) fn draw_lugs_step<W: Sink>(sink: &mut W, page: &Page<'_>)
     draw(sink, DRUM_END);
 }
 
-/// Writes the caption, which says what the marks mean, and the head of the table.
+/// Writes the caption with the meaning of the marks, and the head of the table.
 #[tactic(auto, unfolding(crate::specs::Drum::drum_head))]
 fn draw_drum_head<W: Sink>(sink: &mut W, language: Language)
     ensures { Draws W.taken W.has_failed sink.old sink.new (drum_head language) }
@@ -108,7 +108,7 @@ fn is_same_standing(was: Standing, is: Standing) -> bool
     was.left() == is.left() && was.right() == is.right()
 }
 
-/// The end of a row with `count` checkboxes, which fills up the two cells for checkboxes.
+/// The end of a row with `count` checkboxes. A row has two cells for checkboxes; the end fills up the empty cells.
 fn bar_end(count: u8) -> &'static str
     ensures { result.now ≡ bar_end count }
 {
@@ -119,7 +119,7 @@ fn bar_end(count: u8) -> &'static str
     }
 }
 
-/// Writes a cell for each place of a bar in `places`.
+/// Writes a cell for each of the places `places` of a bar.
 fn draw_cells<W: Sink>(
     sink: &mut W,
     language: Language,

@@ -21,9 +21,9 @@ pub struct ListedDay {
     pub settings: u8,
 }
 
-/// Writes the head of a file with the page of the day `first`, and the pages of the days `others` after it.
+/// Writes the head of a file with the pages of the day `first` and of the later days `others`.
 ///
-/// The days are of the key sheet in the file `sheet`.
+/// `sheet` is the name of the key sheet's file.
 pub fn draw_head<W: Sink>(
     sink: &mut W,
     language: Language,
@@ -68,7 +68,7 @@ fn draw_title<W: Sink>(
     }
 }
 
-/// Writes the title of a day: the model, the day, and the sheet's name.
+/// Writes the title of a day: the model, the day, and the name of the key sheet.
 pub(crate) fn draw_day_title<W: Sink>(
     sink: &mut W,
     language: Language,
@@ -83,7 +83,7 @@ pub(crate) fn draw_day_title<W: Sink>(
     draw_sheet_name(sink, sheet);
 }
 
-/// Writes the title of several days: the model, the first day and the last, and the sheet's name.
+/// Writes the title of several days: the model, the first day, the last day, and the name of the key sheet.
 fn draw_days_title<W: Sink>(
     sink: &mut W,
     language: Language,
@@ -106,7 +106,7 @@ fn draw_days_title<W: Sink>(
     draw_sheet_name(sink, sheet);
 }
 
-/// The last of these days, of which the first is `day`.
+/// The last of the days `day` and `others`.
 fn last_of(day: ListedDay, others: &[ListedDay]) -> ListedDay
     ensures { result ≡ last_of day others.now }
 {
@@ -116,7 +116,7 @@ fn last_of(day: ListedDay, others: &[ListedDay]) -> ListedDay
     }
 }
 
-/// Writes the list of the days, if there are several.
+/// Writes the list of the days. Writes nothing if there is only one day.
 fn draw_nav<W: Sink>(
     sink: &mut W,
     language: Language,

@@ -3,8 +3,8 @@ ghost use Rattle.kd_page.specs.Marks.{AllMarksHaveSettings};
 ghost use Rattle.kd_page.specs.PageOrder.{PinBoxesAreTheSettings, RotorBoxesAreTheSettings};
 ghost use Rattle.kd_page.specs.ShownBoxes.{PinPageHasTheBoxes, RotorPageHasTheBoxes};
 
-/// Let the settings be in the order of a page. Then the page's checkboxes, from the top, are for exactly these
-/// settings, in this order.
+/// If settings are in a page's order, the page has a checkbox for each of these settings, in this order from the top,
+/// and no other checkbox.
 pub fn boxes_are_the_settings()
     ensures rotor { RotorBoxesAreTheSettings }
     ensures pin { PinBoxesAreTheSettings }

@@ -4,7 +4,8 @@ use kd_pictures::Language;
 use kd_state::{Machine, Setting};
 use kd_tables::Model;
 
-/// A day of a sheet, and the settings that turn one machine into another: what each step of a page is made of.
+/// A day's page. It has a key sheet, a day, two machines, and the settings that turn the first machine into the second
+/// machine.
 #[derive(Drop)]
 pub struct Page<'a> {
     language: Language,
@@ -39,7 +40,8 @@ impl<'a> Page<'a> {
     ghost use Rattle.kd_page.specs.Page.{page_of};
     ghost use Rattle.kd_page.specs.Spots.{count_at};
 
-    /// The page of day `day` of the key sheet in the file `sheet`: `settings` turn the machine `before` into `after`.
+    /// The page of day `day` of the key sheet in the file `sheet`. `settings` turn the machine `before` into the
+    /// machine `after`.
     pub fn new(
         language: Language,
         sheet: &'a str,

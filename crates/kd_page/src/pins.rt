@@ -1,4 +1,5 @@
-//! The table of a Converter's pins: which are effective after the settings, and which change.
+//! The table of a Converter's pins, with marks for the pins that are effective after the settings, and frames for the
+//! pins that change.
 ghost use Rattle.std.specs.Prelude.{◌≡◌, ◌++◌, flat_map};
 ghost use Rattle.kd_tables.specs.Permutation.{alphabet};
 ghost use Rattle.kd_pictures.specs.Drawing.{Draws};
@@ -31,7 +32,7 @@ pub(crate) fn draw_pins_step<W: Sink>(sink: &mut W, page: &Page<'_>)
     draw(sink, PINS_END);
 }
 
-/// Writes the caption, which says what the marks mean.
+/// Writes the caption with the meaning of the marks.
 #[tactic(auto, unfolding(crate::specs::Pins::pins_caption))]
 fn draw_pins_caption<W: Sink>(sink: &mut W, language: Language)
     ensures { Draws W.taken W.has_failed sink.old sink.new (pins_caption language) }
@@ -89,7 +90,8 @@ fn draw_pin_head<W: Sink>(sink: &mut W, language: Language, wheel: u8, count: u8
     draw_pin_lines(sink, language, wheel, count);
 }
 
-/// Writes the words with which the settings lines of a wheel's pins begin. If `count` is 0, writes nothing.
+/// Writes the beginning that the settings lines of a wheel's pins share. Writes nothing if no pin of the wheel changes
+/// (`count` is 0).
 fn draw_pin_lines<W: Sink>(sink: &mut W, language: Language, wheel: u8, count: u8)
     ensures { Draws W.taken W.has_failed sink.old sink.new (pin_lines wheel count) }
 {
@@ -115,8 +117,8 @@ fn draw_pin_cells<W: Sink>(sink: &mut W, page: &Page<'_>, wheel: u8, letters: &[
     }
 }
 
-/// Writes the cell of a pin. `effective` says whether it is effective after the settings. `None` means that the wheel
-/// doesn't have the letter.
+/// Writes the cell of a pin. `effective` says whether the pin is effective after the settings; `None` means that the
+/// wheel doesn't have the letter.
 fn draw_pin_cell<W: Sink>(
     sink: &mut W,
     page: &Page<'_>,
@@ -155,7 +157,7 @@ fn is_same_pin(effective: bool, was: Option<bool>) -> bool
     }
 }
 
-/// Writes the content of a pin's cell: its checkbox or, if it has no setting, its letter and its mark.
+/// Writes the content of a pin's cell: the pin's checkbox or, if the pin isn't set, its letter and its mark.
 fn draw_pin_inside<W: Sink>(
     sink: &mut W,
     page: &Page<'_>,

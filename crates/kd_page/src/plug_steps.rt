@@ -63,8 +63,8 @@ fn draw_plugs_in<W: Sink>(sink: &mut W, page: &Page<'_>, count: u8)
     draw(sink, BOARD_STEP_END);
 }
 
-/// Writes the caption, which says what the marks mean. Then writes the table of the `count` plugs to put in, if there
-/// are any.
+/// Writes the caption with the meaning of the marks. Then writes the table of the `count` plugs to put in, if there are
+/// any.
 fn draw_in_table<W: Sink>(sink: &mut W, page: &Page<'_>, count: u8)
     ensures { Draws W.taken W.has_failed sink.old sink.new (in_table page.now count) }
 {
@@ -95,7 +95,7 @@ fn draw_plug_rows<W: Sink>(sink: &mut W, page: &Page<'_>, step: Step, numbers: &
     }
 }
 
-/// Writes the row of a cable, if one of its plugs moves.
+/// Writes the row of a cable, if a plug of the cable moves.
 fn draw_plug_row<W: Sink>(sink: &mut W, page: &Page<'_>, step: Step, number: u8)
     ensures { Draws W.taken W.has_failed sink.old sink.new (plug_row page.now step number) }
 {

@@ -1,4 +1,4 @@
-//! Where a setting has its checkbox on a page.
+//! The spots of a page's checkboxes.
 ghost use Rattle.std.specs.Prelude.{◌≡◌, ◌≤◌, length, nat_eq, true};
 ghost use Rattle.std.specs.Option.{option_map_or};
 ghost use Rattle.kd_page.specs.Spots.{cell_of, count_at, is_at, row_of, row_spot, step_of, step_rank, step_spot};
@@ -18,13 +18,13 @@ pub enum Step {
     Turns,
 }
 
-/// A spot of a page with checkboxes. It is a step, a row of the step's table, or a cell of the row.
+/// A spot of a page with checkboxes: a step, a row of the step's table, or a cell of the row.
 #[derive(Clone, Copy)]
 pub struct Spot {
     pub step: Step,
-    /// The row, by the number of its cable, pin wheel, bar or slot; `None` for a whole step.
+    /// The row: the number of the row's cable, pin wheel, bar or slot. `None` for a whole step.
     pub row: Option<u8>,
-    /// The cell, by the letter of its pin; `None` for a whole row.
+    /// The cell: the letter of the cell's pin. `None` for a whole row.
     pub cell: Option<Letter>,
 }
 
@@ -86,7 +86,7 @@ pub(crate) fn is_at(spot: &Spot, setting: &Setting) -> bool
         && is_cell(spot.cell, cell_of(setting))
 }
 
-/// Whether `row` is the row `number`, or is `None`.
+/// Whether `row` is the row with number `number`, or is `None`.
 fn is_row(row: Option<u8>, number: u8) -> bool
     ensures { result ≡ option_map_or (nat_eq number) row true }
 {

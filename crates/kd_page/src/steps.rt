@@ -1,4 +1,4 @@
-//! The title of a page, the heads of its steps, and lists of boxes.
+//! The title of a page, the heads of its steps, and lists of checkboxes.
 ghost use Rattle.std.specs.Prelude.{◌≡◌, ◌++◌};
 ghost use Rattle.kd_pictures.specs.Drawing.{Draws};
 ghost use Rattle.kd_page.specs.Steps.{full_step_text, idle_text, list_text, page_title, plain_step_text};
@@ -27,7 +27,7 @@ pub(crate) fn draw_page_title<W: Sink>(sink: &mut W, page: &Page<'_>)
     );
 }
 
-/// Writes the title of the page in the head of a step: sheets of paper come apart.
+/// Writes the title of the page in the head of a step. It is repeated there, as sheets of paper come apart.
 fn draw_titled<W: Sink>(sink: &mut W, page: &Page<'_>)
     ensures { Draws W.taken W.has_failed sink.old sink.new (titled_text page.now) }
 {
@@ -49,7 +49,7 @@ pub(crate) fn draw_step<W: Sink>(sink: &mut W, page: &Page<'_>, title: Word, cou
     draw_titled(sink, page);
 }
 
-/// Writes a step without anything inside.
+/// Writes a step without settings, which has only a head.
 pub(crate) fn draw_idle<W: Sink>(sink: &mut W, language: Language, title: Word)
     ensures { Draws W.taken W.has_failed sink.old sink.new (idle_text language title) }
 {
@@ -69,7 +69,8 @@ pub(crate) fn draw_plain_step<W: Sink>(sink: &mut W, page: &Page<'_>, title: Wor
     draw_titled(sink, page);
 }
 
-/// Writes the head of a step with more checkboxes than its `count` settings.
+/// Writes the head of a step that may have more checkboxes than settings. It gives the number of settings, `count`,
+/// only if this isn't 0.
 pub(crate) fn draw_full_step<W: Sink>(sink: &mut W, page: &Page<'_>, title: Word, count: u8)
     ensures { Draws W.taken W.has_failed sink.old sink.new (full_step_text page.now title count) }
 {

@@ -1,4 +1,4 @@
-//! The test of the real machine. It says which lamps light up, or which letters are printed, for given keys.
+//! The test of the real machine. For given keys, it says which lamps light up, or which letters are printed.
 ghost use Rattle.std.specs.Prelude.{◌≡◌, ◌++◌, flat_map};
 ghost use Rattle.kd_state.specs.Machine.{model_of};
 ghost use Rattle.kd_state.specs.TwoCiphers.{IsReady, physical_cipher};
@@ -56,7 +56,7 @@ fn draw_test_words<W: Sink>(sink: &mut W, language: Language, model: Model)
     }
 }
 
-/// Writes the keys, and the letters that the machine makes of them.
+/// Writes the keys, and the letters that light up or are printed for them.
 fn draw_test<W: Sink>(sink: &mut W, language: Language, machine: &Machine)
     requires { IsReady machine.now }
     ensures { Draws W.taken W.has_failed sink.old sink.new (test_text language machine.now) }
@@ -68,7 +68,7 @@ fn draw_test<W: Sink>(sink: &mut W, language: Language, machine: &Machine)
     draw_test_end(sink, language, machine.model());
 }
 
-/// Writes what to set again after the test: the windows, or a Converter's letters.
+/// Writes the words that say what to set again after the test: the windows, or a Converter's letters.
 fn draw_test_end<W: Sink>(sink: &mut W, language: Language, model: Model)
     ensures { Draws W.taken W.has_failed sink.old sink.new (test_end language model) }
 {
@@ -90,7 +90,7 @@ fn test_keys(machine: &Machine) -> [Letter; 26]
     }
 }
 
-/// The letters that the machine makes of these keys.
+/// The letters that light up or are printed for these keys.
 #[tactic(auto, using(kd_state::proofs::Keys::engine_cipher))]
 fn enciphered(machine: &Machine, keys: [Letter; 26]) -> [Letter; 26]
     requires { IsReady machine.now }
@@ -171,7 +171,7 @@ fn draw_separated<W: Sink>(
     draw_again(sink, language, has_number, letter);
 }
 
-/// Writes a letter to set again; on a rotor machine, with its number.
+/// Writes a letter to set again. On a rotor machine, the letter's number stands beside it.
 fn draw_again<W: Sink>(sink: &mut W, language: Language, has_number: bool, letter: Letter)
     ensures { Draws W.taken W.has_failed sink.old sink.new (again_text has_number letter) }
 {

@@ -41,7 +41,8 @@ fn draw_rings<W: Sink>(sink: &mut W, page: &Page<'_>, count: u8)
     draw_list(sink, page, Step::Rings);
 }
 
-/// Writes the rings on `machine` of the wheels that come from the box, after the words `told`, if any come from there.
+/// Writes the words `told`, and the wheels that come from the box, each with its ring on `machine`. Writes nothing if
+/// no wheel comes from the box.
 pub(crate) fn draw_rings_in_box<W: Sink>(
     sink: &mut W,
     page: &Page<'_>,
@@ -97,7 +98,7 @@ fn draw_from_box<W: Sink>(sink: &mut W, language: Language, from_box: Option<(Wh
     }
 }
 
-/// The wheel that comes into a slot from the box, and where its ring stands on `machine`.
+/// The wheel that comes from the box into a slot, with the letter on which its ring stands on `machine`.
 fn wheel_from_box(page: &Page<'_>, machine: &Machine, slot: u8) -> Option<(Wheel, Letter)>
     ensures { result ≡ wheel_from_box page.now machine.now slot }
 {
@@ -106,7 +107,7 @@ fn wheel_from_box(page: &Page<'_>, machine: &Machine, slot: u8) -> Option<(Wheel
     Some((wheel, ring))
 }
 
-/// Writes the step of the wheels and the reflector.
+/// Writes the step in which the wheels and the reflector are put in.
 pub(crate) fn draw_seats_step<W: Sink>(sink: &mut W, page: &Page<'_>)
     ensures { Draws W.taken W.has_failed sink.old sink.new (seats_step page.now) }
 {
@@ -182,7 +183,7 @@ fn draw_boxed_reflector<W: Sink>(sink: &mut W, language: Language, reflector: Op
     }
 }
 
-/// Whether one of the slots has a wheel that no slot of `other` has.
+/// Whether one of the slots of `machine` has a wheel that no slot of `other` has.
 fn has_lone_wheel(machine: &Machine, other: &Machine, slots: &[u8]) -> bool
     ensures { result ≡ has_lone_wheel machine.now other.now slots.now }
 {
@@ -194,7 +195,7 @@ fn has_lone_wheel(machine: &Machine, other: &Machine, slots: &[u8]) -> bool
     }
 }
 
-/// The wheel of a slot of `machine`, if no slot of `other` has it.
+/// The wheel in a slot of `machine`, unless a slot of `other` has this wheel.
 fn lone_wheel(machine: &Machine, other: &Machine, slot: u8) -> Option<Wheel>
     ensures { result ≡ lone_wheel machine.now other.now slot }
 {
@@ -205,7 +206,7 @@ fn lone_wheel(machine: &Machine, other: &Machine, slot: u8) -> Option<Wheel>
     }
 }
 
-/// The reflector before the settings, unless it is the same after them.
+/// The reflector before the settings, unless the machine still has it after the settings.
 fn boxed_reflector(page: &Page<'_>) -> Option<Reflector>
     ensures { result ≡ boxed_reflector page.now }
 {

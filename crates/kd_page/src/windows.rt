@@ -1,4 +1,4 @@
-//! The letters to set last, in the windows or on the pin wheels. Each of these has a checkbox.
+//! The letters to set last, in the windows or on the pin wheels. Each letter has a checkbox.
 ghost use Rattle.std.specs.Prelude.{◌≡◌, ◌++◌, flat_map};
 ghost use Rattle.kd_state.specs.Machine.{machine_pin_letter};
 ghost use Rattle.kd_pictures.specs.Drawing.{Draws};
@@ -102,7 +102,7 @@ fn draw_letter_item<W: Sink>(sink: &mut W, page: &Page<'_>, wheel: u8, letter: L
     draw(sink, LETTER_BOX_END);
 }
 
-/// The letter in the window of a slot, or of a pin wheel.
+/// The letter in the window of a slot, or on a pin wheel.
 pub(crate) fn letter_shown(machine: &Machine, number: u8) -> Option<Letter>
     ensures { result ≡ letter_shown machine.now number }
 {

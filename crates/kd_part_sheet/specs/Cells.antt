@@ -16,7 +16,7 @@ sign_text signs.Nothing = no_letter
 sign_text signs.Lost = lost_letter
 sign_text (signs.Letter letter) = letter_text letter
 
--- the cell of a letter that is copied to the line, without a key press
+-- the cell of a letter that the operator copies onto the line, without a key press
 abbrev pub copied : ℕ → Cell
 copied letter =
     record { above = signs.Nothing; below = signs.Letter letter; is_pressed = false; mark = marks.NoMark }
@@ -48,7 +48,7 @@ text_sign for_space None = signs.Lost
 text_sign None (Some letter) = signs.Letter letter
 text_sign (Some space) (Some letter) = if letter == space then signs.Nothing else signs.Letter letter
 
--- the cells of letters that came with the form and are pressed; the letters of the text stand below them
+-- The cells of letters that came with the form and are pressed. Below each letter stands its letter of the text.
 abbrev pub received_cells : Option ℕ → List (Option ℕ) → List (Option ℕ) → List Cell
 received_cells for_space (key ∷ keys) (letter ∷ text) =
     record { above = sign_of key; below = text_sign for_space letter; is_pressed = true; mark = marks.NoMark }
@@ -58,22 +58,22 @@ received_cells for_space (key ∷ keys) [] = []
 
 -- ---- The internal key of a Converter: wheels 1 to 6 each take the next letter that they have.
 
--- The mark of a printed letter. Wheel `taken` was the last to take a letter. If the next wheel has the printed letter,
--- this wheel takes it; otherwise the letter is struck out. After wheel 6, no letter is needed.
+-- The mark of a printed letter. Wheel `taken` was the last to take a letter; 0 is none. If the next wheel has the
+-- printed letter, the next wheel takes it; otherwise the letter is struck out. After wheel 6, no letter is needed.
 abbrev pub mark_of : ℕ → ℕ → Mark
 mark_of taken letter =
     if taken == 6 then marks.NotNeeded
     else if is_some (place_on (ring_of (taken + 1)) letter) then marks.Taken (taken + 1) else marks.StruckOut
 
--- The last wheel that has taken a letter, after a letter with this mark. Before this letter, it was wheel `taken`.
+-- The last wheel to take a letter, once a letter has this mark. Before, wheel `taken` was the last.
 abbrev pub taken_after : ℕ → Mark → ℕ
 taken_after taken marks.NoMark = taken
 taken_after taken marks.NotNeeded = taken
 taken_after taken marks.StruckOut = taken
 taken_after taken (marks.Taken wheel) = wheel
 
--- The cells with which the internal key is found. Each has the chosen letter above, a letter printed for it below, and
--- the printed letter's mark. Wheel `taken` was the last to take a letter.
+-- The cells with which the internal key is found. In each cell, the chosen letter stands above the line, and the letter
+-- printed for it stands below, with a mark. Wheel `taken` was the last to take a letter.
 abbrev pub choice_cells : ℕ → ℕ → List ℕ → List Cell
 choice_cells taken chosen [] = []
 choice_cells taken chosen (letter ∷ printed) =

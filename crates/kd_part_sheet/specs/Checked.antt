@@ -1,4 +1,4 @@
--- The templates of a part's sheet, and how many values each takes.
+-- The templates of a part's sheet, each with the number of values that it takes.
 use Rattle.std.specs.Prelude.{ℕ}
 use Rattle.kd_pictures.specs.Checked.{HasGaps, Takes}
 use Rattle.kd_part_sheet.specs.declared.markup.TheConstants as markup

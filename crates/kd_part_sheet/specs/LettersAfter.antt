@@ -12,14 +12,14 @@ abbrev pub letters_shown : EngineKey → List ℕ
 letters_shown (Rotor key) = key.window
 letters_shown (Pin key) = key.letters
 
--- The letters that a machine of this day shows after `presses` key presses, if it showed `start` before them.
+-- The letters that a machine of this day shows after `presses` key presses. Before, it showed `start`.
 abbrev pub letters_after : Day → List ℕ → ℕ → List ℕ
 letters_after s start presses =
     letters_shown (engine_key_after (key_with_window (sheet_key s) start) presses)
 
 -- ---- What the code holds. No public contract cites this definition.
 
--- the letters on a Converter's pin wheels after `presses` letters were enciphered, if they showed `start` before
+-- The letters that a Converter's pin wheels show after `presses` letters were enciphered. Before, they showed `start`.
 abbrev pub wheels_after : PinEntry → List ℕ → ℕ → List ℕ
 wheels_after entry start presses =
     (pin_key_after (record { pins = pins_of entry.pins; letters = start; bars = entry.rows }) presses).letters

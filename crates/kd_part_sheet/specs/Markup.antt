@@ -7,7 +7,7 @@ use Rattle.std.specs.Prelude.{codes, ℕ, List, [], ◌∷◌, ◌++◌}
 abbrev pub wide_space : List ℕ
 wide_space = 194 ∷ 160 ∷ []
 
--- the signs for no letter, for a lost letter, and for a letter that is struck out
+-- the sign in place of no letter, the sign of a lost letter, and the sign of a letter that is struck out
 abbrev pub no_letter : List ℕ
 no_letter = wide_space
 
@@ -27,7 +27,7 @@ two_spaces = wide_space ++ wide_space
 abbrev pub comma : List ℕ
 comma = codes ", "
 
--- The markup of a group: its start, and the end of the signs above the line. Then the markup of small letters and of
+-- The markup of a group: its start, and the end of the signs above the line. Then the markup of small print and of
 -- marks, and the end of the group.
 abbrev pub group_start : List ℕ
 group_start = codes "<span><b>"

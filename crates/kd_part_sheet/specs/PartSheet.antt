@@ -1,4 +1,4 @@
--- The sheet for one part of a message, by which an operator enciphers or deciphers it.
+-- The sheet with which an operator enciphers or deciphers one part of a message.
 use Rattle.std.specs.Prelude.{decimal, ℕ, Bool, if◌then◌else◌, List, [], ◌∷◌, ◌++◌, length, map, take, drop}
 use Rattle.kd_tables.specs.declared.model.Model.{Model}
 use Rattle.kd_tables.specs.declared.model.Model.TheVariants.{EnigmaI, M3, M4, M209}
@@ -21,7 +21,7 @@ use Rattle.kd_part_sheet.specs.Sheet.{sheet_text}
 use Rattle.kd_part_sheet.specs.Windows.{windows_text}
 use Rattle.kd_part_sheet.specs.Words.{cables_text, rings_after, wheels_after}
 
--- the text if `is_there`; otherwise nothing
+-- `text` if `is_there`; otherwise nothing
 abbrev pub text_if : Bool → List ℕ → List ℕ
 text_if is_there text = if is_there then text else []
 
@@ -39,7 +39,7 @@ rotor_key_text l s =
     filled (text_in l texts.REFLECTOR) (reflector_text s.reflector ∷ []) ++ wheels_after [] s.wheels
     ++ text_in l texts.RINGS ++ rings_after [] s.wheels ++ text_in l texts.CABLES ++ cables_text l s.pairs ++ KEY_END.now
 
--- the key of the day, on which the machine has to be
+-- the paragraph with the key of the day, to which the machine has to be set
 abbrev pub day_key_text : Language → Day → List ℕ
 day_key_text l (Rotor s) = rotor_key_text l s
 day_key_text l (Pin s) = filled (text_in l texts.LIST) (map letter_text s.list)
@@ -63,7 +63,7 @@ text_head l sheet name letters = filled (sheet_text l sheet texts.TEXT_STEP) (de
 abbrev pub first_sheet : Model → ℕ
 first_sheet model = if is_converter model then 200 else 250
 
--- the rows of the remaining letters, on a second sheet of paper; nothing if there are none
+-- the rows of the letters `cells`, on a second sheet of paper; nothing if there are no letters
 abbrev pub next_sheet : Language → Sheet → Day → PartName → List ℕ → Progress → List Cell → List ℕ
 next_sheet l sheet s name start progress [] = []
 next_sheet l sheet s name start progress (cell ∷ cells) =
@@ -76,7 +76,7 @@ text_rows l sheet s name start body =
     rows_after s start beginning (pieces 50 first)
     ++ next_sheet l sheet s name start (progress_after beginning first) (drop (first_sheet name.model) body)
 
--- the warnings about the copies of the indicators, and about the day
+-- the warnings that copies of the indicators lost letters, and that the day is wrong or can't be tested
 abbrev pub warnings_text : Language → Sheet → Warnings → List ℕ
 warnings_text l sheet warnings =
     text_if warnings.copies_lost (text_in l texts.COPIES_LOST)

@@ -1,4 +1,5 @@
--- What the sheet of a part shows: windows to set, letters to press, and letters of lamps that have to light up.
+-- What the sheet of a part shows: the windows to set, the letters to press, and the letters of the lamps that have to
+-- light up.
 use Rattle.std.specs.Prelude.{◌≡◌, ℕ, List, ◌++◌, map}
 use Rattle.kd_state.specs.SheetDay.{Day}
 use Rattle.kd_state.specs.EngineKey.{IsWindow}
@@ -12,8 +13,9 @@ use Rattle.kd_form.specs.PartMaking.{cipher_from, enciphered_choice, fill_last_g
 use Rattle.kd_part_sheet.specs.declared.cells.Cell.{Cell}
 use Rattle.kd_part_sheet.specs.Cells.{choice_cells, copied, pressed_cells}
 
--- The letters on the sheet of a part. `ground` are the letters to set first. Then the letters of `key` find the message
--- key or the internal key. `start` are the letters to set before the text. `body` has the letters of the body.
+-- The letters on the sheet of a part. The operator first sets the letters `ground`. The letters in `key` are pressed to
+-- find the message key or the internal key. Before the text, the operator sets the letters `start`. `body` has the
+-- letters of the body.
 pub record Work : Type 0 where
   pub ground : List ℕ
   pub key : List Cell
@@ -21,7 +23,8 @@ pub record Work : Type 0 where
   pub body : List Cell
 
 -- On a rotor machine, the windows first show the ground setting. The message key is pressed, and the lamps show the key
--- for the heading. At the message key, the text is pressed; the fillers and the group are copied.
+-- for the heading. Then the windows are set to the message key, and the text is pressed. The fillers and the group are
+-- copied.
 abbrev pub rotor_work : Day → RotorKeys → List ℕ → Work
 rotor_work s k text = record {
   ground = k.ground_setting;
@@ -30,9 +33,9 @@ rotor_work s k text = record {
   body = map copied k.fillers ++ map copied k.group ++ pressed_cells text (cipher_from s k.message_key text);
 }
 
--- On a Converter, the pin wheels first show the external letters, and the chosen letter is enciphered twelve times. At
--- the internal key, the text is enciphered, with its last group filled. The indicators are copied before and after the
--- text.
+-- On a Converter, the pin wheels first show the external letters, and the chosen letter is enciphered twelve times.
+-- Then the wheels are set to the internal key, and the text is enciphered, with its last group filled. The indicators
+-- are copied before and after the text.
 abbrev pub pin_work : Day → PinKeys → List ℕ → List ℕ → Work
 pin_work s k internal text = record {
   ground = k.external;
@@ -43,13 +46,13 @@ pin_work s k internal text = record {
       ++ map copied (pin_indicators s k);
 }
 
--- `work` has the letters that are pressed, and those that light up, when `text` is enciphered with the keys.
+-- `work` has the letters that are pressed, and those that light up, when `text` is enciphered with these keys.
 abbrev pub IsWork : Day → Keys → List ℕ → Work → Type 0
 IsWork s (keys.Rotor k) text work = work ≡ rotor_work s k text
 IsWork s (keys.Pin k) text work =
     (internal : List ℕ) × IsInternalKey (enciphered_choice s k) internal × (work ≡ pin_work s k internal text)
 
--- The machine can show the letters that are to be set: one in each slot, or one on each pin wheel.
+-- The machine can show the letters that the operator has to set: one in each slot, or one on each pin wheel.
 pub record IsWorkable (s : Day) (work : Work) : Type 0 where
   pub ground : IsWindow (sheet_key s) work.ground
   pub start : IsWindow (sheet_key s) work.start

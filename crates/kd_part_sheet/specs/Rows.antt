@@ -1,5 +1,5 @@
--- The rows of letters in a step of a part's sheet. A row has ten groups of five letters, and the number of letters so
--- far. If letters of the row are pressed, it also has the windows after them.
+-- The rows of letters in a step of a part's sheet. A row has up to ten groups of five letters, and the number of
+-- letters so far. If some letters of the row are pressed, the row also has the windows after it.
 use Rattle.std.specs.Prelude.{decimal, ℕ, ◌+◌, ◌==◌, Bool, true, false, not, if◌then◌else◌}
 use Rattle.std.specs.Prelude.{List, [], ◌∷◌, ◌++◌, flat_map, length}
 use Rattle.std.specs.Int.{div_ceil}
@@ -34,13 +34,13 @@ is_nothing signs.Nothing = true
 is_nothing signs.Lost = false
 is_nothing (signs.Letter letter) = false
 
--- Whether the group came with the form, and isn't pressed. Its first letter decides, as a group is pressed whole or not
--- at all.
+-- Whether the group came with the form, and isn't pressed. Its first letter decides: either all letters of a group are
+-- pressed, or none.
 abbrev pub is_skipped : List Cell → Bool
 is_skipped [] = false
 is_skipped (cell ∷ cells) = if cell.is_pressed then false else not (is_nothing cell.above)
 
--- the signs above the line, in small print if they aren't to be pressed
+-- the signs above the line, in small print if their letters aren't pressed
 abbrev pub above_text : Bool → List Cell → List ℕ
 above_text is_small cells =
     if is_small then small ++ flat_map (place_text lines.Above) cells ++ small_end
@@ -57,12 +57,12 @@ is_mark marks.NotNeeded = true
 is_mark marks.StruckOut = true
 is_mark (marks.Taken wheel) = true
 
--- whether the group has marks; its first cell decides, as all cells have a mark, or none
+-- whether the group has marks; its first cell decides: either all cells of a group have a mark, or none
 abbrev pub has_marks : List Cell → Bool
 has_marks [] = false
 has_marks (cell ∷ cells) = is_mark cell.mark
 
--- a line of a group between `before` and `after`; nothing if the group doesn't have the line
+-- a line of a group, with `before` before it and `after` after it; nothing if the group doesn't have the line
 abbrev pub line_if : Bool → List ℕ → List ℕ → Line → List Cell → List ℕ
 line_if is_there before after line cells = if is_there then before ++ flat_map (place_text line) cells ++ after else []
 
@@ -84,14 +84,14 @@ abbrev pub progress_after : Progress → List Cell → Progress
 progress_after progress row =
     record { letters = progress.letters + length row; presses = progress.presses + pressed_count row }
 
--- the letters that the machine shows; on a rotor machine also their numbers
+-- the letters that the machine shows; on a rotor machine also the numbers of these letters
 abbrev pub shown_after : Bool → List ℕ → List ℕ
 shown_after is_converter letters =
     if is_converter then letter_words false markup.ROW_LETTERS.now space letters
     else letter_words false markup.ROW_LETTERS.now two_spaces letters
     ++ letter_words true markup.ROW_NUMBERS.now space letters
 
--- The windows after `presses` key presses. If no letter of the row is pressed, nothing.
+-- The windows after `presses` key presses; nothing if `is_idle`, as then no letter of the row is pressed.
 abbrev pub windows_after : Day → List ℕ → ℕ → Bool → List ℕ
 windows_after s start presses is_idle =
     if is_idle then [] else shown_after (is_converter (day_model s)) (letters_after s start presses)
@@ -102,7 +102,7 @@ row_text s start progress row =
     markup.ROW.now ++ flat_map group_text (pieces 5 row) ++ filled markup.ROW_BOX.now (decimal progress.letters ∷ [])
     ++ windows_after s start progress.presses (pressed_count row == 0) ++ markup.ROW_END.now
 
--- The next rows of a step that has made this progress. At the start of the step, the machine showed `start`.
+-- The rows `rows`, after rows that made this progress. At the start of the step, the machine showed `start`.
 abbrev pub rows_after : Day → List ℕ → Progress → List (List Cell) → List ℕ
 rows_after s start progress [] = []
 rows_after s start progress (row ∷ rows) =

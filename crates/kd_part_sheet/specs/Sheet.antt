@@ -1,4 +1,4 @@
--- The texts of a part's sheet. Each text has a version for each of the four sheets, in both languages.
+-- The texts of a part's sheet. Each text has a version for each of the four sheets, in English and in German.
 use Rattle.std.specs.Prelude.{ℕ, List}
 use Rattle.kd_pictures.specs.declared.language.Language.{Language}
 use Rattle.kd_pictures.specs.Language.{text_in}
@@ -20,7 +20,7 @@ for_sheet PinSend one two three four = two
 for_sheet RotorReceive one two three four = three
 for_sheet PinReceive one two three four = four
 
--- the version of a text for this sheet, in language `l`
+-- the version of this text for this sheet, in language `l`
 abbrev pub sheet_text : Language → Sheet → SheetText → List ℕ
 sheet_text l sheet text =
     for_sheet sheet (text_in l text.0.0) (text_in l text.0.1) (text_in l text.1.0) (text_in l text.1.1)

@@ -37,7 +37,7 @@ pairs_after first [] = []
 pairs_after first (pair ∷ pairs) =
     first ++ letters_text (pair.0 ∷ pair.1 ∷ []) ++ pairs_after space pairs
 
--- the day's cables; if there are none, the word for none
+-- the day's cables; if there are none, the word that says so
 abbrev pub cables_text : Language → List (ℕ × ℕ) → List ℕ
 cables_text l [] = text_in l NO_CABLES
 cables_text l (pair ∷ pairs) = pairs_after [] (pair ∷ pairs)

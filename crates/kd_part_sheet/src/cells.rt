@@ -36,7 +36,7 @@ pub struct Cell {
 pub enum Mark {
     /// No mark: the cell isn't for the internal key.
     NoMark,
-    /// No wheel needs the letter: the internal key is already complete.
+    /// No wheel needs the letter, as the internal key is already complete.
     NotNeeded,
     StruckOut,
     /// This wheel takes the letter.
@@ -55,7 +55,7 @@ impl Default for Cell {
     }
 }
 
-/// Appends the cells of letters that are copied, without a key press.
+/// Appends the cells of letters that the operator copies onto the line, without a key press.
 pub(crate) fn push_copied<const N: usize>(cells: &mut ArrayVec<Cell, N>, letters: &[Letter])
     requires { length cells.old.items + length letters.now ≤ N }
     ensures { cells.new.items ≡ cells.old.items ++ map copied letters.now }
@@ -117,8 +117,8 @@ fn sign_of(letter: Option<Letter>) -> Sign
     }
 }
 
-/// Appends the cells of letters that came with the form and are pressed. The letters of the text stand below them. The
-/// letter `for_space` is shown as a space.
+/// Appends the cells of letters that came with the form and are pressed. Below each letter stands its letter of the
+/// text, or nothing if this is `for_space`.
 pub fn push_received<const N: usize>(
     cells: &mut ArrayVec<Cell, N>,
     for_space: &Option<Letter>,
@@ -152,8 +152,8 @@ fn text_sign(for_space: &Option<Letter>, letter: Option<Letter>) -> Sign
     }
 }
 
-/// Appends the cells with which the internal key is found. Each has `chosen` above, a letter printed for it below, and
-/// the printed letter's mark.
+/// Appends the cells with which the internal key is found. In each cell, `chosen` stands above the line, and the letter
+/// printed for it stands below, with a mark.
 ///
 /// Wheel `taken` was the last to take a letter.
 pub fn push_choice<const N: usize>(
@@ -178,7 +178,7 @@ pub fn push_choice<const N: usize>(
     }
 }
 
-/// The mark of a printed letter. Wheel `taken` was the last to take a letter.
+/// The mark of a printed letter. Wheel `taken` was the last to take a letter; 0 is none.
 fn mark_of(taken: u8, letter: Letter) -> Mark
     requires { taken ≤ 6 }
     ensures { result ≡ mark_of taken letter }
@@ -192,7 +192,7 @@ fn mark_of(taken: u8, letter: Letter) -> Mark
     }
 }
 
-/// The last wheel that has taken a letter, after a letter with this mark. Before this letter, it was wheel `taken`.
+/// The last wheel to take a letter, once a letter has this mark. Before, wheel `taken` was the last.
 fn taken_after(taken: u8, mark: Mark) -> u8
     ensures { result ≡ taken_after taken mark }
 {

@@ -12,7 +12,7 @@ use kd_state::{Entry, PinEntry, SheetDay, SheetWheel};
 use kd_step::Stepper;
 use kd_tables::{Letter, Wheel};
 
-/// The letters that the machine shows after `presses` key presses, if it showed `start` before them.
+/// The letters that the machine shows after `presses` key presses. Before, it showed `start`.
 pub(crate) fn letters_after(day: &SheetDay, start: &[Letter], presses: usize) -> ArrayVec<Letter, 6>
     requires window { IsWindow (sheet_key day.now) start.now }
     requires few { presses ≤ 520 }
@@ -24,7 +24,7 @@ pub(crate) fn letters_after(day: &SheetDay, start: &[Letter], presses: usize) ->
     }
 }
 
-/// The letters in the windows of `wheels` after `presses` key presses, if they showed `start` before.
+/// The letters in the windows of `wheels` after `presses` key presses. Before, the windows showed `start`.
 fn windows_after(wheels: &[SheetWheel], start: &[Letter], presses: usize) -> ArrayVec<Letter, 6>
     requires wheels { (length wheels.now ≡ 3) ⊎ (length wheels.now ≡ 4) }
     requires start { length start.now ≡ length wheels.now }
@@ -49,7 +49,7 @@ fn windows_after(wheels: &[SheetWheel], start: &[Letter], presses: usize) -> Arr
     letters
 }
 
-/// The letters in the windows after `presses` key presses, if they showed `window` before.
+/// The letters in the windows after `presses` key presses. Before, the windows showed `window`.
 fn turned<const S: usize>(wheels: [Wheel; S], window: [Letter; S], presses: usize) -> [Letter; S]
     requires least { 3 ≤ S }
     requires most { S ≤ 4 }
@@ -62,7 +62,7 @@ fn turned<const S: usize>(wheels: [Wheel; S], window: [Letter; S], presses: usiz
     stepper.window()
 }
 
-/// The letters on the pin wheels after `presses` letters were enciphered, if they showed `start` before.
+/// The letters on the pin wheels after `presses` letters were enciphered. Before, the wheels showed `start`.
 fn wheels_after(entry: &PinEntry, start: &[Letter], presses: usize) -> ArrayVec<Letter, 6>
     requires start { AreOnWheels start.now }
     requires few { presses ≤ 520 }

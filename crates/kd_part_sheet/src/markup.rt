@@ -1,6 +1,6 @@
 //! The texts that are the same in both languages: markup, marks, and separators.
 
-/// The sign for no letter: as wide as a letter, so that letters stand exactly below each other.
+/// The sign in place of no letter. It is as wide as a letter, so that letters stand exactly below each other.
 pub const NO_LETTER: &str = "\u{a0}";
 
 /// The sign for a lost letter.
@@ -30,16 +30,16 @@ pub const SMALL: &str = "<small>";
 
 pub const SMALL_END: &str = "</small>";
 
-/// The marks for a Converter's internal key. The start of a group's marks, their end, and the mark of a letter that is
-/// struck out.
+/// The markup of marks, with which a Converter's internal key is found: the start of a group's marks, and their end.
+/// Then the mark of a letter that is struck out.
 pub const MARKS: &str = "<i>";
 
 pub const MARKS_END: &str = "</i>";
 
 pub const STRUCK_OUT: &str = "-";
 
-/// A window in the title of the picture: the slot, the letter, and the letter's number. On a Converter, the wheel and
-/// the letter.
+/// A window in the title of the picture. Its values are the slot, the letter, and the letter's number; on a Converter,
+/// the wheel and the letter.
 pub const WINDOW_WORDS: &str = "~: ~ ~";
 
 pub const WHEEL_WORDS: &str = "~: ~";

@@ -1,4 +1,4 @@
-//! The sheet for one part of a message, by which an operator enciphers or deciphers it.
+//! The sheet with which an operator enciphers or deciphers one part of a message.
 ghost use Rattle.std.specs.Prelude.{◌≡◌, ◌+◌, ◌≤◌, length};
 ghost use Rattle.kd_state.specs.EngineKey.{IsWindow};
 ghost use Rattle.kd_state.specs.OwnKeys.{sheet_key};
@@ -27,15 +27,15 @@ use kd_pictures::{Language, draw, draw_in};
 use kd_state::{Entry, RotorEntry, SheetDay};
 use kd_tables::{Letter, Model, Sink};
 
-/// The values in the head of each step. Each step has them, since sheets of paper come apart.
+/// The values in the head of each step. They are repeated, since sheets of paper come apart.
 #[derive(Clone, Copy)]
 pub struct PartName {
     /// The machine's model.
     pub model: Model,
     /// The day's number.
     pub day: u8,
-    /// The number of the part's sheet, to which links lead. It is the part's number, if the parts are of one message.
-    /// Otherwise it is the place at which the part came.
+    /// The number of the part's sheet, to which links lead. If the parts are of one message, this is the part's number.
+    /// Otherwise it is the part's place in the order of arrival.
     pub sheet: u8,
     /// The part's number, counted from 1.
     pub part: u8,
@@ -95,7 +95,7 @@ pub struct Warnings {
     pub not_tested: bool,
 }
 
-/// Writes the warnings about the copies of the indicators, and about the day.
+/// Writes the warnings that copies of the indicators lost letters, and that the day is wrong or can't be tested.
 pub fn draw_warnings<W: Sink>(sink: &mut W, language: Language, sheet: Sheet, warnings: Warnings)
     ensures { Draws W.taken W.has_failed sink.old sink.new
         (warnings_text language sheet warnings) }
@@ -122,7 +122,7 @@ fn draw_head<W: Sink>(sink: &mut W, language: Language, sheet: Sheet, name: Part
     );
 }
 
-/// Writes the key of the day, on which the machine has to be.
+/// Writes the paragraph with the key of the day, to which the machine has to be set.
 fn draw_day_key<W: Sink>(sink: &mut W, language: Language, entry: &Entry)
     ensures { Draws W.taken W.has_failed sink.old sink.new
         (day_key_text language (values_of entry.now)) }
@@ -289,7 +289,7 @@ fn first_sheet(model: Model) -> usize
     if is_converter(model) { 200 } else { 250 }
 }
 
-/// Writes the rows of the remaining letters onto a second sheet of paper, if there are any.
+/// Writes the rows of `cells` onto a second sheet of paper, if there are any.
 fn draw_next_sheet<W: Sink>(
     sink: &mut W,
     language: Language,

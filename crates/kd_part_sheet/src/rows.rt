@@ -1,5 +1,5 @@
-//! The rows of letters in a step of a part's sheet. A row has ten groups of five letters, and the number of letters so
-//! far. If letters of the row are pressed, it also has the windows after them.
+//! The rows of letters in a step of a part's sheet. A row has up to ten groups of five letters, and the number of
+//! letters so far. If some letters of the row are pressed, the row also has the windows after it.
 ghost use Rattle.std.specs.Prelude.{◌≡◌, ◌+◌, ◌≤◌, ◌∷◌, flat_map, length};
 ghost use Rattle.kd_state.specs.EngineKey.{IsWindow};
 ghost use Rattle.kd_state.specs.OwnKeys.{sheet_key};
@@ -22,15 +22,14 @@ use kd_pictures::{Language, draw};
 use kd_state::SheetDay;
 use kd_tables::{Letter, Sink};
 
-/// The progress of a step: how many letters its rows so far have, and how many of them were pressed.
+/// The progress of a step: how many letters its rows have so far, and how many of these letters were pressed.
 #[derive(Clone, Copy)]
 pub(crate) struct Progress {
     pub(crate) letters: usize,
     pub(crate) presses: usize,
 }
 
-/// Writes `cells` as the next rows of a step that has made this progress. At the start of the step, the machine showed
-/// `start`.
+/// Writes `cells` as rows, after rows that made this progress. At the start of the step, the machine showed `start`.
 pub(crate) fn draw_rows<W: Sink>(
     sink: &mut W,
     language: Language,
@@ -100,7 +99,7 @@ fn draw_row<W: Sink>(
     draw(sink, ROW_END);
 }
 
-/// Writes the windows after `presses` key presses. If no letter of the row is pressed, writes nothing.
+/// Writes the windows after `presses` key presses; nothing if no letter of the row is pressed.
 fn draw_windows_after<W: Sink>(
     sink: &mut W,
     day: &SheetDay,
@@ -121,7 +120,7 @@ fn draw_windows_after<W: Sink>(
     }
 }
 
-/// Writes the letters that the machine shows; on a rotor machine also their numbers.
+/// Writes the letters that the machine shows; on a rotor machine also the numbers of these letters.
 fn draw_shown_after<W: Sink>(sink: &mut W, is_converter: bool, letters: &[Letter])
     ensures { Draws W.taken W.has_failed sink.old sink.new (shown_after is_converter letters.now) }
 {
@@ -157,8 +156,8 @@ fn draw_group<W: Sink>(sink: &mut W, group: &[Cell])
     draw(sink, GROUP_END);
 }
 
-/// Whether the group came with the form, and isn't pressed. Its first letter decides, as a group is pressed whole or
-/// not at all.
+/// Whether the group came with the form, and isn't pressed. Its first letter decides: either all letters of a group are
+/// pressed, or none.
 fn is_skipped(group: &[Cell]) -> bool
     ensures { result ≡ is_skipped group.now }
 {
@@ -168,7 +167,7 @@ fn is_skipped(group: &[Cell]) -> bool
     }
 }
 
-/// Writes the signs above the line, in small print if they aren't to be pressed.
+/// Writes the signs above the line, in small print if their letters aren't pressed.
 fn draw_above<W: Sink>(sink: &mut W, is_small: bool, group: &[Cell])
     ensures { Draws W.taken W.has_failed sink.old sink.new (above_text is_small group.now) }
 {
@@ -191,7 +190,7 @@ fn has_below(group: &[Cell]) -> bool
     }
 }
 
-/// Whether the group has marks. Its first cell decides, as all cells have a mark, or none.
+/// Whether the group has marks. Its first cell decides: either all cells of a group have a mark, or none.
 fn has_marks(group: &[Cell]) -> bool
     ensures { result ≡ has_marks group.now }
 {
@@ -201,7 +200,7 @@ fn has_marks(group: &[Cell]) -> bool
     }
 }
 
-/// Writes a line of a group between `before` and `after`; nothing if the group doesn't have the line.
+/// Writes a line of a group, with `before` before it and `after` after it; nothing if the group doesn't have the line.
 fn draw_line_if<W: Sink>(
     sink: &mut W,
     is_there: bool,

@@ -1,4 +1,4 @@
-//! The four sheets of a part, and the version of a text for each.
+//! The four sheets for a part. Each text has a version for each sheet.
 ghost use Rattle.std.specs.Prelude.{◌≡◌};
 ghost use Rattle.kd_pictures.specs.Language.{in_language};
 ghost use Rattle.kd_part_sheet.specs.Sheet.{for_sheet};
@@ -6,7 +6,7 @@ ghost use Rattle.kd_part_sheet.specs.Sheet.{for_sheet};
 use crate::texts::SheetText;
 use kd_pictures::Language;
 
-/// The sheet of a part. It is for sending or receiving the part, on a rotor machine or on a Converter.
+/// A sheet for sending or receiving a part, on a rotor machine or on a Converter.
 #[derive(Clone, Copy)]
 pub enum Sheet {
     RotorSend,

@@ -167,7 +167,8 @@ const PIN_LOST_LETTER: Text = (
     "<br>? ist ein verlorener Buchstabe: dafür einen beliebigen eingeben und ? schreiben.",
 );
 
-/// Two warnings: the form is of another day or network; or this can't be tested, as letters are lost.
+/// Two warnings. The first says that the form is from another day or network. The second says that this can't be
+/// tested, as letters are lost.
 pub const WRONG_DAY: SheetText = (
     (ROTOR_WRONG_DAY, PIN_WRONG_DAY),
     (ROTOR_WRONG_DAY, PIN_WRONG_DAY),
@@ -227,8 +228,8 @@ pub const COPIES_LOST: Text = (
     "<p>Die ersten und die letzten Kennbuchstaben ergänzen einander.</p>\n",
 );
 
-/// The key of the day, on which a rotor machine has to be. Its reflector comes first, then the words before its wheels,
-/// rings and cables.
+/// The key of the day, to which a rotor machine has to be set. The reflector comes first, then the words before the
+/// wheels, before the rings, and before the cables.
 pub const REFLECTOR: Text = (
     "<p>The machine has to be on the key of the day. Reflector: <b>~</b>. Wheels: <b>",
     "<p>Die Maschine muss auf dem Tagesschlüssel stehen. Umkehrwalze: <b>~</b>. Walzenlage: <b>",
@@ -240,7 +241,7 @@ pub const CABLES: Text = ("</b>. Cables: <b>", "</b>. Steckerverbindungen: <b>")
 
 pub const NO_CABLES: Text = ("none", "keine");
 
-/// The key of the day, on which a Converter has to be: the two letters of the key list.
+/// The key of the day, to which a Converter has to be set: the two letters of the key list.
 pub const LIST: Text = (
     "<p>Pins and lugs have to be the day’s. List: <b>~~</b>.",
     "<p>Stifte und Reiter müssen auf dem Tagesschlüssel stehen. Liste: <b>~~</b>.",

@@ -38,7 +38,8 @@ fn windows_title(language: Language, is_converter: bool) -> &'static str
     }
 }
 
-/// Writes the words for windows from number `number` on, with `first` before them and commas between them.
+/// Writes the words for windows, the first of which has number `number`. `first` stands before the first window, and a
+/// comma before each later window.
 fn draw_all_words<W: Sink>(
     sink: &mut W,
     language: Language,
@@ -86,7 +87,7 @@ fn draw_words<W: Sink>(
     }
 }
 
-/// Writes the windows of the picture, from number `number` on.
+/// Writes the windows of the picture. The first of them has number `number`.
 fn draw_items<W: Sink>(
     sink: &mut W,
     language: Language,

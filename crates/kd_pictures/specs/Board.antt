@@ -1,6 +1,6 @@
--- The picture of a plugboard: the lines of the cables, and the sockets. One picture is of the plugboard before the
--- settings, and marks the plugs to take out. The other is of the plugboard after them, and marks the plugs to put in.
--- Words are in language `l`.
+-- The picture of a plugboard: the lines of the cables, and the sockets. A page has two such pictures. One shows the
+-- plugboard before the settings, and marks the plugs to take out. The other shows the plugboard after the settings, and
+-- marks the plugs to put in. Words are in language `l`.
 use Rattle.std.specs.Prelude.{codes, decimal, ℕ, ◌+◌, ◌-◌, ◌*◌, nat_lt, Bool, false, not, ◌||◌, if◌then◌else◌}
 use Rattle.std.specs.Prelude.{is_some}
 use Rattle.std.specs.Prelude.{List, [], ◌∷◌, ◌++◌, flat_map, Option, Some, None, unwrap_or}
@@ -31,7 +31,7 @@ cable_of m number = unwrap_or (machine_cable m number) (None, None)
 abbrev pub has_plug : Parts → ℕ → ℕ → Bool
 has_plug m number letter = has_letter (cable_letters (cable_of m number)) letter
 
--- whether an end of a cable has a letter at which the cable has no plug on machine `n`
+-- whether an end of the cable has a letter, but the cable has no plug at this letter on machine `n`
 abbrev pub end_moves : Parts → ℕ → Option ℕ → Bool
 end_moves n number end = option_map_or (λ letter. not (has_plug n number letter)) end false
 
@@ -47,11 +47,11 @@ cable_words number (None, other) = []
 abbrev pub is_plugged : Parts → ℕ → Bool
 is_plugged m number = is_some (cable_of m number).0
 
--- the words for a plugged cable, after a separator
+-- `separator`, and the words for a plugged cable
 abbrev pub cable_after : List ℕ → Parts → ℕ → List ℕ
 cable_after separator m number = separator ++ cable_words number (cable_of m number)
 
--- the words for all plugged cables, with `separator` before them and commas between them
+-- The words for all plugged cables. `separator` stands before the first cable, and a comma before each later cable.
 abbrev pub cables_after : List ℕ → Parts → List ℕ → List ℕ
 cables_after separator m [] = []
 cables_after separator m (number ∷ numbers) =
@@ -74,18 +74,19 @@ lane number = 139 + 9 * number
 abbrev pub bend : ℕ → ℕ → ℕ
 bend y lane = if nat_lt y lane then lane - 5 else lane + 5
 
--- Three pieces of a cable's line. One leads from a socket into the lane. The other two lead along the lane: to a
--- socket, or to an open end.
+-- the piece of a cable's line that leads from a socket into the lane
 abbrev pub left_half : Class → ℕ → ℕ → List ℕ
 left_half class lane letter = filled texts.LEFT_HALF.now (
     class_text class ∷ decimal (line_x letter) ∷ decimal (socket_y letter) ∷ decimal (bend (socket_y letter) lane)
     ∷ decimal (line_x letter) ∷ decimal lane ∷ decimal (line_x letter + 5) ∷ decimal lane ∷ [])
 
+-- the piece of a cable's line that leads along the lane to a socket
 abbrev pub right_half : ℕ → ℕ → List ℕ
 right_half lane letter = filled texts.RIGHT_HALF.now (
     decimal (line_x letter - 5) ∷ decimal (line_x letter) ∷ decimal lane
     ∷ decimal (line_x letter) ∷ decimal (bend (socket_y letter) lane) ∷ decimal (socket_y letter) ∷ [])
 
+-- the piece of a cable's line that leads along the lane to an open end
 abbrev pub open_end : ℕ → List ℕ
 open_end letter = filled texts.OPEN_END.now (decimal (line_x letter + 20) ∷ [])
 
@@ -107,7 +108,7 @@ abbrev pub moving_class : Plugs → Class
 moving_class Out = classes.Out
 moving_class In = classes.In
 
--- the class of a cable's line; the line is thick if one of the cable's plugs isn't there on machine `n`
+-- the class of a cable's line; the line is thick if machine `n` doesn't have all plugs of the cable at their letters
 abbrev pub line_class : Plugs → Parts → ℕ → Option ℕ × Option ℕ → Class
 line_class plugs n number cable =
     if end_moves n number cable.0 || end_moves n number cable.1 then moving_class plugs else classes.Plain
@@ -118,7 +119,7 @@ line_text plugs m n number =
 
 -- ---- The sockets.
 
--- the number of the cable with a plug at the letter; `None` if there is none
+-- the number of the cable with a plug at the letter; `None` if no cable has one
 abbrev pub cable_holding : Parts → ℕ → List ℕ → Option ℕ
 cable_holding m letter [] = None
 cable_holding m letter (number ∷ numbers) =
@@ -131,7 +132,7 @@ round_plug template letter number = filled template (
     ∷ decimal (socket_x letter) ∷ decimal (socket_y letter)
     ∷ decimal (socket_x letter) ∷ decimal (socket_y letter + 6) ∷ decimal number ∷ [])
 
--- a plug that moves: a square for a plug to take out, a disc for a plug to put in
+-- a plug that moves: drawn as a square if it is taken out, as a disc if it is put in
 abbrev pub moving_plug : Plugs → ℕ → ℕ → List ℕ
 moving_plug Out letter number = filled texts.GOES_OUT.now (
     decimal (socket_x letter) ∷ decimal (label_y letter) ∷ letter_text letter
@@ -144,7 +145,8 @@ free_socket letter = filled texts.FREE.now (
     decimal (socket_x letter) ∷ decimal (label_y letter) ∷ letter_text letter
     ∷ decimal (socket_x letter) ∷ decimal (socket_y letter) ∷ [])
 
--- The socket of a letter: free, or with a cable's plug. The plug is drawn as moving if it isn't there on machine `n`.
+-- The socket of a letter: free, or with a cable's plug. A plug that machine `n` doesn't have there is drawn as a plug
+-- that moves.
 abbrev pub socket_holding : Plugs → Parts → ℕ → Option ℕ → List ℕ
 socket_holding plugs n letter None = free_socket letter
 socket_holding plugs n letter (Some number) =
@@ -162,7 +164,8 @@ picture_name In = After
 unfoldable pub board_head : Language → Plugs → List ℕ
 board_head l plugs = filled (text_in l texts.BOARD) (word_text l (picture_name plugs) ∷ [])
 
--- The picture of the plugboard of machine `m`. Plugs that machine `n` doesn't have there are marked.
+-- The picture of the plugboard of machine `m`. A plug is marked if machine `n` doesn't have this plug at the same
+-- letter.
 unfoldable pub board_text : Language → Plugs → Parts → Parts → List ℕ
 board_text l plugs m n =
     board_head l plugs ++ all_cables l m ++ texts.TITLE_END.now

@@ -1,4 +1,5 @@
--- What both languages have in common: templates take the same values, and words have the right meanings.
+-- What the texts in both languages have in common: templates take equally many values, and words have the right
+-- meanings.
 use Rattle.std.specs.Prelude.{codes, ◌≡◌, ℕ, count_by, List}
 use Rattle.kd_pictures.specs.declared.language.Language.TheVariants.{English, German}
 use Rattle.kd_pictures.specs.declared.texts.TheConstants as texts
@@ -42,7 +43,7 @@ TemplatesTakeTheirValues =
 abbrev pub Reads : Word → List ℕ → List ℕ → Type 0
 Reads word english german = (word_text English word ≡ english) × (word_text German word ≡ german)
 
--- The words that say what to do. They say which way to set a pin, which lug to move, which slot to fill, and which
+-- In both languages, these words are right: which way to set a pin, which lug to move, which slot to fill, and which
 -- machine a picture shows.
 abbrev pub WordsTellWhatToDo : Type 0
 WordsTellWhatToDo =

@@ -3,8 +3,10 @@ use Rattle.std.specs.Prelude.{◌≡◌, ℕ, Bool, true, false, List, Option}
 use Rattle.std.specs.Io.KnownBytes.{Appends, Keeps}
 use Rattle.kd_tables.specs.Writing.{TakesPrefix}
 
--- What happens to the sink of a call that writes `text`. If the sink hasn't failed after the call, it took the whole
--- text. If it failed during the call, it took only a prefix. If it had failed before, it took nothing.
+-- What happens to the sink of a call that writes `text`.
+-- - If the sink hasn't failed after the call, it took the whole text.
+-- - If the sink failed during the call, it took only a prefix.
+-- - If the sink had failed before the call, it took nothing.
 pub record Draws {W : Type 0} (taken : W → Option (List ℕ)) (failed : W → Bool) (old new : W) (text : List ℕ)
     : Type 0 where
   pub whole : failed new ≡ false → (failed old ≡ false) × Appends (taken old) (taken new) text

@@ -26,7 +26,7 @@ IsValueInRange (values.Word word) = Unit {0}
 IsValueInRange (values.Class class) = Unit {0}
 IsValueInRange (values.Mark mark) = Unit {0}
 
--- The values that are filled into templates have no markup. Everything else on a page is fixed text.
+-- The values that are filled into templates have no markup.
 abbrev pub ValuesArePlain : Type 0
 ValuesArePlain =
     (l : Language) (value : Value) → IsValueInRange value → IsTrue (list_all is_plain (value_text l value))

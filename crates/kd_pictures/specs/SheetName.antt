@@ -1,10 +1,10 @@
--- The name of a key sheet, as pages show it.
+-- The name of a key sheet on a page.
 use Rattle.std.specs.Prelude.{ℕ, IsTrue, List, [], filter, unwrap_or}
 use Rattle.std.specs.List.{list_all}
 use Rattle.std.specs.Path.{path_file_stem}
 use Rattle.kd_pictures.specs.Plain.{is_plain}
 
--- the name of the file `path`, without its folder and its ending, and without signs that HTML reads as markup
+-- the name of the file `path`, without folder and ending, and without the signs that HTML reads as markup
 unfoldable pub sheet_name : List ℕ → List ℕ
 sheet_name path = filter is_plain (unwrap_or (path_file_stem path) [])
 

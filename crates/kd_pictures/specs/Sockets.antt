@@ -1,5 +1,5 @@
 -- The places of the plugboard's sockets in its picture: three rows, in the order of the keyboard.
--- Code: two tables have the row and the place of each letter.
+-- Code: one table has the row of each letter, another table has its place in the row.
 use Rattle.std.specs.Prelude.{codes, ℕ, ◌+◌, ◌*◌, ◌<◌, ◌==◌, ◌≢◌, nat_eq, nat_le, Bool, ◌||◌, if◌then◌else◌, IsTrue}
 use Rattle.std.specs.Prelude.{List, ◌++◌}
 use Rattle.std.specs.List.{position_or_len}
@@ -19,20 +19,21 @@ lower_row = letters_of (codes "PYXCVBNML")
 abbrev pub keyboard : List ℕ
 keyboard = upper_row ++ middle_row ++ lower_row
 
--- The row of a letter's socket, counted from 0 at the top. Then the socket's place in the row, counted from 0 at the
--- left.
+-- the row of a letter's socket, counted from 0 at the top
 unfoldable pub socket_row : ℕ → ℕ
 socket_row letter = if has_letter upper_row letter then 0 else if has_letter middle_row letter then 1 else 2
 
+-- the place of a letter's socket in its row, counted from 0 at the left
 unfoldable pub socket_place : ℕ → ℕ
 socket_place letter =
     position_or_len (nat_eq letter)
     (if has_letter upper_row letter then upper_row else if has_letter middle_row letter then middle_row else lower_row)
 
--- how far a letter's socket is from the left; then, how far it is from the top
+-- how far a letter's socket is from the left
 abbrev pub socket_x : ℕ → ℕ
 socket_x letter = (if socket_row letter == 1 then 70 else 40) + 60 * socket_place letter
 
+-- how far a letter's socket is from the top
 abbrev pub socket_y : ℕ → ℕ
 socket_y letter = if socket_row letter == 0 then 46 else if socket_row letter == 1 then 116 else 286
 
@@ -40,14 +41,14 @@ socket_y letter = if socket_row letter == 0 then 46 else if socket_row letter ==
 abbrev pub label_y : ℕ → ℕ
 label_y letter = if socket_row letter == 0 then 24 else if socket_row letter == 1 then 94 else 323
 
--- how far from the left a cable's line leaves a letter's socket
+-- how far from the left a cable's line reaches a letter's socket
 abbrev pub line_x : ℕ → ℕ
 line_x letter = if socket_row letter == 2 then socket_x letter + 10 else socket_x letter
 
--- whether the lines from the sockets of two letters are at least 10 apart
+-- whether the lines of cables at the sockets of two letters are at least 10 apart
 abbrev pub are_apart : ℕ → ℕ → Bool
 are_apart one other = nat_le (line_x one + 10) (line_x other) || nat_le (line_x other + 10) (line_x one)
 
--- The lines from the sockets of two letters never lie on each other.
+-- The lines of cables at the sockets of two letters never lie on each other.
 abbrev pub LinesAreApart : Type 0
 LinesAreApart = (one other : ℕ) → one < 26 → other < 26 → one ≢ other → IsTrue (are_apart one other)

@@ -19,7 +19,7 @@ letter_text letter = letters_text (letter ∷ [])
 abbrev pub ordinal_text : ℕ → List ℕ
 ordinal_text letter = (if nat_lt (letter + 1) 10 then codes "0" else []) ++ decimal (letter + 1)
 
--- the words for the number of settings
+-- the words that give the number of settings
 abbrev pub count_text : Language → ℕ → List ℕ
 count_text l number =
     if number == 0 then text_in l NO_SETTINGS else if number == 1 then text_in l ONE_SETTING
@@ -40,7 +40,7 @@ value_text l (values.Word word) = word_text l word
 value_text l (values.Class class) = class_text class
 value_text l (values.Mark mark) = mark_text mark
 
--- whether the byte is the sign `~`, which stands for a value
+-- whether the byte is the sign `~`
 abbrev pub is_gap : ℕ → Bool
 is_gap byte = byte == 126
 

@@ -1,5 +1,5 @@
--- The picture of a rotor machine's wheels. It has a band for the machine before the settings, and a band for the
--- machine after them. Words are in language `l`.
+-- The picture of a rotor machine's wheels. One band shows the machine before the settings, another band shows it after
+-- them. Words are in language `l`.
 use Rattle.std.specs.Prelude.{decimal, ℕ, ◌+◌, ◌*◌, nat_eq, Bool, false, if◌then◌else◌, List, [], ◌∷◌, ◌++◌, flat_map}
 use Rattle.std.specs.Prelude.{Option, Some, None}
 use Rattle.std.specs.Option.{option_map_or}
@@ -29,7 +29,7 @@ abbrev pub reflector_words : Language → Option Reflector → List ℕ
 reflector_words l None = []
 reflector_words l (Some reflector) = filled (text_in l texts.REFLECTOR_WORDS) (reflector_text reflector ∷ [])
 
--- the template filled with the letter; empty if there is no letter
+-- `template`, filled with the letter; empty if there is no letter
 abbrev pub letter_words : List ℕ → Option ℕ → List ℕ
 letter_words template None = []
 letter_words template (Some letter) = filled template (letter_text letter ∷ [])
@@ -41,8 +41,8 @@ wheel_words l m slot wheel =
     ++ letter_words (text_in l texts.RING_WORDS) (machine_ring m wheel)
     ++ letter_words (text_in l texts.WINDOW_WORDS) (machine_letter m wheel)
 
--- The words for a slot: it is empty, or has a wheel, with its ring and its window letter. Nothing if the machine lacks
--- the slot.
+-- The words for a slot: it is empty, or has a wheel, with the wheel's ring and window letter. No words if the machine
+-- lacks the slot.
 abbrev pub slot_words : Language → Parts → ℕ → Option (Option Wheel) → List ℕ
 slot_words l m slot None = []
 slot_words l m slot (Some None) = filled (text_in l texts.EMPTY_WORDS) (decimal slot ∷ [])
@@ -66,7 +66,7 @@ reflector_shown y (Some reflector) other =
 abbrev pub slot_x : ℕ → ℕ
 slot_x slot = 80 + 104 * slot
 
--- a wheel in a slot, drawn as new unless the other machine has it in this slot
+-- A wheel in a slot. The wheel is drawn as new if not `is_old`, that is, unless the other machine has it in this slot.
 abbrev pub wheel_shown : Language → ℕ → ℕ → ℕ → Bool → Wheel → List ℕ
 wheel_shown l x y slot is_old wheel =
     filled (if is_old then text_in l texts.WHEEL else text_in l texts.NEW_WHEEL) (

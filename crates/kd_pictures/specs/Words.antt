@@ -1,4 +1,4 @@
--- Words and marks that are filled into templates, for example names of models and slots, and titles of steps.
+-- Words and marks that are filled into templates, for example the names of models and slots, and the titles of steps.
 use Rattle.std.specs.Prelude.{ℕ, Bool, true, false, List, [], ◌∷◌}
 use Rattle.kd_tables.specs.declared.model.Model.{Model}
 use Rattle.kd_tables.specs.declared.model.Model.TheVariants.{EnigmaI, M3, M4, M209}
@@ -55,7 +55,7 @@ class_text classes.Plain = texts.PLAIN.now
 class_text classes.Out = texts.OUT_CLASS.now
 class_text classes.In = texts.IN_CLASS.now
 
--- the signs ● ○ for pins, and ▪ × ■ for lugs, in UTF-8
+-- the signs ● ○ for pins, and the signs ▪ × ■ for lugs, in UTF-8
 abbrev pub mark_text : Mark → List ℕ
 mark_text Effective = 226 ∷ 151 ∷ 143 ∷ []
 mark_text Ineffective = 226 ∷ 151 ∷ 139 ∷ []

@@ -22,15 +22,16 @@ use crate::words::{Class, Word};
 use kd_state::{Cable, Machine, lies_in};
 use kd_tables::{Letter, Sink};
 
-/// Which plugs a plugboard marks. `Out` marks the plugs to take out, on the machine before. `In` marks the plugs to put
-/// in, on the machine after.
+/// The plugs that are marked in a picture of the plugboard.
+/// - `Out`: plugs to take out. The picture shows the machine before the settings.
+/// - `In`: plugs to put in. The picture shows the machine after the settings.
 #[derive(Clone, Copy)]
 pub enum Plugs {
     Out,
     In,
 }
 
-/// Writes the plugboard of `machine`. Plugs that `other` doesn't have there are marked.
+/// Writes the plugboard of `machine`. A plug is marked if `other` doesn't have this plug at the same letter.
 pub fn draw_board<W: Sink>(
     sink: &mut W,
     language: Language,
@@ -95,7 +96,7 @@ fn is_plugged(machine: &Machine, number: u8) -> bool
     one.is_some()
 }
 
-/// Writes the plugged cables in words, with `separator` before them and commas between them.
+/// Writes the plugged cables in words. `separator` stands before the first cable, and a comma before each later cable.
 fn draw_cables_after<W: Sink>(
     sink: &mut W,
     language: Language,
@@ -192,7 +193,7 @@ fn draw_line<W: Sink>(
     draw_cable_line(sink, language, class, lane, cable_of(machine, number));
 }
 
-/// The class of a cable's line. The line is thick if one of the cable's plugs isn't there on `other`.
+/// The class of a cable's line. The line is thick if `other` doesn't have all plugs of the cable at their letters.
 fn line_class(plugs: Plugs, other: &Machine, number: u8, cable: Cable) -> Class
     ensures { result ≡ line_class plugs other.now number cable }
 {
@@ -253,7 +254,7 @@ fn draw_between<W: Sink>(
     draw_right_half(sink, language, lane, right);
 }
 
-/// Writes the line of a cable with one plug, to its open end.
+/// Writes the line of a cable with one plug, which leads to an open end.
 fn draw_open<W: Sink>(sink: &mut W, language: Language, class: Class, lane: u16, letter: Letter)
     requires low { 100 ≤ lane }
     requires high { lane < 10000 }
@@ -333,7 +334,7 @@ fn bend(y: u16, lane: u16) -> u16
     if y < lane { lane - 5 } else { lane + 5 }
 }
 
-/// Writes the sockets of `letters`, which are numbered from 0 for A.
+/// Writes the sockets of the letters with the numbers `letters`, from 0 (A) to 25 (Z).
 fn draw_sockets<W: Sink>(
     sink: &mut W,
     language: Language,
@@ -372,7 +373,7 @@ fn draw_socket<W: Sink>(
     }
 }
 
-/// The number of the cable with a plug at the letter; `None` if there is none.
+/// The number of the cable with a plug at the letter; `None` if no cable has one.
 fn cable_holding(machine: &Machine, letter: Letter, numbers: &[u8]) -> Option<u8>
     ensures { result ≡ cable_holding machine.now letter numbers.now }
 {
@@ -400,7 +401,7 @@ fn draw_free<W: Sink>(sink: &mut W, language: Language, letter: Letter)
     );
 }
 
-/// Writes a plug that moves: a square for a plug to take out, a disc for a plug to put in.
+/// Writes a plug that moves: as a square if it is taken out, as a disc if it is put in.
 fn draw_moving<W: Sink>(sink: &mut W, language: Language, plugs: Plugs, letter: Letter, number: u8)
     ensures { Draws W.taken W.has_failed sink.old sink.new (moving_plug plugs letter number) }
 {

@@ -6,14 +6,14 @@ use crate::language::Language;
 use crate::texts::Text;
 use kd_tables::{Sink, put_all};
 
-/// Writes `text`, unless the sink has failed.
+/// Writes `text` to `sink`, unless the sink has failed.
 pub fn draw<W: Sink>(sink: &mut W, text: &str)
     ensures { Draws W.taken W.has_failed sink.old sink.new text.now }
 {
     draw_bytes(sink, text.as_bytes());
 }
 
-/// Writes `bytes`, unless the sink has failed.
+/// Writes `bytes` to `sink`, unless the sink has failed.
 #[tactic(auto, using(crate::proofs::Drawings::Draws_put, crate::proofs::Drawings::Draws_none))]
 pub(crate) fn draw_bytes<W: Sink>(sink: &mut W, bytes: &[u8])
     ensures { Draws W.taken W.has_failed sink.old sink.new bytes.now }

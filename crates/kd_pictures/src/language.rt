@@ -12,7 +12,7 @@ pub enum Language {
 }
 
 impl Language {
-    /// This language's half of `text`.
+    /// The half of `text` that is in this language.
     pub fn text(self, text: Text) -> &'static str
         ensures { result.now ≡ in_language self text.entry.0.now text.entry.1.now }
     {

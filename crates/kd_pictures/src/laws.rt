@@ -7,21 +7,22 @@ ghost use Rattle.kd_pictures.specs.Checked.{TemplatesTakeTheirValues, WordsTellW
 ghost use Rattle.kd_pictures.specs.Plain.{ValuesArePlain};
 ghost use Rattle.kd_pictures.specs.SheetName.{SheetNamesArePlain};
 
-/// What a page takes from files has no markup: letters, numbers, and the names of models, wheels, reflectors and key sheets.
+/// The values that a page takes from files have no markup: letters, numbers, and the names of models, wheels,
+/// reflectors and key sheets.
 #[tactic(auto, using(crate::proofs::PlainValues::values_are_plain, crate::proofs::PlainValues::names_are_plain))]
 pub fn values_are_plain()
     ensures values { ValuesArePlain }
     ensures names { SheetNamesArePlain }
 {}
 
-/// In both languages, each template takes the values that pages fill into it. The words that say what to do have the
-/// right meanings.
+/// In both languages, each template takes the values that pages fill into it, and the words for what an operator does
+/// have the right meanings.
 pub fn languages_say_the_same()
     ensures templates { TemplatesTakeTheirValues }
     ensures words { WordsTellWhatToDo }
 {}
 
-/// The lines from the sockets of two letters never lie on each other. They are at least 10 apart.
+/// The lines of cables at the sockets of two letters never lie on each other: they are at least 10 apart.
 #[tactic(auto, using(crate::proofs::LinesApart::lines_are_apart))]
 pub fn lines_are_apart()
     ensures { LinesAreApart }

@@ -1,4 +1,4 @@
-//! The name of a key sheet, as pages show it.
+//! The name of a key sheet on a page.
 ghost use Rattle.std.specs.Prelude.{◌≡◌, [], ◌∷◌, filter, if◌then◌else◌};
 ghost use Rattle.kd_pictures.specs.Drawing.{Draws};
 ghost use Rattle.kd_pictures.specs.Plain.{is_plain};
@@ -8,9 +8,9 @@ use crate::drawing::{draw, draw_bytes};
 use kd_tables::Sink;
 use std::path::Path;
 
-/// Writes the name of the key sheet in the file `path`: the file's name without folder and ending.
+/// Writes the name of the key sheet in the file `path`: the file's name, without folder and ending.
 ///
-/// Signs that a page could take for its own are left out.
+/// Signs that HTML reads as markup are left out.
 #[tactic(auto, unfolding(crate::specs::SheetName::sheet_name))]
 pub fn draw_sheet_name<W: Sink>(sink: &mut W, path: &str)
     ensures { Draws W.taken W.has_failed sink.old sink.new (sheet_name path.now) }

@@ -9,12 +9,12 @@ pub static KEYBOARD: [u8; 26] = [
     16, 22, 4, 17, 19, 25, 20, 8, 14, 0, 18, 3, 5, 6, 7, 9, 10, 15, 24, 23, 2, 21, 1, 13, 12, 11,
 ];
 
-/// The row of each letter's socket, from 0 at the top.
+/// The row of each letter's socket, counted from 0 at the top.
 static ROWS: [u8; 26] = [
     1, 2, 2, 1, 0, 1, 1, 1, 0, 1, 1, 2, 2, 2, 0, 2, 0, 0, 1, 0, 0, 2, 0, 2, 2, 0,
 ];
 
-/// The place of each letter's socket in its row, from 0 at the left.
+/// The place of each letter's socket in the socket's row, counted from 0 at the left.
 static PLACES: [u8; 26] = [
     0, 5, 3, 2, 2, 3, 4, 5, 7, 6, 7, 8, 7, 6, 8, 0, 0, 3, 1, 4, 6, 4, 1, 2, 1, 5,
 ];
@@ -54,7 +54,7 @@ pub fn label_y(letter: Letter) -> u16
     }
 }
 
-/// How far from the left a cable's line leaves the letter's socket.
+/// How far from the left a cable's line reaches the letter's socket.
 pub fn line_x(letter: Letter) -> u16
     ensures value { result ≡ line_x letter }
     ensures least { 40 ≤ result }

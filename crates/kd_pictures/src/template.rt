@@ -57,8 +57,8 @@ pub fn fill_in<W: Sink>(sink: &mut W, language: Language, text: Text, values: &[
     fill(sink, language, language.text(text), values);
 }
 
-/// The text of `template` before its first sign `~`, and the text after it. Without a sign, `template` and an empty
-/// text.
+/// The text of `template` before its first sign `~`, and the text after this sign. If `template` has no such sign,
+/// `template` and an empty text.
 #[tactic(auto, using(std::proofs::lemmas::Str::Pattern::split_once_first))]
 fn cut(template: &str) -> (&str, &str)
     ensures before { result.0.now ≡ before_first is_gap template.now }
@@ -126,7 +126,7 @@ fn draw_zero<W: Sink>(sink: &mut W, is_short: bool)
     }
 }
 
-/// Writes the words for the number of settings.
+/// Writes the words that give the number of settings.
 fn draw_count<W: Sink>(sink: &mut W, language: Language, number: u8)
     ensures { Draws W.taken W.has_failed sink.old sink.new (count_text language number) }
 {

@@ -7,7 +7,7 @@ pub type Text = (&'static str, &'static str);
 /// The code of the language, which stands in the file's head.
 pub const LANGUAGE: Text = ("en", "de");
 
-/// The head of the file, up to its title. Then the style sheet, which follows the title.
+/// The head of the file, up to its title. Then the style sheet, which stands after the title.
 pub const HEAD: &str =
     "<!DOCTYPE html>\n<html lang=~>\n<meta charset=utf-8>\n<meta name=viewport content=\"width=device-width,initial-scale=1\">\n<title>";
 
@@ -217,13 +217,14 @@ pub const BODY: &str = "</style>\n<body>\n<main>\n";
 
 pub const FOOT: &str = "</main>\n";
 
-/// The title of a day and of several days, before the name of the sheet: the model, and the first and the last day.
+/// The title of a day; its values are the model and the day. Then the title of several days; its values are the model,
+/// the first day and the last day. The name of the key sheet stands after either title.
 pub const TITLE_DAY: Text = ("~, day ~, ", "~, Tag ~, ");
 
 pub const TITLE_DAYS: Text = ("~, days ~ to ~, ", "~, Tage ~ bis ~, ");
 
-/// The list of the days in a file with several days: its beginning, before the title and after it; a day, and its number
-/// of settings.
+/// The list of the days in a file with several days. The file's title stands between the first two texts. The values of
+/// an item are the day, the day again, and the number of settings on this day.
 pub const NAV: Text = (
     "<nav class=days aria-label=\"Days\">\n<p>",
     "<nav class=days aria-label=\"Tage\">\n<p>",
@@ -238,14 +239,15 @@ pub const NAV_DAY: Text = (
 
 pub const NAV_END: &str = "</ul>\n</nav>\n";
 
-/// The words for the number of settings: none, one, or several.
+/// The words that give the number of settings: none, one, or several.
 pub const NO_SETTINGS: Text = ("nothing to change", "nichts zu ändern");
 
 pub const ONE_SETTING: Text = ("1 setting", "1 Handgriff");
 
 pub const SETTINGS: Text = (" settings", " Handgriffe");
 
-/// The head of a day, before its title and after it: the day; the number of settings. Then what to compare first.
+/// The head of a day. The page's title stands between the first two texts; their values are the day, and the number of
+/// settings. Then the words that say what to compare first on a Converter.
 pub const DAY: &str = "<article id=day-~>\n<header>\n<h1>";
 
 pub const DAY_TITLED: Text = (
@@ -260,8 +262,8 @@ pub const COMPARE_PIN: Text = (
 
 pub const DAY_END: &str = "</article>\n";
 
-/// The head of a step, before the day's title and after it: the step's title, and its number of settings. Without a number;
-/// without anything to do.
+/// The head of a step, whose values are the step's title and its number of settings. Then the head of a step without a
+/// number of settings. The page's title stands after either head. Last, a step with nothing to do.
 pub const STEP: &str = "<section>\n<h2>~ <small>~</small><span>";
 
 pub const PLAIN_STEP: &str = "<section>\n<h2>~<span>";
@@ -277,7 +279,7 @@ pub const LIST: &str = "<ul>\n";
 
 pub const LIST_END: &str = "</ul>\n</section>\n";
 
-/// The wheels and the reflector that go into the box before others are put in.
+/// The paragraph about the wheels and the reflector that go into the box before other ones are put in.
 pub const BOXED: Text = (
     "<p>Take out, into the box:",
     "<p>Herausnehmen, in den Kasten:",
@@ -289,7 +291,8 @@ pub const BOXED_REFLECTOR: Text = (" reflector <b>~</b>", " Umkehrwalze <b>~</b>
 
 pub const BOXED_END: &str = "</p>\n";
 
-/// Wheels that come from the box, and where their rings stand: before the settings, and after the rings are set.
+/// The words before the wheels that come from the box, each with its ring. The first words are for the rings before the
+/// settings, the second words for the rings once they are set. Then the text for a wheel.
 pub const BOX_BEFORE: Text = (
     "<p>Compare these rings in the box, too:",
     "<p>Auch diese Ringe im Kasten vergleichen:",
@@ -302,14 +305,14 @@ pub const BOX_AFTER: Text = (
 
 pub const BOX_WHEEL: &str = " <b>~</b> (~\u{a0}~)";
 
-/// A box to tick, with the words for the hand and the setting's line.
+/// A checkbox for a ring. The values are the wheel, the letter, the letter's number, and the setting's line.
 pub const RING: Text = (
     "<li><label><input type=checkbox> wheel <b>~</b>: set the ring to <b>~\u{a0}~</b> <code>~</code></label>\n",
     "<li><label><input type=checkbox> Walze <b>~</b>: Ring auf <b>~\u{a0}~</b> stellen <code>~</code></label>\n",
 );
 
-/// A checkbox to put in a wheel from the box, in pieces. The first has the slot, its name, and the wheel. The second
-/// has the letter on which the wheel's ring has to stand, the third the setting's line.
+/// A checkbox to put in a wheel from the box, in three pieces. The first piece has the slot, the slot's name, and the
+/// wheel. The second has the letter on which the wheel's ring has to stand. The third has the setting's line.
 pub const SEAT: Text = (
     "<li><label><input type=checkbox> slot ~, ~: put in wheel <b>~</b>, from the box",
     "<li><label><input type=checkbox> Platz ~, ~: Walze <b>~</b> einsetzen, aus dem Kasten",
@@ -334,7 +337,7 @@ pub const REFLECTOR: Text = (
 
 pub const PLUG: &str = "<td><label><input type=checkbox> <b>~</b> <code>~</code></label>";
 
-/// A checkbox for a pin: its letter, its mark, and which way to set it. The beginning of the settings line stands only
+/// A checkbox for a pin: its letter, its mark, and the way to set it. The beginning of the setting's line stands only
 /// once, in the head of the wheel.
 pub const PIN: &str = "<label><input type=checkbox><b>~</b><br>~<small>~</small></label>";
 
@@ -342,8 +345,8 @@ pub const ON: Text = ("ON", "EIN");
 
 pub const OFF: Text = ("OFF", "AUS");
 
-/// A checkbox for a lug, in pieces. The first says which of the bar's two lugs it is, and the next its old place. The
-/// last has its new place, and the setting's line.
+/// A checkbox for a lug, in pieces. The first piece says which of the bar's two lugs it is. A later piece has the lug's
+/// old place. The last piece has the lug's new place, and the setting's line.
 pub const LUG: &str = "<td><label><input type=checkbox> ~";
 
 pub const LEFT_LUG: Text = ("left lug", "linker");
@@ -357,7 +360,7 @@ pub const LUG_END: Text = (
     " auf <b>~</b> <code>~</code></label>",
 );
 
-/// The settings line for turning a wheel, within the checkbox of the window.
+/// The line of a setting that turns a wheel, within the checkbox of the window.
 pub const TURN: &str = " <code>~</code>";
 
 /// The windows of a rotor machine, each with a checkbox.
@@ -385,8 +388,8 @@ pub const LETTER_BOX_END: &str = "</label>";
 
 pub const LETTERS_END: &str = "\n</table>\n</section>\n";
 
-/// The picture of the wheels, before and after the settings, with a title in words. If nothing changes, it shows only
-/// the wheels after.
+/// The picture of the wheels, before and after the settings, with a title in words. If nothing changes, the picture
+/// shows only the wheels after the settings.
 pub const WHEELS: Text = (
     "First compare the machine with <i>before</i>; only windows may differ. Thick frames: to set.</p>\n</header>\n<figure class=wheels><svg role=\"img\" viewBox=\"0 0 600 314\"><title>The wheels, from the left. Before: ",
     "Zuerst die Maschine mit <i>vorher</i> vergleichen; nur die Fenster dürfen abweichen. Dick Umrahmtes ist einzustellen.</p>\n</header>\n<figure class=wheels><svg role=\"img\" viewBox=\"0 0 600 314\"><title>Die Walzen, von links. Vorher: ",
@@ -414,7 +417,7 @@ pub const RING_WORDS: Text = (", ring ~", ", Ring ~");
 
 pub const WINDOW_WORDS: Text = (", window ~", ", Fenster ~");
 
-/// A band of the picture: its name and its labels. Then a reflector, old or new.
+/// A band of the picture: the band's name and labels. Then a reflector, drawn as old or as new.
 pub const BAND: Text = (
     "<text class=\"label bold\" x=\"2\" y=\"~\" font-size=\"20\">~</text>\n<text class=\"label\" x=\"2\" y=\"~\" font-size=\"18\">wheel</text>\n<text class=\"label\" x=\"2\" y=\"~\" font-size=\"18\">ring</text>\n<text class=\"label\" x=\"2\" y=\"~\" font-size=\"18\">window</text>\n<text x=\"134\" y=\"~\" font-size=\"18\">reflector</text>\n",
     "<text class=\"label bold\" x=\"2\" y=\"~\" font-size=\"20\">~</text>\n<text class=\"label\" x=\"2\" y=\"~\" font-size=\"18\">Walze</text>\n<text class=\"label\" x=\"2\" y=\"~\" font-size=\"18\">Ring</text>\n<text class=\"label\" x=\"2\" y=\"~\" font-size=\"18\">Fenster</text>\n<text x=\"134\" y=\"~\" font-size=\"18\">UKW</text>\n",
@@ -426,7 +429,8 @@ pub const REFLECTOR_SHOWN: &str =
 pub const NEW_REFLECTOR: &str =
     "<rect class=\"set\" x=\"96\" y=\"~\" width=\"76\" height=\"122\"/>\n<text class=\"bold\" x=\"134\" y=\"~\" font-size=\"20\">~</text>\n";
 
-/// A slot: empty, or with a wheel. Then a ring, and a window. The wheel, the ring and the window are old or new.
+/// A slot: empty, or with a wheel. Then a ring, and a window. The wheel, the ring and the window are drawn as old or as
+/// new.
 pub const EMPTY: Text = (
     "<text x=\"~\" y=\"~\" font-size=\"18\">slot ~</text>\n<rect x=\"~\" y=\"~\" width=\"96\" height=\"122\"/>\n<text x=\"~\" y=\"~\" font-size=\"20\">empty</text>\n",
     "<text x=\"~\" y=\"~\" font-size=\"18\">Platz ~</text>\n<rect x=\"~\" y=\"~\" width=\"96\" height=\"122\"/>\n<text x=\"~\" y=\"~\" font-size=\"20\">leer</text>\n",
@@ -467,8 +471,8 @@ pub const NO_CABLES: Text = ("none", "keine");
 
 pub const BOARD_END: &str = "</svg>\n<figcaption>";
 
-/// The line of a cable, in pieces. One leads from a socket into the lane. The other two lead along the lane: to a
-/// socket, or to an open end.
+/// The line of a cable, in pieces. The first piece leads from a socket into the lane. The other two pieces lead along
+/// the lane: one to a socket, the other to an open end.
 pub const LEFT_HALF: &str = "<path~ d=\"M~ ~V~Q~ ~ ~ ~";
 
 pub const RIGHT_HALF: &str = "H~Q~ ~ ~ ~V~\"/>\n";
@@ -488,7 +492,8 @@ pub const GOES_OUT: &str =
 pub const GOES_IN: &str =
     "<text class=\"bold\" x=\"~\" y=\"~\" font-size=\"22\">~</text>\n<circle class=\"in\" cx=\"~\" cy=\"~\" r=\"15\"/>\n<text class=\"on\" x=\"~\" y=\"~\" font-size=\"17\">~</text>\n";
 
-/// The meaning of a plugboard's marks. Then the table of the plugs to move, with a row for each cable.
+/// The captions, which say what a plugboard's marks mean. Two of the captions are followed by the head of a table of
+/// the plugs to move. Then a row of this table, which has a row for each cable.
 pub const CAPTION_SAME: Text = (
     "After. Circle: stays. Number: the cable’s.</figcaption></figure>\n",
     "Nachher. Kreis: bleibt. Zahl: Nummer der Schnur.</figcaption></figure>\n",
@@ -512,8 +517,8 @@ pub const PLUGS_END: &str = "</table>\n";
 
 pub const BOARD_STEP_END: &str = "</div>\n</section>\n";
 
-/// The table of the pins. It has the head of a wheel, with the beginning of the wheel's settings lines. Then the cells
-/// of pins. Some cells have a pin to change.
+/// The table of the pins: its caption, the head of a wheel, and the beginning of the wheel's settings lines. Then the
+/// cells of pins; the cell of a pin to change is framed.
 pub const PINS: Text = (
     "<table class=pins>\n<caption>Pins after: ~ effective, ~ not. Framed pins are to change: ON makes a pin effective, OFF not.</caption>\n",
     "<table class=pins>\n<caption>Stifte nachher: ~ wirksam, ~ unwirksam. Umrahmte Stifte umstellen: EIN macht wirksam, AUS unwirksam.</caption>\n",
@@ -538,8 +543,8 @@ pub const PIN_SHOWN: &str = "~<br>~";
 
 pub const PINS_END: &str = "</table>\n</section>\n";
 
-/// The table of the bars. It has the head of a bar, and the cells of its places. Then the rest of the cells for
-/// checkboxes. A bar may have lugs to move.
+/// The table of the bars: its caption and head, the head of a bar, and the cells of the bar's places. Then the end of a
+/// bar's row with no, one or two checkboxes.
 pub const DRUM: Text = (
     "<table class=drum>\n<caption>~ a lug stays here, ~ a lug leaves, ~ a lug comes. Move the lugs of a bar in the order shown.</caption>\n<thead>\n<tr><th scope=col>Bar<th scope=col>1<th scope=col>0L<th scope=col>2<th scope=col>3<th scope=col>4<th scope=col>5<th scope=col>0R<th scope=col>6<th scope=col colspan=2>Lugs to move\n<tbody>\n",
     "<table class=drum>\n<caption>~ Reiter bleibt, ~ Reiter geht, ~ Reiter kommt. Die Reiter einer Stange in der gezeigten Reihenfolge versetzen.</caption>\n<thead>\n<tr><th scope=col>Stange<th scope=col>1<th scope=col>0L<th scope=col>2<th scope=col>3<th scope=col>4<th scope=col>5<th scope=col>0R<th scope=col>6<th scope=col colspan=2>Reiter versetzen\n<tbody>\n",
@@ -561,7 +566,7 @@ pub const BOXES: &str = "\n";
 
 pub const DRUM_END: &str = "</table>\n</section>\n";
 
-/// The test: the keys to press, and the letters that the machine makes of them. Then the letters to set again, and the
+/// The test: the keys to press, and the letters that light up or are printed. Then the letters to set again, and the
 /// number of settings.
 pub const TEST_ROTOR: Text = (
     "<p>Type the alphabet. The lamps have to give the second line:</p>\n<pre>",
@@ -641,8 +646,8 @@ pub const MIDDLE: Text = ("middle", "Mitte");
 
 pub const RIGHT: Text = ("right", "rechts");
 
-/// The names of the two pictures. Then the classes of cables: with a plug to take out, with a plug to put in, or with
-/// neither.
+/// The names of the two pictures. Then the classes of cables: with a plug to take out, with a plug to put in, or
+/// without such a plug.
 pub const BEFORE: Text = ("before", "vorher");
 
 pub const AFTER: Text = ("after", "nachher");

@@ -23,7 +23,8 @@ use crate::words::Word;
 use kd_state::Machine;
 use kd_tables::{Letter, Reflector, Sink, Wheel};
 
-/// Writes the picture of the machine `before`, and below it the picture of `after`, with the differences marked.
+/// Writes the picture of the machine `before`, and below it the picture of the machine `after`, in which the
+/// differences are marked.
 pub fn draw_both<W: Sink>(sink: &mut W, language: Language, before: &Machine, after: &Machine)
     ensures { Draws W.taken W.has_failed sink.old sink.new (both_bands language before.now after.now) }
 {
@@ -37,7 +38,7 @@ pub fn draw_both<W: Sink>(sink: &mut W, language: Language, before: &Machine, af
     draw(sink, WHEELS_END);
 }
 
-/// Writes the picture of the machine `after` alone, for when nothing changes.
+/// Writes the picture of the machine `after` alone, which is used if nothing changes.
 pub fn draw_one<W: Sink>(sink: &mut W, language: Language, after: &Machine)
     ensures { Draws W.taken W.has_failed sink.old sink.new (one_band language after.now) }
 {
@@ -48,7 +49,7 @@ pub fn draw_one<W: Sink>(sink: &mut W, language: Language, after: &Machine)
     draw(sink, WHEELS_END);
 }
 
-/// Writes in words which reflector, wheels, rings and window letters a rotor machine has.
+/// Writes the reflector, the wheels, the rings and the window letters of a rotor machine in words.
 pub fn draw_words<W: Sink>(sink: &mut W, language: Language, machine: &Machine)
     ensures { Draws W.taken W.has_failed sink.old sink.new (machine_words language machine.now) }
 {
@@ -102,7 +103,7 @@ fn draw_slot_words<W: Sink>(
     }
 }
 
-/// Writes in words a wheel in a slot, with its ring and its window letter.
+/// Writes a wheel in a slot in words, with the wheel's ring and window letter.
 fn draw_wheel_words<W: Sink>(
     sink: &mut W,
     language: Language,
@@ -137,7 +138,7 @@ fn draw_letter_words<W: Sink>(
     }
 }
 
-/// Writes the band of `machine` at height `y`, with its differences from `other` marked.
+/// Writes the band of `machine` at height `y`, in which its differences from `other` are marked.
 fn draw_band<W: Sink>(
     sink: &mut W,
     language: Language,

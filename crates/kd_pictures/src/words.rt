@@ -6,8 +6,7 @@ use crate::language::Language;
 use crate::texts;
 use kd_tables::Model;
 
-/// A fixed word. It is the language's code, or which way a pin is set. Or it is the name of a step, a slot, a picture
-/// or a lug.
+/// A fixed word: the language's code, the name of a step, a slot, a picture or a lug, or the way to set a pin.
 #[derive(Clone, Copy)]
 pub enum Word {
     Language,
@@ -65,7 +64,7 @@ impl Word {
     }
 }
 
-/// The class of a cable's line. The cable has a plug to take out, a plug to put in, or neither.
+/// The class of a cable's line: the cable has a plug to take out, a plug to put in, or no such plug.
 #[derive(Clone, Copy)]
 pub enum Class {
     Plain,

@@ -1,4 +1,4 @@
--- Days that have fewer pairs, or fewer groups, than another day of their model: a line for each.
+-- The warnings about days that have fewer pairs, or fewer groups, than another day of their model.
 -- Test: tests/cases/curator-sheet.toml
 use Rattle.std.specs.Prelude.{codes, decimal, ℕ, nat_lt, ◌==◌, ◌&&◌, not, Bool, List, [], ◌++◌, find, flat_map, length, Option, if◌then◌else◌}
 use Rattle.std.specs.List.{list_any}
@@ -10,7 +10,7 @@ use Rattle.kd_slips.specs.declared.counts.Counted.{Counted}
 use Rattle.kd_slips.specs.declared.counts.Counted.TheVariants.{Groups, Pairs}
 use Rattle.kd_slips.specs.declared.counts.DayCounts.{DayCounts}
 
--- how many pairs and groups a day has; a Converter's day has none
+-- a day's numbers of pairs and groups; both are 0 on a Converter's day
 abbrev pub counts_of : Day → DayCounts
 counts_of (Rotor values) = record {
   day = values.day;
@@ -24,40 +24,40 @@ abbrev pub count : Counted → DayCounts → ℕ
 count Pairs day = day.pairs
 count Groups day = day.groups
 
--- whether the other day is for the same model, and has more
+-- whether `other` is for the same model as `day`, and has more pairs or more groups, as `counted` says
 abbrev pub has_more : Counted → DayCounts → DayCounts → Bool
 has_more counted day other =
     (model_eq.ghosts).eq other.model day.model && nat_lt (count counted day) (count counted other)
 
--- whether the other day has more, and no day of its model has more than it
+-- whether `other` has more than `day`, and no day of the same model has more than `other`
 abbrev pub has_most : Counted → List DayCounts → DayCounts → DayCounts → Bool
 has_most counted days day other = has_more counted day other && not (list_any (has_more counted other) days)
 
--- what is counted, of which there is one
+-- the noun for the things that are counted, in the singular
 abbrev pub noun : Counted → List ℕ
 noun Pairs = codes " pair"
 noun Groups = codes " group"
 
--- how many there are, such as `no pairs`, `1 pair`, `2 pairs`
+-- the words that give a number of pairs or groups, for example `no pairs`, `1 pair` or `2 pairs`
 unfoldable pub count_words : Counted → ℕ → List ℕ
 count_words counted number =
     (if number == 0 then codes "no" else decimal number) ++ noun counted ++ (if number == 1 then [] else codes "s")
 
--- the line on a day, and on another day of its model that has most
+-- the warning about a day; `most` is a day of the same model that has the most pairs or groups
 unfoldable pub few_words : List ℕ → Counted → DayCounts → DayCounts → List ℕ
 few_words start counted day most =
     start ++ codes "day " ++ decimal day.day ++ codes " has " ++ count_words counted (count counted day)
     ++ codes ", and day " ++ decimal most.day ++ codes " has " ++ decimal (count counted most) ++ codes "\n"
 
--- the line on a day, if it has fewer than another day of its model
+-- the warning about a day; empty if no day of the same model has more pairs or more groups, as `counted` says
 abbrev pub few_line : List ℕ → List DayCounts → DayCounts → Counted → List ℕ
 few_line start days day counted =
     option_map_or (few_words start counted day) (find (has_most counted days day) days) []
 
--- the lines on a day: on its pairs, and on its groups
+-- the warnings about a day: about its pairs, and about its groups
 unfoldable pub day_lines : List ℕ → List DayCounts → DayCounts → List ℕ
 day_lines start days day = few_line start days day Pairs ++ few_line start days day Groups
 
--- the lines on all days, each of which begins with `start`
+-- the warnings about all days; each warning begins with `start`
 abbrev pub few_lines : List ℕ → List DayCounts → List ℕ
 few_lines start days = flat_map (day_lines start days) days

@@ -1,5 +1,5 @@
--- The number of the list item that a slip's words are about. It is the first item that the desk's reader refuses. A
--- slip says why a value is refused.
+-- The number of the list item that a slip's words are about: the first item that the desk's reader refuses. A slip says
+-- why a value is refused.
 -- Test: tests/cases/curator-look.toml
 use Rattle.std.specs.Prelude.{◌≡◌, ℕ, ◌==◌, not, Bool, true, List, length, find, Option, Some, None, is_some}
 use Rattle.std.specs.Prelude.{if◌then◌else◌}
@@ -18,12 +18,12 @@ use Rattle.kd_sheet.specs.declared.key.Key.TheVariants as keys
 use Rattle.kd_slips.specs.declared.slip.Slip.{Slip}
 use Rattle.kd_slips.specs.declared.slip.Slip.TheVariants as slips
 
--- The slip has this fault, and its words are about this item. Or the slip says that memory ran out.
+-- The slip has this fault, and its words are about this item; or it is the slip `NoMemory`.
 abbrev pub HasFault : SheetFault → Option ℕ → Slip → Type 0
 HasFault fault item (slips.Fault found told words) = (found ≡ fault) × (told ≡ item)
 HasFault fault item slips.NoMemory = Unit {0}
 
--- The slip's words are about this item. Or the slip says that memory ran out.
+-- The slip's words are about this item; or it is the slip `NoMemory`.
 abbrev pub IsOfItem : Option ℕ → Slip → Type 0
 IsOfItem item (slips.Fault found told words) = told ≡ item
 IsOfItem item slips.NoMemory = Unit {0}
@@ -33,16 +33,16 @@ abbrev pub row_in : SheetFault → Option ℕ
 row_in (BadRow number) = Some number
 row_in fault = None
 
--- The slip's words are about the item whose number is in the slip's fault. Or the slip says that memory ran out.
+-- The slip's words are about the item whose number is in the slip's fault; or it is the slip `NoMemory`.
 abbrev pub IsOfItsRow : Slip → Type 0
 IsOfItsRow (slips.Fault found told words) = told ≡ row_in found
 IsOfItsRow slips.NoMemory = Unit {0}
 
--- the fault at `key` if there is no value, or if it is of the wrong type
+-- the fault at `key` if the value is missing, or is of the wrong type
 abbrev pub type_fault : Key → Option Data → SheetFault
 type_fault key value = if is_some value then BadValue key else Missing key
 
--- The number of the first item that isn't read. `reads` takes an item's number and the item.
+-- The number of the first item that can't be read. `reads` says whether the item with a number can be read.
 abbrev pub first_refused : (ℕ → Data → Bool) → List Data → Option ℕ
 first_refused reads items =
     find (λ number. not (option_map_or (reads number) (numbered_item items number) true)) (range_with_len 1 (length items))
@@ -51,7 +51,8 @@ first_refused reads items =
 unfoldable pub reads_pins : ℕ → Data → Bool
 reads_pins wheel item = is_some (from_text (pins_of_text (ring_of wheel)) item)
 
--- The number of the first wheel whose pins the desk refuses. `None` unless there is an item for each of the six wheels.
+-- The number of the first wheel whose pins the desk refuses. `None` if the list doesn't have an item for each of the
+-- six wheels.
 unfoldable pub refused_pins : Members → Option ℕ
 refused_pins table = option_map_or (λ items. if length items == 6 then first_refused reads_pins items else None)
     (option_and_then as_items (get_member (key_name keys.Pins) table)) None

@@ -1,12 +1,12 @@
--- How a text from a file is shown in a line. It is shown in backticks. If it is long, or has control characters, only
--- its length in bytes is shown.
+-- How a text from a file is shown in a line. The text stands in backticks. If it is long, or has control characters,
+-- only its length in bytes is shown.
 -- Test: tests/cases/curator-look.toml
 use Rattle.std.specs.Prelude.{codes, ℕ, ◌++◌, ◌==◌, ◌&&◌, nat_le, not, Bool, List, length, decimal, if◌then◌else◌}
 use Rattle.std.specs.List.{list_all}
 use Rattle.kd_tables.specs.declared.model.Model.{Model}
 use Rattle.kd_tables.specs.declared.model.Model.TheVariants.{EnigmaI, M3, M4, M209}
 
--- whether the byte can be printed: it is no control character
+-- whether the byte isn't a control character
 abbrev pub is_printed : ℕ → Bool
 is_printed byte = nat_le 32 byte && not (byte == 127)
 
@@ -18,7 +18,7 @@ unfoldable pub shown_text : List ℕ → List ℕ
 shown_text text = if can_be_shown text then codes "`" ++ text ++ codes "`"
     else codes "a text of " ++ decimal (length text) ++ codes " bytes"
 
--- the model's name, with its article
+-- the model's name, with an article before it
 abbrev pub model_with_article : Model → List ℕ
 model_with_article EnigmaI = codes "an Enigma I"
 model_with_article M3 = codes "an M3"

@@ -26,7 +26,7 @@ fn check_twice_within(alloc: Global, text: &str) -> Result<(), Slip>
     Ok(())
 }
 
-/// Refuses the letter `byte` of the cable `text`, if the cable `earlier` has it, too.
+/// Refuses the letter `byte` of the cable `text`, if the cable `earlier` has this letter, too.
 fn check_apart(alloc: Global, earlier: &str, text: &str, byte: u8) -> Result<(), Slip>
     ensures { IfErr result (HasFault LetterTwice None) }
 {
@@ -42,7 +42,7 @@ fn check_apart(alloc: Global, earlier: &str, text: &str, byte: u8) -> Result<(),
     )
 }
 
-/// Refuses the cable `text` at place `place` of `items`, if it has a letter twice, or shares one with an earlier item.
+/// Refuses the cable `text` at place `place` of `items`, if it has a letter twice, or has a letter of an earlier item.
 fn check_new(alloc: Global, items: &[Value], place: usize, text: &str) -> Result<(), Slip>
     ensures { IfErr result (HasFault LetterTwice None) }
 {
@@ -57,8 +57,8 @@ fn check_new(alloc: Global, items: &[Value], place: usize, text: &str) -> Result
     Ok(())
 }
 
-/// Checks the items of a list of cables. Each must have `count` letters or, if `count` is `None`, at most two. No
-/// letter may be there twice.
+/// Checks the items of a list of cables. Each cable must have `count` letters or, if `count` is `None`, at most two. No
+/// letter may come twice.
 fn check_cables(
     alloc: Global,
     key: Key,

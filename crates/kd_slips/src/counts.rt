@@ -10,14 +10,14 @@ use kd_state::SheetDay;
 use kd_tables::Model;
 use std::alloc::{AllocError, Global};
 
-/// What is counted of a day.
+/// The things that are counted on a day.
 #[derive(Clone, Copy)]
 pub enum Counted {
     Pairs,
     Groups,
 }
 
-/// A day, with its number of pairs and of groups.
+/// A day, with its numbers of pairs and groups.
 #[derive(Clone, Copy)]
 pub struct DayCounts {
     pub day: u8,
@@ -26,7 +26,7 @@ pub struct DayCounts {
     pub groups: usize,
 }
 
-/// The number of pairs and of groups of a day. A Converter's day has none.
+/// A day's numbers of pairs and groups. Both are 0 on a Converter's day.
 pub fn counts_of(day: &SheetDay) -> DayCounts
     ensures { result ≡ counts_of day.now }
 {
@@ -38,7 +38,7 @@ pub fn counts_of(day: &SheetDay) -> DayCounts
     }
 }
 
-/// How many there are of what is counted.
+/// The day's number of pairs or of groups, as `counted` says.
 fn count(counted: Counted, day: &DayCounts) -> usize
     ensures { result ≡ count counted day.now }
 {
@@ -48,14 +48,14 @@ fn count(counted: Counted, day: &DayCounts) -> usize
     }
 }
 
-/// Whether `other` is for the model of `day`, and has more.
+/// Whether `other` is for the same model as `day`, and has more pairs or more groups, as `counted` says.
 fn has_more(counted: Counted, day: &DayCounts, other: &DayCounts) -> bool
     ensures { result ≡ has_more counted day.now other.now }
 {
     other.model == day.model && count(counted, day) < count(counted, other)
 }
 
-/// Whether one of `days` is for the model of `day`, and has more.
+/// Whether one of `days` is for the same model as `day`, and has more pairs or more groups, as `counted` says.
 fn is_topped(counted: Counted, day: &DayCounts, days: &[DayCounts]) -> bool
     ensures { result ≡ list_any (has_more counted day.now) days.now }
 {
@@ -65,14 +65,14 @@ fn is_topped(counted: Counted, day: &DayCounts, days: &[DayCounts]) -> bool
     }
 }
 
-/// Whether `other` has more than `day`, and none of `days` has more than `other`.
+/// Whether `other` has more than `day`, and no day of the same model in `days` has more than `other`.
 fn has_most(counted: Counted, days: &[DayCounts], day: &DayCounts, other: &DayCounts) -> bool
     ensures { result ≡ has_most counted days.now day.now other.now }
 {
     has_more(counted, day, other) && !is_topped(counted, other, days)
 }
 
-/// The first day of `rest` that has more than `day`, and than which none of `days` has more.
+/// The first day of `rest` that has more than `day`, while no day of the same model in `days` has still more.
 fn find_most(
     counted: Counted,
     days: &[DayCounts],
@@ -104,7 +104,7 @@ fn push_titled(text: &mut String, title: &str, number: usize) -> Result<(), Allo
     text.push_str(buffer.format(number))
 }
 
-/// What is counted, of which there is one.
+/// The noun for the things that are counted, in the singular.
 fn noun(counted: Counted) -> &'static str
     ensures { result.now ≡ noun counted }
 {
@@ -114,7 +114,7 @@ fn noun(counted: Counted) -> &'static str
     }
 }
 
-/// Appends how many there are, such as `no pairs`.
+/// Appends the words that give a number of pairs or groups, for example `no pairs`.
 #[tactic(auto, using(std::proofs::Common::append_assoc), unfolding(crate::specs::Counts::count_words))]
 fn push_count(text: &mut String, counted: Counted, number: usize) -> Result<(), AllocError>
     ensures { OnOk result (string_bytes text.new
@@ -129,7 +129,7 @@ fn push_count(text: &mut String, counted: Counted, number: usize) -> Result<(), 
     text.push_str(if number == 1 { "" } else { "s" })
 }
 
-/// Appends the line on `day`, and on `most`, a day of its model that has most.
+/// Appends the warning about `day`. `most` is a day of the same model that has the most pairs or groups.
 #[tactic(auto, using(std::proofs::Common::append_assoc), unfolding(crate::specs::Counts::few_words))]
 fn push_words(
     lines: &mut String,
@@ -150,7 +150,8 @@ fn push_words(
     lines.push_str("\n")
 }
 
-/// Appends the line on `day`, if another of `days` for its model has more.
+/// Appends the warning about `day`, if another day of the same model in `days` has more pairs or more groups, as
+/// `counted` says.
 fn push_few(
     lines: &mut String,
     start: &str,
@@ -167,7 +168,7 @@ fn push_few(
     }
 }
 
-/// Appends the lines on `day`: on its pairs, and on its groups.
+/// Appends the warnings about `day`: about its pairs, and about its groups.
 #[tactic(auto, using(std::proofs::Common::append_assoc), unfolding(crate::specs::Counts::day_lines))]
 fn push_day(
     lines: &mut String,
@@ -182,7 +183,8 @@ fn push_day(
     push_few(lines, start, days, day, Counted::Groups)
 }
 
-/// The lines on all days that have fewer pairs, or fewer groups, than another day of their model. Each begins with `start`.
+/// The warnings about all days that have fewer pairs, or fewer groups, than another day of their model. Each warning
+/// begins with `start`.
 pub fn few_lines(alloc: Global, start: &str, days: &[DayCounts]) -> Result<String, AllocError>
     ensures { IfOk result (λ lines. string_bytes lines ≡ few_lines start.now days.now) }
 {

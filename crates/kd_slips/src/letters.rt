@@ -50,7 +50,7 @@ pub fn check_capitals(alloc: Global, text: &str, fault: SheetFault) -> Result<()
     )
 }
 
-/// Checks that the text at `key` has exactly `count` capital letters. `of` says what they stand for.
+/// Checks that the text at `key` has exactly `count` capital letters. The words `of` say what the letters stand for.
 pub fn check_letters(
     alloc: Global,
     table: &Table,
@@ -62,7 +62,7 @@ pub fn check_letters(
     check_text(alloc, text, SheetFault::BadValue(key), count, of)
 }
 
-/// Checks that `text` has exactly `count` capital letters. `of` says what they stand for.
+/// Checks that `text` has exactly `count` capital letters. The words `of` say what the letters stand for.
 pub fn check_text(
     alloc: Global,
     text: &str,
@@ -124,7 +124,7 @@ pub fn check_on_wheel(
     )
 }
 
-/// Checks that the text at `key` has a letter for each pin wheel, and that this wheel has the letter.
+/// Checks that the text at `key` has a letter for each pin wheel, and that each wheel has its letter.
 pub fn check_shown(alloc: Global, table: &Table, key: Key) -> Result<(), Slip> {
     let text = text_at(alloc, table, key)?;
     let fault = SheetFault::BadValue(key);

@@ -13,7 +13,7 @@ use kd_tables::{Model, Reflector, Wheel, allowed, in_box};
 use std::alloc::{AllocError, Global};
 use toml::{Table, Value};
 
-/// The model's name, with its article.
+/// The model's name, with an article before it.
 pub fn model_name(model: Model) -> &'static str
     ensures { result.now ≡ model_with_article model }
 {
@@ -54,7 +54,7 @@ fn reflector_words(model: Model) -> &'static str {
     }
 }
 
-/// Refuses `name`, which is `right`, but with other capital and small letters.
+/// Refuses `name`, which differs from the name `right` only in capital and small letters.
 fn refuse_case<T>(alloc: Global, fault: SheetFault, name: &str, right: &str) -> Result<T, Slip>
     ensures refused { IsErr result }
     ensures slip { IfErr result (HasFault fault None) }
@@ -203,7 +203,7 @@ fn check_allowed(alloc: Global, model: Model, slot: u8, wheel: Wheel) -> Result<
     )
 }
 
-/// Refuses the wheel `name` in slot `slot`, if an earlier slot has it, too.
+/// Refuses the wheel `name` in slot `slot`, if an earlier slot has this wheel, too.
 fn check_first(alloc: Global, items: &[Value], slot: u8, name: &str) -> Result<(), Slip>
     ensures { IfErr result (HasFault WheelTwice None) }
 {

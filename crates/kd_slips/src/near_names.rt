@@ -1,8 +1,8 @@
-//! Compares names that are perhaps mistyped.
+//! Finds names that may be mistyped forms of other names.
 ghost use Rattle.std.specs.Prelude.{◌≡◌, ◌≤◌, length};
 ghost use Rattle.kd_slips.specs.NearNames.{alike_at_end, alike_at_start, in_common, is_near, larger, smaller};
 
-/// How many letters are alike at the starts of two names. Capital and small letters are alike.
+/// How many letters two names have in common at their starts. Capital and small letters count as equal.
 fn alike_at_start(name: &[u8], known: &[u8]) -> usize
     ensures value { result ≡ alike_at_start name.now known.now }
     ensures few { result ≤ length name.now }
@@ -19,7 +19,7 @@ fn alike_at_start(name: &[u8], known: &[u8]) -> usize
     alike_at_start(name, known) + 1
 }
 
-/// How many letters are alike at the ends of two names.
+/// How many letters two names have in common at their ends. Capital and small letters count as equal.
 fn alike_at_end(name: &[u8], known: &[u8]) -> usize
     ensures value { result ≡ alike_at_end name.now known.now }
     ensures few { result ≤ length name.now }
@@ -36,7 +36,8 @@ fn alike_at_end(name: &[u8], known: &[u8]) -> usize
     alike_at_end(name, known) + 1
 }
 
-/// How many letters of each name are alike at the start or at the end.
+/// How many letters two names have in common at their starts and their ends together, at most all letters of the
+/// shorter name.
 fn in_common(name: &[u8], known: &[u8]) -> usize
     ensures value { result ≡ in_common name.now known.now }
     ensures few { result ≤ length name.now }
@@ -50,7 +51,7 @@ fn in_common(name: &[u8], known: &[u8]) -> usize
     if alike <= most { alike } else { most }
 }
 
-/// Whether two names differ in one stretch alone, which has at most `slips` letters in each of them.
+/// Whether two names differ only in successive letters, which are at most `slips` letters of either name.
 #[tactic(auto, unfolding(crate::specs::NearNames::is_near))]
 pub fn is_near(slips: u8, name: &[u8], known: &[u8]) -> bool
     ensures { result ≡ is_near slips name.now known.now }

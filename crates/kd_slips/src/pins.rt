@@ -18,8 +18,8 @@ use toml::{Table, Value};
 /// The number of bars of the drum.
 const BARS: usize = 27;
 
-/// Adds the item's number to the slip in `checked`. If there is no slip, makes one with general words. The desk refuses
-/// the item in any case.
+/// Adds the item's number to the slip in `checked`. If `checked` has no slip, makes a slip with general words, as the
+/// desk refuses the item in any case.
 fn at_item(alloc: Global, checked: Result<(), Slip>, item: usize) -> Result<(), Slip>
     ensures refused { IsErr result }
     ensures slip { IfErr result (IsOfItem (Some item)) }
@@ -35,7 +35,7 @@ fn at_item(alloc: Global, checked: Result<(), Slip>, item: usize) -> Result<(), 
     }
 }
 
-/// Checks that the pins in `text` are on pin wheel `wheel`, and that each is there at most once.
+/// Checks that the pins in `text` are on pin wheel `wheel`, and that no pin comes twice.
 fn check_wheel_pins(alloc: Global, wheel: u8, text: &str) -> Result<(), Slip>
     ensures { IfErr result (HasFault (BadValue keys.Pins) None) }
 {
@@ -114,14 +114,13 @@ pub fn check_pins(alloc: Global, table: &Table) -> Result<(), Slip>
     check_pin_items(alloc, items)
 }
 
-/// The item of the list at `key` with the number `number`, counted from 1.
+/// Item number `number` of the list at `key`, counted from 1.
 fn numbered_item(table: &Table, key: Key, number: u8) -> Option<&Value> {
     let items = find_at(table, key)?.as_array()?;
     items.as_slice().get(usize::from(number).checked_sub(1)?)
 }
 
-/// Refuses the item with the number `number` of the list at `key`. If the item is a text, the words are this text, then
-/// `advice`.
+/// Refuses item number `number` of the list at `key`. If the item is a text, the words are this text, then `advice`.
 fn refuse_row(alloc: Global, table: &Table, key: Key, number: u8, advice: &str) -> Result<(), Slip>
     ensures refused { IsErr result }
     ensures slip { IfErr result (HasFault (BadRow number) (Some number)) }
@@ -140,7 +139,7 @@ fn refuse_row(alloc: Global, table: &Table, key: Key, number: u8, advice: &str) 
     )
 }
 
-/// Refuses the value at `key`. It isn't a list with an item for each bar.
+/// Refuses the value at `key`, which isn't a list with an item for each bar.
 fn refuse_list(alloc: Global, table: &Table, key: Key) -> Result<(), Slip>
     ensures refused { IsErr result }
     ensures slip { IfErr result IsOfItsRow }

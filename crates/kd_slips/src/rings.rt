@@ -9,7 +9,7 @@ use kd_tables::Model;
 use std::alloc::Global;
 use toml::{Table, Value};
 
-/// Checks the rings of a day. They are a text of letters, or a list of numbers, with one for each slot of the model.
+/// Checks the rings of a day: a text of letters or a list of numbers, one for each slot of the model.
 pub fn check_rings(alloc: Global, table: &Table, model: Model) -> Result<(), Slip> {
     let value = value_at(alloc, table, Key::Rings)?;
     let slots = usize::from(model.slots());

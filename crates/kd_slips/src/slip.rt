@@ -8,8 +8,8 @@ use std::alloc::AllocError;
 /// The reason why a value is refused.
 #[derive(Drop)]
 pub enum Slip {
-    /// The fault, the number of the list item, and words. The fault is the one that the desk names. If the words aren't
-    /// about an item, there is no number.
+    /// The fault that the desk names, the number of the list item that the words are about, and the words. If the words
+    /// aren't about an item, there is no number.
     Fault(SheetFault, Option<usize>, String),
     /// Memory ran out.
     NoMemory,
@@ -34,7 +34,8 @@ pub fn refuse<T>(fault: SheetFault, words: Result<String, AllocError>) -> Result
     Err(Slip::Fault(fault, None, words?))
 }
 
-/// Refuses the item of a list with the number `item`, counted from 1: returns a slip with this fault and these words.
+/// Refuses the item of a list with the number `item`: returns a slip with this fault and these words. Items are counted
+/// from 1.
 pub fn refuse_item<T>(
     fault: SheetFault,
     item: usize,

@@ -21,7 +21,7 @@ use toml::{Table, Value};
 /// The longest text that is shown in a line, in bytes.
 const SHOWN: usize = 40;
 
-/// The value at `key`, or a slip if there is none.
+/// The value at `key`, or a slip if the key is missing.
 pub fn value_at(alloc: Global, table: &Table, key: Key) -> Result<&Value, Slip>
     ensures found { IfOk result (λ value.
         get_member (key_name key) (table_view table.now) ≡ Some (view value.now)) }
@@ -72,7 +72,7 @@ pub fn text_at(alloc: Global, table: &Table, key: Key) -> Result<&str, Slip>
     }
 }
 
-/// The text of `item`, or a slip with `fault`. The item has the number `number` in its list.
+/// The text of `item`, or a slip with `fault`. `number` is the item's number in its list.
 pub fn item_text(
     alloc: Global,
     item: &Value,
@@ -96,7 +96,7 @@ pub fn item_text(
     }
 }
 
-/// The items of `value`, which stands at `key`, or a slip if it isn't a list.
+/// The items of `value`, or a slip if `value` isn't a list. `value` stands at `key`.
 #[tactic(auto, using(kd_sheet::proofs::ReadBack::Described::KeyValues::Steps::items_found))]
 pub fn items_of(alloc: Global, value: &Value, key: Key) -> Result<&[Value], Slip>
     ensures found { IfOk result (λ items. as_items (view value.now) ≡ Some (map view items.now)) }
@@ -136,7 +136,7 @@ fn items_words(alloc: Global, len: usize) -> Result<String, AllocError> {
     }
 }
 
-/// Checks that a list of `len` items has exactly `count` items. `of` says what they are.
+/// Checks that a list of `len` items has exactly `count` items. The words `of` say what the items are.
 pub fn check_count(alloc: Global, key: Key, len: usize, count: usize, of: &str) -> Result<(), Slip>
     ensures same { OnOk result (len ≡ count) }
     ensures other { OnErr result (len ≢ count) }
@@ -154,7 +154,7 @@ pub fn check_count(alloc: Global, key: Key, len: usize, count: usize, of: &str) 
     )
 }
 
-/// Checks that a list of `len` items has at most `most` items. `of` says what they are.
+/// Checks that a list of `len` items has at most `most` items. The words `of` say what the items are.
 pub fn check_at_most(alloc: Global, key: Key, len: usize, most: usize, of: &str) -> Result<(), Slip>
     ensures few { OnOk result (len ≤ most) }
     ensures many { OnErr result (most < len) }
@@ -172,7 +172,7 @@ pub fn check_at_most(alloc: Global, key: Key, len: usize, most: usize, of: &str)
     )
 }
 
-/// Whether `byte` can be printed: it is no control character.
+/// Whether `byte` isn't a control character.
 fn is_printed(byte: u8) -> bool
     ensures { result ≡ is_printed byte }
 {
@@ -193,7 +193,7 @@ fn can_be_shown(text: &str) -> bool
     text.len() <= SHOWN && are_printed(text.as_bytes())
 }
 
-/// `text` in backticks. If it is long, or has control characters, only its length in bytes.
+/// `text` in backticks. If `text` is long, or has control characters, only its length in bytes.
 #[tactic(auto, using(std::proofs::Common::append_assoc), unfolding(crate::specs::Shown::shown_text))]
 pub fn shown(alloc: Global, text: &str) -> Result<String, AllocError>
     ensures { IfOk result (λ words. string_bytes words ≡ shown_text text.now) }

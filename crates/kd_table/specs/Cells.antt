@@ -1,5 +1,5 @@
--- The cells of a table's row, one for each value of a day. This file says which column each cell has, and whether its
--- text can be read.
+-- The cells of a table's row, one for each value of a day. This file says in which column each cell is, and whether a
+-- cell's text can be read.
 -- Test: tests/cases/curator-sheet.toml
 use Rattle.std.specs.Prelude.{ℕ, nat_le, ◌&&◌, ◌||◌, not, Bool, true, false, List, [], ◌∷◌, is_some, slice_index_or, Option, Some, None, if◌then◌else◌}
 use Rattle.std.specs.List.{list_all}
@@ -18,7 +18,7 @@ use Rattle.kd_table.specs.declared.cell.Cell.TheVariants as cells
 use Rattle.kd_table.specs.declared.columns.Columns.{Columns}
 use Rattle.kd_table.specs.Options.{OptionTexts}
 
--- the column of a cell; `None` if the table has no such column
+-- the place of a cell's column; `None` if the table has no such column
 abbrev pub column_of : Columns → Cell → Option ℕ
 column_of columns cells.Day = columns.day
 column_of columns cells.Model = columns.model
@@ -37,18 +37,18 @@ column_of columns cells.Pins5 = slice_index_or columns.pins 4 None
 column_of columns cells.Pins6 = slice_index_or columns.pins 5 None
 column_of columns cells.Bars = columns.bars
 
--- the option whose text replaces the blank cell; empty if there is none
+-- the text of the option that replaces the cell, if the cell is blank; empty if no option replaces it
 abbrev pub option_of : OptionTexts → Cell → List ℕ
 option_of options cells.Model = options.model
 option_of options cells.Reflector = options.reflector
 option_of options cells.Window = options.window
 option_of options cell = []
 
--- the text of a cell in a row or, if the cell is blank, its option
+-- the text of a cell in a row or, if the cell is blank, the text of the cell's option
 abbrev pub text_of : OptionTexts → Columns → List (List ℕ) → Cell → List ℕ
 text_of options columns row cell = cell_or (option_of options cell) (column_of columns cell) row
 
--- whether the table has the cell's column, or an option replaces it
+-- whether the table has the cell's column, or the cell's option isn't blank
 abbrev pub has_text : OptionTexts → Columns → Cell → Bool
 has_text options columns cell = is_some (column_of columns cell) || not (is_blank (option_of options cell))
 
@@ -66,16 +66,16 @@ cells_of model =
 abbrev pub row_model : OptionTexts → Columns → List (List ℕ) → Option Model
 row_model options columns row = model_named (text_of options columns row cells.Model)
 
--- All cells of a row of this model. If the model isn't known, these are only the day and the model.
+-- All cells of a row of this model. If the model isn't known, only the cells of the day and the model.
 abbrev pub row_cells : Option Model → List Cell
 row_cells model = cells.Day ∷ cells.Model ∷ option_map_or cells_of model []
 
--- whether a table may lack the cell's column; it may only lack the column of groups
+-- whether the table may lack the cell's column; this is so only for the column of groups
 abbrev pub is_optional : Cell → Bool
 is_optional cells.Groups = true
 is_optional cell = false
 
--- whether the table has all columns that the row's model needs
+-- whether the table has each column that the row's model needs, or an option for it
 abbrev pub has_columns : OptionTexts → Columns → List (List ℕ) → Bool
 has_columns options columns row =
     list_all (λ cell. is_optional cell || has_text options columns cell) (row_cells (row_model options columns row))
@@ -120,7 +120,7 @@ is_read model cells.Pins5 text = are_pins 5 text
 is_read model cells.Pins6 text = are_pins 6 text
 is_read model cells.Bars text = is_some (readings_in text >>= exactly 27)
 
--- whether the cell's text can't be read, though the table has the cell's column, or an option for it
+-- whether the table has the cell's column or an option for it, but the cell's text can't be read
 abbrev pub is_faulty : OptionTexts → Columns → List (List ℕ) → Cell → Bool
 is_faulty options columns row cell =
     has_text options columns cell

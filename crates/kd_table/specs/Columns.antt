@@ -1,4 +1,4 @@
--- The columns of a table, and their names. The names in the table's first row say which values a column has.
+-- The columns of a table, and their names. The names in the table's first row say which value of a day each column has.
 -- Test: tests/cases/curator-sheet.toml
 use Rattle.std.specs.Prelude.{codes, ℕ, ◌||◌, Bool, List, [], ◌∷◌, find, length, Option, Some, if◌then◌else◌}
 use Rattle.std.specs.List.{range_with_len}
@@ -14,7 +14,7 @@ use Rattle.kd_table.specs.declared.columns.Columns.{Columns}
 abbrev pub cell_at : Option ℕ → List (List ℕ) → List ℕ
 cell_at column row = option_map_or (λ text. text) (option_and_then (field_at row) column) []
 
--- the text of a row in a column or, if it is blank, `otherwise`
+-- the text of a row in a column or, if this text is blank, `otherwise`
 abbrev pub cell_or : List ℕ → Option ℕ → List (List ℕ) → List ℕ
 cell_or otherwise column row = if is_blank (cell_at column row) then otherwise else cell_at column row
 
@@ -73,7 +73,7 @@ names_column cell text =
 
 -- ---- The columns of a table.
 
--- the first column, among 64, that has a name of the cell's column
+-- the first of the first 64 columns whose name is a name of the cell's column
 abbrev pub column_named : Cell → List (List ℕ) → Option ℕ
 column_named cell head = find (λ place. names_column cell (cell_at (Some place) head)) (range_with_len 0 64)
 
@@ -87,7 +87,8 @@ pin_columns head =
     ∷ column_named cells.Pins5 head
     ∷ column_named cells.Pins6 head ∷ []
 
--- The columns of a table whose first row is `head`: their number, and the place of each, counted from 0.
+-- The columns of a table whose first row is `head`: the number of all columns, and the place of each column that is
+-- read. Places are counted from 0.
 unfoldable pub columns_of : List (List ℕ) → Columns
 columns_of head = record {
   count = length head;

@@ -1,5 +1,5 @@
--- A key sheet to fill in. It has a section for each day, with `?` for each missing letter and number. A day with `?` is
--- refused, so that a forgotten day can't be taken for a key.
+-- A key sheet to fill in. It has a section for each day. In a section, `?` stands for each missing letter and number. A
+-- day with `?` is refused, so that a forgotten day can't be taken for a key.
 -- Test: tests/cases/curator-sheet.toml
 use Rattle.std.specs.Prelude.{codes, false, ℕ, List, [], ◌∷◌, ◌++◌, map, replicate}
 use Rattle.std.specs.List.{range_with_len}
@@ -19,7 +19,7 @@ unknown_line key count = key_line key (quoted_text (replicate count 63))
 unfoldable pub unknown_items_line : Key → ℕ → List ℕ → List ℕ
 unknown_items_line key count item = key_line key (array_text (replicate count item))
 
--- The lines of a rotor machine's day, after its number and its model. They have ten pairs and four groups, as most
+-- The lines of a rotor machine's day, after the day's number and model. There are ten pairs and four groups, as on most
 -- sheets.
 abbrev pub empty_rotor_lines : ℕ → List (List ℕ)
 empty_rotor_lines slots =
@@ -31,7 +31,7 @@ empty_rotor_lines slots =
     ∷ unknown_items_line keys.Groups 4 (codes "???")
     ∷ []
 
--- the lines of a Converter's day, after its number and its model
+-- the lines of a Converter's day, after the day's number and model
 abbrev pub empty_pin_lines : List (List ℕ)
 empty_pin_lines =
     unknown_line keys.List 2

@@ -1,5 +1,5 @@
--- The values that are the same for the notes on each row of a table. Then a row with its place. No public contract
--- cites these definitions.
+-- `Head`: the values that are the same for the notes on each row of a table. `PlacedRow`: a row with its place. No
+-- public contract cites these definitions.
 use Rattle.std.specs.Prelude.{ℕ, List}
 use Rattle.kd_table.specs.declared.columns.Columns.{Columns}
 use Rattle.kd_table.specs.Options.{OptionTexts}
@@ -13,7 +13,7 @@ pub record Head : Type 0 where
 abbrev pub head_of : OptionTexts → Columns → List (List ℕ) → Head
 head_of options columns names = record { options = options; columns = columns; names = names }
 
--- A row: its cells, and its place, with which each line about the row begins.
+-- A row: its cells, and the words for its place. Each line about the row begins with these words.
 pub record PlacedRow : Type 0 where
   pub place : List ℕ
   pub cells : List (List ℕ)

@@ -1,4 +1,5 @@
--- The values in the cells of a table: numbers, wheels, letters, pairs and groups. Between them are gaps (see `is_gap`).
+-- The values in the cells of a table: numbers, wheels, letters, pairs and groups. Gaps between the values are left out
+-- (see `is_gap`).
 -- Test: tests/cases/curator-sheet.toml
 use Rattle.std.specs.Prelude.{ℕ, nat_le, nat_eq, ◌+◌, ◌-◌, ◌*◌, ◌==◌, ◌&&◌, Bool, List, [], ◌∷◌, length, map, Option, Some, None}
 use Rattle.std.specs.Prelude.{if◌then◌else◌, false, not, filter}
@@ -12,18 +13,17 @@ use Rattle.kd_table.specs.Names.{capital, is_digit, is_gap, is_capital_letter, w
 abbrev pub is_blank : List ℕ → Bool
 is_blank cell = list_all is_gap cell
 
--- the byte in normal form: a space for a gap, a capital letter for a small letter, otherwise the byte
+-- the byte in normal form: a space for a gap, the capital letter for a small letter, otherwise the byte itself
 abbrev pub normal : ℕ → ℕ
 normal byte = if is_gap byte then 32 else capital byte
 
--- How a cell is split into items of one sort. `keeps` says which gaps are kept, and `alone` says which bytes are items
--- by themselves.
+-- How a cell is split into words. `keeps` says which gaps are kept. `alone` says which bytes are words by themselves.
 pub record Bytes : Type 0 where
   pub keeps : ℕ → Bool
   pub alone : ℕ → Bool
 
--- The bytes of a cell in normal form. A space follows each byte that is an item by itself: letters `ABC` become `A B C
--- `.
+-- The bytes of a cell in normal form. A space stands after each byte that is a word by itself: the letters `ABC` become
+-- `A B C `.
 abbrev pub item_text : Bytes → List ℕ → List ℕ
 item_text bytes cell =
     flat_map (λ byte. if bytes.alone byte then byte ∷ 32 ∷ [] else byte ∷ [])
@@ -42,7 +42,7 @@ values_of_words parse ([] ∷ rest) = values_of_words parse rest
 values_of_words parse ((byte ∷ word) ∷ rest) =
     option_and_then (λ value. option_map (λ values. value ∷ values) (values_of_words parse rest)) (parse (byte ∷ word))
 
--- The values that `parse` finds in the words of a cell. `None` if a word has no value, or the cell is too long.
+-- The values of a cell's words, as `parse` reads them. `None` if a word has no value, or the cell is too long.
 abbrev pub values_in : {A : Type 0} → Bytes → (List ℕ → Option A) → List ℕ → Option (List A)
 values_in bytes parse cell = option_and_then (values_of_words parse) (cell_words bytes cell)
 
@@ -94,7 +94,7 @@ single _ = None
 abbrev pub words : Bytes
 words = record { keeps = λ byte. false; alone = λ byte. false }
 
--- the rule for letters and words; each letter is an item by itself, and words stand between gaps
+-- the rule for letters and numbers; each letter is a word by itself, and numbers stand between gaps
 abbrev pub letters : Bytes
 letters = record { keeps = λ byte. false; alone = is_capital_letter }
 
@@ -102,14 +102,15 @@ letters = record { keeps = λ byte. false; alone = is_capital_letter }
 abbrev pub hyphened : Bytes
 hyphened = record { keeps = λ byte. byte == 45; alone = λ byte. false }
 
--- the number in a cell; `None` if the cell has anything other than one number
+-- the number in a cell; `None` unless the cell has exactly one word, and this word is a number
 abbrev pub number_in : List ℕ → Option ℕ
 number_in cell = option_and_then single (values_in words number_of cell)
 
 abbrev pub wheels_in : List ℕ → Option (List (Option Wheel))
 wheels_in cell = values_in words slot_of cell
 
--- The letters in a cell. They may also be numbers: `ABC`, `a b c`, `01-02-03` and `1, 2, 3` mean the same letters.
+-- The letters in a cell. A number from 1 to 26 means a letter, too: `ABC`, `a b c`, `01-02-03` and `1, 2, 3` mean the
+-- same letters.
 abbrev pub letters_in : List ℕ → Option (List ℕ)
 letters_in cell = values_in letters ring_of_word cell
 
@@ -122,7 +123,7 @@ groups_in cell = values_in words group_of cell
 abbrev pub readings_in : List ℕ → Option (List (ℕ × ℕ))
 readings_in cell = values_in hyphened reading_of_text cell
 
--- the values, if there are exactly `count`; otherwise `None`
+-- the list `values`, if it has exactly `count` values; otherwise `None`
 abbrev pub exactly : {A : Type 0} → ℕ → List A → Option (List A)
 exactly count values = if nat_eq (length values) count then Some values else None
 

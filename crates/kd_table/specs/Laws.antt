@@ -1,4 +1,5 @@
--- What the laws of this crate say about tables. No table is both accepted and refused, and none has two meanings.
+-- The statements of this crate's laws about tables: no table is both accepted and refused, and no table has two
+-- meanings.
 use Rattle.std.specs.Prelude.{◌≡◌, ℕ, List}
 use Rattle.kd_state.specs.SheetDay.{Day}
 use Rattle.kd_table.specs.Options.{OptionTexts}

@@ -1,6 +1,6 @@
--- Names of columns, models, wheels and reflectors in the cells of a table. Gaps don't count, and small letters mean
--- capitals: `Enigma I`, `ENIGMA I` and `enigma-i` name one model. Any other sign counts, so `III?` isn't the name of a
--- wheel.
+-- Names of columns, models, wheels and reflectors in the cells of a table. Gaps are left out, and small letters mean
+-- capital letters: `Enigma I`, `ENIGMA I` and `enigma-i` name one model. Any other sign belongs to the name, so `III?`
+-- isn't the name of a wheel.
 -- Test: tests/cases/curator-sheet.toml
 use Rattle.std.specs.Prelude.{ℕ, nat_eq, nat_le, ◌-◌, ◌==◌, ◌&&◌, ◌||◌, not, Bool, false, List, [], ◌∷◌, ◌++◌, codes, length, map, filter, find}
 use Rattle.std.specs.Prelude.{bytes_eq, drop, take, Option}
@@ -21,7 +21,8 @@ is_digit byte = nat_le 48 byte && nat_le byte 57
 abbrev pub is_capital_letter : ℕ → Bool
 is_capital_letter byte = nat_le 65 byte && nat_le byte 90
 
--- Whether the byte belongs to a no-break space. This is 160 in Windows-1252, and 194 and 160 in UTF-8.
+-- Whether the byte belongs to a no-break space. A no-break space is the byte 160 in Windows-1252, and the bytes 194 and
+-- 160 in UTF-8.
 abbrev pub is_no_break : ℕ → Bool
 is_no_break byte = nat_eq byte 160 || nat_eq byte 194
 
@@ -47,11 +48,11 @@ unquoted cell =
     if nat_le 6 (length cell) && is_quote (take 3 cell) && is_quote (drop (length cell - 3) cell)
     then take (length cell - 6) (drop 3 cell) else cell
 
--- whether the cell, of at most 32 bytes, has the name `name`
+-- whether the cell has at most 32 bytes, and its text is the name `name`
 abbrev pub is_named : List ℕ → List ℕ → Bool
 is_named name cell = nat_le (length cell) 32 && bytes_eq (plain (unquoted cell)) (plain name)
 
--- the model with the name in the cell
+-- the model whose name is in the cell
 abbrev pub model_named : List ℕ → Option Model
 model_named cell = find (λ model. is_named (model_text model) cell) (EnigmaI ∷ M3 ∷ M4 ∷ M209 ∷ [])
 
@@ -59,11 +60,11 @@ model_named cell = find (λ model. is_named (model_text model) cell) (EnigmaI �
 abbrev pub wheel_named : List ℕ → Option Wheel
 wheel_named word = find (λ wheel. is_named (wheel_text wheel) word) (box_of M4)
 
--- whether the cell has the name of a reflector, alone or after `UKW` (*Umkehrwalze*)
+-- whether the text of the cell is the name of a reflector, alone or after `UKW` (*Umkehrwalze*)
 abbrev pub names_reflector : Reflector → List ℕ → Bool
 names_reflector reflector cell =
     is_named (reflector_text reflector) cell || is_named (codes "UKW" ++ reflector_text reflector) cell
 
--- The reflector of `model` with the name in the cell. On an M4, the letter B means the thin reflector b.
+-- The reflector of `model` whose name is in the cell. On an M4, the letter B means the thin reflector b.
 abbrev pub reflector_named : Model → List ℕ → Option Reflector
 reflector_named model cell = find (λ reflector. names_reflector reflector cell) (reflectors_of model)

@@ -1,6 +1,8 @@
--- What is told of a table on standard error. The columns that aren't read, and the days with fewer pairs or groups than others,
--- are told exactly. Of a refused table, each row that is no day has a line that begins with the row's place, and each cell that
--- can't be read has one that begins with the cell's place. What follows the place is in words that no definition gives.
+-- The notes on a table, on standard error. The notes on unread columns, and the warnings about days with few pairs or
+-- groups, are defined to the byte.
+-- The notes on a refused table have a line for each cell that can't be read. They also have a line for each row that
+-- isn't a day, unless the table lacks a column that the row needs. Such a line begins with the place of the cell or the
+-- row. No definition gives the words after the place.
 -- Test: tests/cases/curator-sheet.toml
 use Rattle.std.specs.Prelude.{◌≡◌, ◌<◌, ◌+◌, ◌==◌, ◌&&◌, ◌||◌, codes, decimal, nat_lt, ℕ, Bool, true, false, List, [], ◌∷◌, ◌++◌, drop, flat_map, length, map, slice_get, take, Option, Some, None, IfSome, IsTrue, if◌then◌else◌}
 use Rattle.std.specs.Io.KnownBytes.{Appends}
@@ -24,13 +26,13 @@ use Rattle.kd_table.specs.declared.columns.Columns.{Columns}
 
 -- ---- The port of the notes.
 
--- Some text was written to the port of the notes. If the port had failed before, it still has failed.
+-- Some text was written to the port of the notes. If the port had failed before, it has still failed.
 pub record Tells (notes : Port) : Type 0 where
   pub text : List ℕ
   pub written : Appends notes.had notes.has text
   pub failed : IsTrue notes.had_failed → IsTrue notes.has_failed
 
--- `text` was written to the port of the notes. If the port has failed, a prefix of `text` was written.
+-- `text` was written to the port of the notes or, if the port has failed, a prefix of `text`.
 pub record TellsText (notes : Port) (text : List ℕ) : Type 0 where
   pub whole : notes.has_failed ≡ false → Appends notes.had notes.has text
   pub part : (count : ℕ) × Appends notes.had notes.has (take count text)
@@ -47,7 +49,7 @@ shown cell =
     if nat_lt 60 (length cell) then map (shown_byte true) (take 60 cell) ++ codes "..."
     else map (shown_byte false) cell
 
--- a line of notes: a place, then the words about it
+-- a line of notes: a place, then words about this place
 abbrev pub line_at : List ℕ → List ℕ → List ℕ
 line_at place words = place ++ words ++ 10 ∷ []
 
@@ -72,31 +74,31 @@ HasHead table head = (rows : List (List (List ℕ))) × AreRows table (head ∷ 
 
 -- ---- A table that means days.
 
--- the note on a table with this first row that means these days: on the columns that aren't read, and on the days that have
--- fewer pairs, or fewer groups, than another day of their model
+-- The note on a table that isn't refused, with the first row `head` and these days. It has the notes on unread columns,
+-- and the warnings about days that have fewer pairs, or fewer groups, than another day of their model.
 unfoldable pub taken_note : List (List ℕ) → List Day → List ℕ
 taken_note head days = unread_note head ++ few_lines (codes "warning: ") (map counts_of days)
 
--- The table means these days, and this is the note on it.
+-- The table means these days, and `note` is the note on the table.
 pub record IsTaken (options : OptionTexts) (table : List ℕ) (days : List Day) (note : List ℕ) : Type 0 where
   pub means : TableMeans options table days
   pub head : List (List ℕ)
   pub has : HasHead table head
   pub is : note ≡ taken_note head days
 
--- The table means days, and the note on it was written.
+-- The table means days, and the note on the table was written.
 abbrev pub TellsTaken : OptionTexts → List ℕ → Port → Type 0
 TellsTaken options table notes =
     (days : List Day) × (note : List ℕ) × IsTaken options table days note × TellsText notes note
 
 -- ---- Faults.
 
--- the words for a row's number, and for its day if that is known
+-- the words for a row's number and, if it is known, for the row's day
 abbrev pub row_number : ℕ → Option ℕ → List ℕ
 row_number number None = decimal number ++ codes ", "
 row_number number (Some day) = (decimal number ++ codes " (day ") ++ (decimal day ++ codes "), ")
 
--- the words for a row's place
+-- the words for a row's place: its number and, if it is known, its day
 abbrev pub row_place : ℕ → Option ℕ → List ℕ
 row_place number day = codes "row " ++ row_number number day
 
@@ -112,12 +114,12 @@ abbrev pub cell_name : Columns → List (List ℕ) → Cell → List ℕ
 cell_name columns head cell =
     option_map_or (λ place. shown (cell_at (Some place) head)) (column_of columns cell) (option_name cell)
 
--- the words for a cell's place: its row, and its column's name
+-- the words for a cell's place: the words `row` for the row's place, and the name of the cell's column
 abbrev pub cell_place : Columns → List (List ℕ) → List ℕ → Cell → List ℕ
 cell_place columns head row cell = row ++ cell_name columns head cell ++ codes ": "
 
--- The notes on these cells of a row. A line begins with the place of the cell that it is about. There is at least one
--- line for each cell that can't be read.
+-- The notes on these cells of a row. Each line begins with the place of the cell that the line is about. There is at
+-- least one line for each cell that can't be read.
 pub data TellsCells (options : OptionTexts) (columns : Columns) (head : List (List ℕ)) (place : List ℕ)
     (row : List (List ℕ)) : List Cell → List ℕ → Type 0 where
   NoCells : TellsCells options columns head place row [] []
@@ -127,9 +129,9 @@ pub data TellsCells (options : OptionTexts) (columns : Columns) (head : List (Li
       → TellsCells options columns head place row (cell ∷ rest)
       (flat_map (line_at (cell_place columns head place cell)) words ++ note)
 
--- The notes on a row. They are about columns that the table lacks, then about the row's cells, then about the row as a
--- whole. If the row isn't a day, it has a note, or one of its cells has. If a column that the row needs is missing,
--- there may be none.
+-- The notes on a row: on columns that the table lacks, then on the row's cells, then on the row as a whole. If the row
+-- isn't a day, there is at least one note on the row or on a cell of it. There may be none if the table lacks a column
+-- that the row needs.
 pub record TellsRow (options : OptionTexts) (columns : Columns) (head : List (List ℕ)) (number : ℕ)
     (row : List (List ℕ)) (note : List ℕ) : Type 0 where
   pub missing : List (List ℕ)
@@ -143,8 +145,8 @@ pub record TellsRow (options : OptionTexts) (columns : Columns) (head : List (Li
   pub some : IsNoDay (row_values options columns row) → has_columns options columns row ≡ true
       → 0 < length of_cells + length words
 
--- The notes on the rows under the first row `head`, in order. `numbers` are the rows' numbers. Blank rows have no
--- notes.
+-- The notes on the rows under the first row `head`, in the order of the rows. `numbers` are the rows' numbers. Blank
+-- rows have no notes.
 pub data TellsRows (options : OptionTexts) (columns : Columns) (head : List (List ℕ)) (numbers : List ℕ)
     : List (List (List ℕ)) → List ℕ → Type 0 where
   NoneTold : TellsRows options columns head numbers [] []
@@ -163,8 +165,12 @@ quotes_note = codes "a quote isn't closed, or something follows the closing quot
 abbrev pub nothing_note : List ℕ
 nothing_note = codes "the table has no row with a day\n"
 
--- The note on a refused table: one line on wrong quotes, or on a table without rows. Otherwise, it tells which columns aren't
--- read, which are missing or misnamed, tells of each row, and says if no row has anything.
+-- The notes on a refused table:
+-- - If the table's quotes are wrong, a single line.
+-- - If the table has no rows, a single line.
+-- - Otherwise, the notes on unread columns, on misnamed or missing columns, and on each row. If a column is misnamed,
+--   there is at least one line about columns. If all rows under the first row are blank, there is at least one line
+--   about the whole table.
 pub data TellsTable (options : OptionTexts) (table : List ℕ) : List ℕ → Type 0 where
   OfQuotes : is_well_quoted table ≡ false → TellsTable options table quotes_note
   OfNothing : AreRows table [] → TellsTable options table nothing_note
@@ -182,8 +188,8 @@ TellsRefused options table notes = (text : List ℕ) × TellsTable options table
 
 -- ---- Reading row by row. No public contract cites these definitions.
 
--- The notes on a row's cells, and on the row as a whole, were appended. There is at least one if the row isn't a day,
--- and the table has each column that the row needs.
+-- The notes on a row's cells, and on the row as a whole, were appended. If the row isn't a day, and the table has each
+-- column that the row needs, there is at least one note.
 pub record TellsPlacedRow (options : OptionTexts) (columns : Columns) (head : List (List ℕ)) (place : List ℕ)
     (row : List (List ℕ)) (old new : List ℕ) : Type 0 where
   pub of_cells : List ℕ
@@ -193,8 +199,8 @@ pub record TellsPlacedRow (options : OptionTexts) (columns : Columns) (head : Li
   pub some : IsNoDay (row_values options columns row) → has_columns options columns row ≡ true
       → 0 < length of_cells + length words
 
--- The notes on the rows under the first row `head` were appended. If all these rows are blank, a line was appended,
--- too.
+-- The notes on the rows under the first row `head` were appended. If all these rows are blank, a line about the whole
+-- table was appended, too.
 pub record HasRowsNote (options : OptionTexts) (columns : Columns) (head : List (List ℕ)) (table old new : List ℕ)
     : Type 0 where
   pub rows : List (List (List ℕ))
@@ -205,7 +211,8 @@ pub record HasRowsNote (options : OptionTexts) (columns : Columns) (head : List 
   pub told : TellsRows options columns head (drop 1 (row_numbers table)) rows text
   pub empty : list_all (is_blank_row columns) rows ≡ true → 0 < length words
 
--- The rows under the first row describe these days, at least one, no column is misnamed, and this is the note on the table.
+-- The rows under the first row have these days, of which there is at least one. No column is misnamed, and `note` is
+-- the note on the table.
 pub record IsTakenOfRows (options : OptionTexts) (head : List (List ℕ)) (rows : List (List (List ℕ))) (days : List Day)
     (note : List ℕ) : Type 0 where
   pub named : is_misnamed (columns_of head) head ≡ false

@@ -11,8 +11,8 @@ use Rattle.kd_table.specs.Steps.{◌>>=◌}
 use Rattle.kd_table.specs.declared.columns.Columns.{Columns}
 use Rattle.kd_table.specs.Options.{OptionTexts}
 
--- The pins of the wheel with the letters `ring`. The column has the letters of its effective pins. `None` if the table
--- doesn't have the column.
+-- The pins of the wheel with the letters `ring`. The cell in column `column` has the letters of the wheel's effective
+-- pins. `None` if the table doesn't have the column.
 abbrev pub pins_at : List ℕ → Option ℕ → List (List ℕ) → Option (List Bool)
 pins_at ring column row = do
   place ← column

@@ -13,7 +13,8 @@ use Rattle.kd_table.specs.Steps.{◌>>=◌}
 use Rattle.kd_table.specs.declared.columns.Columns.{Columns}
 use Rattle.kd_table.specs.Options.{OptionTexts}
 
--- Each wheel, with its ring and its window letter. `None` if there aren't equally many wheels, rings and letters.
+-- The wheels, each with its ring and its window letter. `None` if there aren't equally many wheels, rings and letters,
+-- or a slot is empty.
 abbrev pub wheels_with : List (Option Wheel) → List ℕ → List ℕ → Option (List SheetWheel)
 wheels_with [] [] [] = Some []
 wheels_with (Some wheel ∷ wheels) (ring ∷ rings) (letter ∷ letters) =
@@ -28,8 +29,8 @@ seated_in options columns row = do
   window ← letters_in (cell_or options.window columns.window row)
   wheels_with wheels rings window
 
--- The plugged pairs of a row. The table must have the column of pairs. Otherwise, if its name were mistyped, the days
--- would be taken for days without pairs.
+-- The plugged pairs of a row. `None` if the table doesn't have the column of pairs. Otherwise a table with a mistyped
+-- name of this column would be taken for days without pairs.
 abbrev pub plugs_in : Columns → List (List ℕ) → Option (List (ℕ × ℕ))
 plugs_in columns row = do
   place ← columns.plugs

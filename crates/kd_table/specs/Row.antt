@@ -15,7 +15,7 @@ use Rattle.kd_table.specs.Steps.{◌>>=◌}
 use Rattle.kd_table.specs.declared.columns.Columns.{Columns}
 use Rattle.kd_table.specs.Options.{OptionTexts}
 
--- the columns that are read, except those of pins
+-- the columns that are read, except those of pins, which `columns.pins` has
 abbrev pub places_of : Columns → List (Option ℕ)
 places_of c =
     c.day ∷ c.model ∷ c.reflector ∷ c.wheels ∷ c.rings ∷ c.plugs ∷ c.window ∷ c.groups ∷ c.list ∷ c.bars ∷ []
@@ -27,7 +27,7 @@ is_at place column = option_map_or (λ other. other == place) column false
 abbrev pub is_column_read : Columns → ℕ → Bool
 is_column_read columns place = list_any (is_at place) (places_of columns) || list_any (is_at place) columns.pins
 
--- whether a row has nothing in the columns that are read
+-- whether a row is blank in all columns that are read
 abbrev pub is_blank_row : Columns → List (List ℕ) → Bool
 is_blank_row columns row =
     list_all (λ column. is_blank (cell_at column row)) (places_of columns)
@@ -50,7 +50,7 @@ cell_values options columns row = do
   model ← model_named (cell_or options.model columns.model row)
   values_of_model options columns row model
 
--- The values of the day in a row. `None` if the row ends before the last column, or has texts beyond it.
+-- The values of the day in a row. `None` if the row ends before the last column, or has texts beyond the last column.
 abbrev pub row_values : OptionTexts → Columns → List (List ℕ) → Option Day
 row_values options columns row = if fits_columns columns row then cell_values options columns row else None
 

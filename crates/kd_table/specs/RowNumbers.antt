@@ -1,6 +1,6 @@
--- The numbers of a table's rows, as a spreadsheet counts them from 1. A row ends with CR, LF or both, but not within a
--- quoted cell. Empty rows count.
--- Code: row by row; empty rows are skipped.
+-- The numbers of a table's rows, as a spreadsheet counts them from 1. CR, LF or both end a row, but not within a quoted
+-- cell. Empty rows are counted.
+-- Code: the numbers are found row by row, and empty rows are skipped.
 -- Test: tests/cases/curator-sheet.toml
 use Rattle.std.specs.Prelude.{◌≡◌, ◌⊎◌, ◌≤◌, ℕ, ◌+◌, ◌-◌, ◌^◌, ◌==◌, ◌&&◌, ◌||◌, Bool, false, IsFalse, List, [], ◌∷◌, length}
 use Rattle.std.specs.Prelude.{if◌then◌else◌}
@@ -14,13 +14,13 @@ use Rattle.kd_table.specs.declared.quotes.Quoting.TheVariants.{CellStart}
 abbrev pub ends_line : ℕ → Bool
 ends_line byte = byte == 13 || byte == 10
 
--- A place between two bytes of a table. `AtStart` is the start of a row, and says whether it is right after a CR.
+-- A place between two bytes of a table. `AtStart` is the start of a row, and says whether a CR stands right before it.
 -- `Within` is a place within a row.
 pub data RowPlace : Type 0 where
   AtStart : Bool → RowPlace
   Within : Quoting → RowPlace
 
--- The numbers of the rows in these bytes. Empty rows are left out. The bytes begin in row `number`.
+-- The numbers of the rows in these bytes, except empty rows. The first byte is in row `number`.
 abbrev pub numbers_from : ℕ → RowPlace → ℕ → List ℕ → List ℕ
 numbers_from separator place number [] = []
 numbers_from separator (AtStart after_return) number (byte ∷ bytes) =
@@ -31,7 +31,7 @@ numbers_from separator (Within quoting) number (byte ∷ bytes) =
     if ends_line byte && may_end quoting then numbers_from separator (AtStart (byte == 13)) (number + 1) bytes
     else numbers_from separator (Within (quoting_after_byte separator quoting byte)) number bytes
 
--- the numbers of a table's rows; empty rows are left out
+-- the numbers of a table's rows, except empty rows
 abbrev pub row_numbers : List ℕ → List ℕ
 row_numbers table = numbers_from (separator_of table) (AtStart false) 1 (strip_bom table)
 
@@ -45,7 +45,8 @@ numbers_left rows = numbers_from rows.separator (AtStart false) rows.number rows
 abbrev pub IsCounted : RowNumbers → Type 0
 IsCounted rows = (rows.rest.now ≡ []) ⊎ (rows.number + length rows.rest.now ≤ 2 ^ 64 - 2)
 
--- `number` is the first of the numbers `before`, and `after` are the other numbers. Or both lists are empty.
+-- `number` is the first item of the list `before`, and the list `after` has the later items of this list. If the list
+-- `before` is empty, the list `after` is empty, too, and `number` may be any number.
 abbrev pub IsNext : List ℕ → ℕ → List ℕ → Type 0
 IsNext before number after = (before ≡ number ∷ after) ⊎ ((before ≡ []) × (after ≡ []))
 
@@ -54,13 +55,14 @@ abbrev pub StartsRow : List ℕ → Type 0
 StartsRow [] = Unit {0}
 StartsRow (byte ∷ bytes) = IsFalse (ends_line byte)
 
--- The bytes are `count` line ends, then `left`.
+-- The bytes begin with `count` line ends; the bytes `left` come after these.
 pub record AreLineEnds (bytes : List ℕ) (count : ℕ) (left : List ℕ) : Type 0 where
   pub same : (separator number : ℕ) → numbers_from separator (AtStart false) number bytes
       ≡ numbers_from separator (AtStart false) (number + count) left
   pub shorter : count + length left ≤ length bytes
 
--- The bytes are a row with its line end, then `left`. Or there are no bytes, and `left` is empty, too.
+-- The bytes begin with a row and its line end; the bytes `left` come after these. If there are no bytes, `left` is
+-- empty, too.
 pub data IsRowBefore (separator : ℕ) (bytes left : List ℕ) : Type 0 where
   NoRow : bytes ≡ [] → left ≡ [] → IsRowBefore separator bytes left
   OneRow : ((number : ℕ) → numbers_from separator (AtStart false) number bytes

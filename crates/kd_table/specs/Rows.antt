@@ -11,12 +11,13 @@ use Rattle.kd_table.specs.declared.quotes.Quoting.TheVariants.{CellStart, Unquot
 abbrev pub is_separator : ℕ → Bool
 is_separator byte = byte == 44 || byte == 59 || byte == 9
 
--- The separator of a table's cells: the table's first comma, semicolon or tab. If there is none, it is a comma.
+-- The separator of a table's cells: the first comma, semicolon or tab of the table. If the table has none of these, a
+-- comma.
 abbrev pub separator_of : List ℕ → ℕ
 separator_of table = option_map_or (λ byte. byte) (find is_separator table) 44
 
--- The settings of the reader. In a quoted cell, two quotes stand for one quote. A row ends with CR, LF or both.
--- `separator` stands between cells.
+-- The settings of the library's reader. `separator` stands between cells. In a quoted cell, two quotes stand for one
+-- quote. CR, LF or both end a row.
 abbrev pub separated : ℕ → Config
 separated separator = record default_config { delimiter = separator }
 

@@ -1,4 +1,4 @@
--- Which days a table means, and when it is refused.
+-- The days that a table means, and the tables that are refused.
 -- Test: tests/cases/curator-sheet.toml
 use Rattle.std.specs.Prelude.{◌≡◌, ◌⊎◌, ◌<◌, ◌==◌, ℕ, Bool, true, false, List, [], ◌∷◌, ◌++◌, length, Result, Ok, Err}
 use Rattle.std.specs.List.{list_any}
@@ -28,13 +28,13 @@ pub data AreDaysOfRows (options : OptionTexts) (columns : Columns) : List (List 
       → AreDaysOfRows options columns rows days → is_blank_row columns row ≡ false → IsDayOfRow options columns row day
       → is_taken days (day_number day) ≡ false → AreDaysOfRows options columns (rows ++ row ∷ []) (days ++ day ∷ [])
 
--- The row isn't blank. It has no day, or a day whose number a day in `days` has, too.
+-- The row isn't blank. It has no day, or its day has the same number as a day in `days`.
 pub record IsRefusedRow (options : OptionTexts) (columns : Columns) (days : List Day) (row : List (List ℕ)) : Type 0 where
   pub filled : is_blank_row columns row ≡ false
   pub why : IsNoDay (row_values options columns row)
       ⊎ ((day : Day) × IsDayOfRow options columns row day × (is_taken days (day_number day) ≡ true))
 
--- A row is refused. The rows before it are blank, or have days.
+-- One of the rows is refused. Each row before it is blank, or has a day.
 pub record HasRefusedRow (options : OptionTexts) (columns : Columns) (rows : List (List (List ℕ))) : Type 0 where
   pub before : List (List (List ℕ))
   pub row : List (List ℕ)
@@ -44,11 +44,11 @@ pub record HasRefusedRow (options : OptionTexts) (columns : Columns) (rows : Lis
   pub described : AreDaysOfRows options columns before days
   pub refused : IsRefusedRow options columns days row
 
--- The table has the rows `rows`, its first row included.
+-- The table has the rows `rows`, which include the table's first row.
 abbrev pub AreRows : List ℕ → List (List (List ℕ)) → Type 0
 AreRows table rows = AreRecords (separated (separator_of table)) st.StartRecord (strip_bom table) rows
 
--- The table means these days: at least one, each described by a row. No column's name is nearly that of a missing column.
+-- The table means these days: its rows have these days, and there is at least one day. No column is misnamed.
 pub record TableMeans (options : OptionTexts) (table : List ℕ) (days : List Day) : Type 0 where
   pub quoted : is_well_quoted table ≡ true
   pub head : List (List ℕ)
@@ -58,7 +58,7 @@ pub record TableMeans (options : OptionTexts) (table : List ℕ) (days : List Da
   pub described : AreDaysOfRows options (columns_of head) rows days
   pub some : 0 < length days
 
--- The table is refused: its quotes are wrong, a column is misnamed, one of its rows is refused, or its rows describe no day.
+-- The table is refused: its quotes are wrong, or a column is misnamed, or a row is refused, or no row has a day.
 pub data IsRefusedTable (options : OptionTexts) (table : List ℕ) : Type 0 where
   WrongQuotes : is_well_quoted table ≡ false → IsRefusedTable options table
   Misnamed : (head : List (List ℕ)) (rows : List (List (List ℕ))) → AreRows table (head ∷ rows)
@@ -69,7 +69,7 @@ pub data IsRefusedTable (options : OptionTexts) (table : List ℕ) : Type 0 wher
       → AreDaysOfRows options (columns_of head) rows [] → IsRefusedTable options table
   NoFirstRow : AreRows table [] → IsRefusedTable options table
 
--- whether the answer is the fault that the sink failed
+-- whether the answer is `Device`, the fault of a sink that failed
 abbrev pub is_device : {T : Type 0} → Result T SpreadsheetFault → Bool
 is_device (Ok done) = false
 is_device (Err Refused) = false
@@ -78,13 +78,14 @@ is_device (Err NoMemory) = false
 
 -- ---- Reading row by row. No public contract cites these definitions.
 
--- The state after the rows under the first row. If the Bool is false, these rows have these days. If it is true, one of
--- these rows is refused.
+-- The state after reading the rows under the first row. The last argument says whether one of these rows is refused. If
+-- none is refused, the rows have these days.
 abbrev pub IsBodyRead : OptionTexts → Columns → List (List (List ℕ)) → List Day → Bool → Type 0
 IsBodyRead options columns rows days false = AreDaysOfRows options columns rows days
 IsBodyRead options columns rows days true = HasRefusedRow options columns rows
 
--- The table with these rows, of which the first is `head`, is refused for them.
+-- A table with the first row `head` and the other rows `rows` is refused, because a column is misnamed, or a row is
+-- refused, or no row has a day.
 abbrev pub AreRefusedRows : OptionTexts → List (List ℕ) → List (List (List ℕ)) → Type 0
 AreRefusedRows options head rows = (is_misnamed (columns_of head) head ≡ true)
     ⊎ (HasRefusedRow options (columns_of head) rows ⊎ AreDaysOfRows options (columns_of head) rows [])

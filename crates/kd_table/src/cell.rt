@@ -18,7 +18,7 @@ use csv::ByteRecord;
 use kd_sheet::pins_of_text;
 use kd_tables::{Letter, Model, Reading, Ring, Wheel, ring1, ring2, ring3, ring4, ring5, ring6};
 
-/// A cell of a row, named after the value of the day that it has.
+/// A cell of a row. The cell is named after the value that it has.
 #[derive(Clone, Copy)]
 pub enum Cell {
     Day,
@@ -72,7 +72,7 @@ pub fn cells_of(model: Model) -> &'static [Cell]
     }
 }
 
-/// The column of `cell`; `None` if the table has no such column.
+/// The place of the column of `cell`; `None` if the table has no such column.
 pub fn column_of(columns: &Columns, cell: Cell) -> Option<usize>
     ensures { result ≡ column_of columns.now cell }
 {
@@ -96,7 +96,7 @@ pub fn column_of(columns: &Columns, cell: Cell) -> Option<usize>
     }
 }
 
-/// The option whose text replaces the blank `cell`; empty if there is none.
+/// The text of the option that replaces `cell`, if `cell` is blank; empty if no option replaces it.
 pub fn option_of<'a>(options: &TableOptions<&'a [u8]>, cell: Cell) -> &'a [u8]
     ensures { result.now ≡ option_of (texts_of options.now) cell }
 {
@@ -120,7 +120,7 @@ pub fn text_of<'a>(
     cell_or(option_of(options, cell), row, column_of(columns, cell))
 }
 
-/// Whether the table has the column of `cell`, or an option replaces it.
+/// Whether the table has the column of `cell`, or the option of `cell` isn't blank.
 pub fn has_text(options: &TableOptions<&[u8]>, columns: &Columns, cell: Cell) -> bool
     ensures { result ≡ has_text (texts_of options.now) columns.now cell }
 {
@@ -153,21 +153,21 @@ pub fn known_cells(
     }
 }
 
-/// Whether a table may lack the column of `cell`. It may only lack the column of groups.
+/// Whether the table may lack the column of `cell`. This is so only for the column of groups.
 pub fn is_optional(cell: Cell) -> bool
     ensures { result ≡ is_optional cell }
 {
     matches!(cell, Cell::Groups)
 }
 
-/// Whether the table has the column of `cell` or an option for it, or doesn't need it.
+/// Whether the table has the column of `cell` or an option for it, or the column isn't needed.
 fn has_column(options: &TableOptions<&[u8]>, columns: &Columns, cell: Cell) -> bool
     ensures { result ≡ (is_optional cell || has_text (texts_of options.now) columns.now cell) }
 {
     is_optional(cell) || has_text(options, columns, cell)
 }
 
-/// Whether the table has what it needs for each of `cells`: a column, or an option.
+/// Whether the table has each column of `cells` that is needed, or an option for it.
 fn has_each_column(options: &TableOptions<&[u8]>, columns: &Columns, cells: &[Cell]) -> bool
     ensures { result ≡ list_all
         (λ cell. is_optional cell || has_text (texts_of options.now) columns.now cell) cells.now }
@@ -180,7 +180,7 @@ fn has_each_column(options: &TableOptions<&[u8]>, columns: &Columns, cells: &[Ce
     }
 }
 
-/// Whether the table has all columns that the model of `row` needs.
+/// Whether the table has each column that the model of `row` needs, or an option for it.
 pub fn has_columns(options: &TableOptions<&[u8]>, columns: &Columns, row: &ByteRecord) -> bool
     ensures { result ≡ has_columns (texts_of options.now) columns.now (fields_of row.now) }
 {

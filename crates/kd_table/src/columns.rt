@@ -10,7 +10,7 @@ use crate::items::is_blank;
 use crate::names::is_named;
 use csv::ByteRecord;
 
-/// The most columns that are read.
+/// The greatest number of columns that are read.
 pub const COLUMNS: usize = 64;
 
 /// The number of a table's columns, and the places of the columns that are read. Places are counted from 0. A column
@@ -41,7 +41,7 @@ pub fn cell_at(row: &ByteRecord, column: Option<usize>) -> &[u8]
     }
 }
 
-/// The text of `row` in `column` or, if it is blank, `otherwise`.
+/// The text of `row` in `column` or, if this text is blank, `otherwise`.
 pub fn cell_or<'a>(otherwise: &'a [u8], row: &'a ByteRecord, column: Option<usize>) -> &'a [u8]
     ensures { result.now ≡ cell_or otherwise.now column (fields_of row.now) }
 {
@@ -122,7 +122,7 @@ fn names_column(cell: Cell, text: &[u8]) -> bool
         || is_named(short_name(cell), text)
 }
 
-/// The first column that has a name of the column of `cell`. It is one of `count` columns, from place `place` on.
+/// The first column, among `count` columns from place `place` on, whose name is a name of the column of `cell`.
 fn column_from(head: &ByteRecord, cell: Cell, place: usize, count: usize) -> Option<usize>
     requires { place + count ≤ 64 }
     ensures { result ≡ find (λ at. names_column cell (cell_at (Some at) (fields_of head.now)))
@@ -137,7 +137,7 @@ fn column_from(head: &ByteRecord, cell: Cell, place: usize, count: usize) -> Opt
     column_from(head, cell, place + 1, count - 1)
 }
 
-/// The first column that has a name of the column of `cell`.
+/// The first column whose name is a name of the column of `cell`.
 fn column_named(head: &ByteRecord, cell: Cell) -> Option<usize>
     ensures { result ≡ column_named cell (fields_of head.now) }
 {

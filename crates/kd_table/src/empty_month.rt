@@ -44,7 +44,7 @@ fn push_unknown_items<const N: usize>(text: &mut FileString, key: Key, item: &st
     push_list_line(text, key, &[item; N]);
 }
 
-/// Appends the lines of a rotor machine's day, after its number and its model.
+/// Appends the lines of a rotor machine's day, after the day's number and model.
 fn push_empty_rotor(text: &mut FileString, model: Model)
     requires room { array_string_len text.old ≤ 64 }
     requires slots { 0 < slots_of model }
@@ -63,7 +63,7 @@ fn push_empty_rotor(text: &mut FileString, model: Model)
     push_unknown_items::<4>(text, Key::Groups, "???");
 }
 
-/// Appends the lines of a Converter's day, after its number and its model.
+/// Appends the lines of a Converter's day, after the day's number and model.
 fn push_empty_pin(text: &mut FileString)
     requires { array_string_len text.old ≤ 64 }
     ensures { text.new.bytes ≡ text.old.bytes ++ concat empty_pin_lines }
@@ -86,7 +86,7 @@ fn push_empty_day(text: &mut FileString, model: Model, number: u8)
     }
 }
 
-/// The section of a day. If `started`, an empty line comes first.
+/// The section of a day. If `started`, an empty line stands before it.
 fn empty_section(started: bool, model: Model, number: u8) -> FileString
     ensures { result.bytes ≡ section_text started (empty_day_lines model number) }
 {
@@ -119,7 +119,7 @@ fn put_empty<W: Sink>(
     }
 }
 
-/// Writes a key sheet to fill in. It has `days` days of `model`, with `?` for each missing letter and number.
+/// Writes a key sheet to fill in. It has `days` days of `model`. In it, `?` stands for each missing letter and number.
 ///
 /// A day that still has a `?` is refused. On the fault `Device`, the sink has taken a prefix of the text.
 #[tactic(auto, unfolding(crate::specs::EmptySheet::empty_month_text))]

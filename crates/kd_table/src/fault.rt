@@ -1,4 +1,4 @@
-//! `SpreadsheetFault`: why a table isn't made a key sheet.
+//! `SpreadsheetFault`: why no key sheet is made from a table.
 use std::alloc::AllocError;
 use thiserror::Error;
 

@@ -14,13 +14,13 @@ use kd_sheet::reading_of_text;
 use kd_state::split_words;
 use kd_tables::{Letter, Reading, Wheel};
 
-/// The most bytes, words and values that a cell may have.
+/// The greatest number of bytes, words and values that a cell may have.
 pub const CELL_LIMIT: usize = 192;
 
 /// The values in a cell, at most 192.
 pub type Values<T> = ArrayVec<T, 192>;
 
-/// Whether `cell` has no bytes but gaps.
+/// Whether all bytes of `cell` are gaps.
 pub fn is_blank(cell: &[u8]) -> bool
     ensures { result ≡ is_blank cell.now }
 {
@@ -32,7 +32,7 @@ pub fn is_blank(cell: &[u8]) -> bool
     true
 }
 
-/// The byte in normal form: a space for a gap, a capital letter for a small letter, otherwise the byte.
+/// The byte in normal form: a space for a gap, the capital letter for a small letter, otherwise the byte itself.
 pub fn normal(byte: u8) -> u8
     ensures { result ≡ normal byte }
 {
@@ -41,17 +41,17 @@ pub fn normal(byte: u8) -> u8
 
 /// A value that a word in a cell can mean.
 pub trait FromWord {
-    /// Which gaps are kept, and which bytes are items by themselves.
+    /// Which gaps are kept, and which bytes are words by themselves.
     ghost bytes: { Bytes };
 
-    /// The value of a word; `None` if it has none.
+    /// The value of a word; `None` if the word has no value.
     ghost parse: { List ℕ → Option Self };
 
     /// Whether `byte` is kept, even if it is a gap.
     fn is_kept(byte: u8) -> bool
         ensures { result ≡ bytes.keeps byte };
 
-    /// Whether `byte` is an item by itself.
+    /// Whether `byte` is a word by itself.
     fn is_alone(byte: u8) -> bool
         ensures { result ≡ bytes.alone byte };
 
@@ -60,7 +60,7 @@ pub trait FromWord {
         ensures { result ≡ parse word.now };
 }
 
-/// Appends the bytes of `cell` in normal form. A space follows each byte that is an item by itself.
+/// Appends the bytes of `cell` in normal form. A space stands after each byte that is a word by itself.
 pub fn push_item_text<T: FromWord>(text: &mut ArrayVec<u8, 384>, cell: &[u8])
     requires { length text.old.items + 2 * length cell.now ≤ 384 }
     ensures { text.new.items ≡ text.old.items ++ item_text T.bytes cell.now }
@@ -275,7 +275,7 @@ impl FromWord for Reading {
     }
 }
 
-/// The number in a cell. `None` if the cell has anything other than one number.
+/// The number in a cell. `None` unless the cell has exactly one word, and this word is a number.
 pub fn number_in(cell: &[u8]) -> Option<u8>
     ensures { result ≡ number_in cell.now }
 {

@@ -64,7 +64,7 @@ fn push_plain(name: &mut ArrayVec<u8, 32>, text: &[u8])
     }
 }
 
-/// `text`, which has at most 32 bytes, in capital letters, without gaps.
+/// `text` in capital letters, without gaps. `text` has at most 32 bytes.
 fn plain(text: &[u8]) -> ArrayVec<u8, 32>
     requires { length text.now ≤ 32 }
     ensures { result.items ≡ plain text.now }
@@ -99,7 +99,7 @@ fn unquoted(cell: &[u8]) -> &[u8]
     }
 }
 
-/// Whether `cell`, of at most 32 bytes, has the name `name`.
+/// Whether `cell` has at most 32 bytes, and its text is the name `name`.
 pub fn is_named(name: &str, cell: &[u8]) -> bool
     requires { length name.now ≤ 32 }
     ensures { result ≡ is_named name.now cell.now }
@@ -122,14 +122,14 @@ fn model_among(models: &[Model], cell: &[u8]) -> Option<Model>
     None
 }
 
-/// The model with the name in `cell`.
+/// The model whose name is in `cell`.
 pub fn model_named(cell: &[u8]) -> Option<Model>
     ensures { result ≡ model_named cell.now }
 {
     model_among(&MODELS, cell)
 }
 
-/// The wheel that `word` names.
+/// The wheel with the name `word`.
 pub fn wheel_named(word: &[u8]) -> Option<Wheel>
     ensures { result ≡ wheel_named word.now }
 {
@@ -142,7 +142,7 @@ pub fn wheel_named(word: &[u8]) -> Option<Wheel>
     None
 }
 
-/// The name of a reflector behind `UKW`, for *Umkehrwalze*.
+/// The name of a reflector, after `UKW` (*Umkehrwalze*).
 fn long_name(reflector: Reflector) -> &'static str
     ensures name { result.now ≡ codes "UKW" ++ reflector_text reflector }
     ensures short { length result.now ≤ 32 }
@@ -156,14 +156,14 @@ fn long_name(reflector: Reflector) -> &'static str
     }
 }
 
-/// Whether `cell` has the name of `reflector`, alone or after `UKW`.
+/// Whether the text of `cell` is the name of `reflector`, alone or after `UKW`.
 fn names_reflector(reflector: Reflector, cell: &[u8]) -> bool
     ensures { result ≡ names_reflector reflector cell.now }
 {
     is_named(reflector.text().as_str(), cell) || is_named(long_name(reflector), cell)
 }
 
-/// The reflector of `model` that `cell` names. On an M4 the letter B means the thin reflector b.
+/// The reflector of `model` whose name is in `cell`. On an M4, the letter B means the thin reflector b.
 pub fn reflector_named(model: Model, cell: &[u8]) -> Option<Reflector>
     ensures { result ≡ reflector_named model cell.now }
 {

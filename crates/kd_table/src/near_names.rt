@@ -1,4 +1,4 @@
-//! Finds columns that aren't read, and whose names are nearly those of columns that a table lacks.
+//! Finds misnamed columns: the table lacks a column, and an unread column has nearly this column's name.
 ghost use Rattle.std.specs.Prelude.{◌≡◌};
 ghost use Rattle.std.specs.List.{list_any};
 ghost use Rattle.csv.specs.Records.{fields_of};
@@ -30,7 +30,8 @@ pub static ALL_CELLS: [Cell; 16] = [
     Cell::Bars,
 ];
 
-/// Whether `name` is nearly `known`: but for one letter, or two letters of a name with at least five.
+/// Whether `name` and `known` differ in at most two successive letters, or in one letter if `known` has fewer than
+/// five.
 pub fn is_near_name(name: &[u8], known: &str) -> bool
     ensures { result ≡ is_near_name name.now known.now }
 {
@@ -47,28 +48,29 @@ fn is_near_column(cell: Cell, name: &[u8]) -> bool
         || is_near_name(name, short_name(cell))
 }
 
-/// Whether the column at `place` isn't read, and has nearly the name of the column of `cell`.
+/// Whether the column at `place` isn't read, and its name is nearly a name of the column of `cell`.
 fn is_meant(columns: &Columns, head: &ByteRecord, cell: Cell, place: usize) -> bool
     ensures { result ≡ is_meant columns.now (fields_of head.now) cell place }
 {
     !is_column_read(columns, place) && is_near_column(cell, cell_at(head, Some(place)))
 }
 
-/// The first column that isn't read, and that has nearly the name of the column of `cell`.
+/// The first column that isn't read, and whose name is nearly a name of the column of `cell`.
 pub fn near_column(columns: &Columns, head: &ByteRecord, cell: Cell) -> Option<usize>
     ensures { result ≡ near_column columns.now (fields_of head.now) cell }
 {
     (0..COLUMNS).find(|place| is_meant(columns, head, cell, *place))
 }
 
-/// Whether the table lacks the column of `cell`, and has one with nearly its name.
+/// Whether the table lacks the column of `cell`, and an unread column's name is nearly a name of this column.
 fn lacks_near(columns: &Columns, head: &ByteRecord, cell: Cell) -> bool
     ensures { result ≡ lacks_near columns.now (fields_of head.now) cell }
 {
     column_of(columns, cell).is_none() && near_column(columns, head, cell).is_some()
 }
 
-/// Whether the table lacks one of the columns of `cells`, and has one with nearly its name.
+/// Whether, for one of `cells`, the table lacks the cell's column, and the name of an unread column is nearly a name of
+/// this column.
 fn lacks_near_any(columns: &Columns, head: &ByteRecord, cells: &[Cell]) -> bool
     ensures { result ≡ list_any (lacks_near columns.now (fields_of head.now)) cells.now }
 {
@@ -80,7 +82,7 @@ fn lacks_near_any(columns: &Columns, head: &ByteRecord, cells: &[Cell]) -> bool
     }
 }
 
-/// Whether the table lacks a column, and has one with nearly its name.
+/// Whether the table has a misnamed column.
 #[tactic(auto, unfolding(crate::specs::NearNames::is_misnamed))]
 pub fn is_misnamed(columns: &Columns, head: &ByteRecord) -> bool
     ensures { result ≡ is_misnamed columns.now (fields_of head.now) }

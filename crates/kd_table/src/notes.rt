@@ -1,4 +1,6 @@
-//! Tells in words what is wrong with a table. Which rows and cells are told is proved; the words aren't, but tests try them.
+//! Writes notes on the faults of a table.
+//!
+//! It is proved which rows and cells have notes. The words of the notes are only tested.
 ghost use Rattle.std.specs.Prelude.{◌≡◌, ◌<◌, ◌&&◌, ◌++◌, ◌∷◌, [], true, codes, flat_map, length, map, slice_get, ℕ, List, IfOk, IfSome};
 ghost use Rattle.csv.specs.Records.{fields_of};
 ghost use Rattle.kd_tables.specs.Ports.{port};
@@ -51,14 +53,13 @@ pub fn put_note<N: Sink>(notes: &mut N, note: &[u8])
     let _ = put_all(notes, note);
 }
 
-/// The note on a table in which no row under the first row has anything.
+/// The note on a table in which all rows under the first row are blank.
 const NO_DAY: &str = "the table has no row with a day";
 
-/// Said of a table of which a column is misnamed.
+/// The note on a table with a misnamed column, if there are no other words about it.
 const MISNAMED: &str = "the name of a column is nearly that of another, which isn't there";
 
-/// Appends the lines on the first row: the columns that aren't read, those that are misnamed, and those that any table needs and
-/// this one lacks.
+/// Appends the notes on unread columns, on misnamed columns, and on missing columns that every table needs.
 fn push_head(note: &mut Vec<u8>, head: &Head<'_>) -> Result<(), SpreadsheetFault>
     ensures { IfOk result (λ _. (missing : List (List ℕ)) × (note.new.items ≡ note.old.items
         ++ (unread_note head.now.names ++ flat_map (line_at (codes "row 1: ")) missing))
@@ -70,7 +71,7 @@ fn push_head(note: &mut Vec<u8>, head: &Head<'_>) -> Result<(), SpreadsheetFault
     push_due_words(note, b"row 1: ", &head_words(head), is_due, MISNAMED)
 }
 
-/// Appends the notes on a row under the first row. A blank row has none.
+/// Appends the notes on a row under the first row. A blank row has no notes.
 fn push_body_row(
     note: &mut Vec<u8>,
     found: &mut Found,
@@ -91,7 +92,7 @@ fn push_body_row(
     push_row(note, found, head, number, row)
 }
 
-/// Whether `row` is blank, too. `blank` says whether all rows before it are.
+/// Whether `row` and all rows before it are blank. `blank` says whether all rows before it are.
 fn is_still_blank(blank: bool, head: &Head<'_>, row: &ByteRecord) -> bool
     ensures { result ≡ (blank && is_blank_row head.now.columns (fields_of row.now)) }
 {
@@ -140,7 +141,7 @@ fn push_table(
     push_rows(note, table, &head, rows)
 }
 
-/// The notes on a refused table. They are about its quotes, unread columns, missing columns, and its rows.
+/// The notes on a refused table: on its quotes, its unread columns, its missing columns, and its rows.
 pub fn refused_note(
     alloc: Global,
     table: &[u8],

@@ -17,7 +17,8 @@ use kd_sheet::pins_of_text;
 use kd_state::SheetDay;
 use kd_tables::{Letter, Reading, Ring, ring1, ring2, ring3, ring4, ring5, ring6};
 
-/// The pins of the wheel with the letters `ring`. `column` has the letters of its effective pins.
+/// The pins of the wheel with the letters `ring`. The cell in column `column` has the letters of the wheel's effective
+/// pins.
 fn pins_at<const N: usize>(
     ring: &Ring<N>,
     column: Option<usize>,
@@ -72,7 +73,7 @@ fn letters_in<const N: usize>(text: &[u8]) -> Option<[Letter; N]>
     <[Letter; N]>::try_from(letters.as_slice()).ok()
 }
 
-/// The readings in a cell, if there is one for each bar.
+/// The readings in a cell, if there is a reading for each bar.
 fn bars_in(text: &[u8]) -> Option<[Reading; 27]>
     ensures { result ≡ option_and_then (exactly 27) (readings_in text.now) }
 {

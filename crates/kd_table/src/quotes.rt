@@ -1,4 +1,5 @@
-//! Tests the quotes of a table. The library `csv` refuses nothing: it would read an open quote to the table's end.
+//! Checks the quotes of a table. The library `csv` doesn't refuse any table: after an open quote, it would read the
+//! rest as one cell.
 ghost use Rattle.std.specs.Prelude.{◌≡◌, if◌then◌else◌};
 ghost use Rattle.csv.specs.Reading.{strip_bom};
 ghost use Rattle.kd_table.specs.Rows.{is_separator, separator_of, ends_cell, quoting_after_byte, quoting_after, may_end, is_well_quoted};
@@ -10,11 +11,11 @@ pub enum Quoting {
     CellStart,
     /// Within a cell without quotes.
     Unquoted,
-    /// Within a quoted cell.
+    /// Within a quoted cell, before its closing quote.
     Quoted,
     /// After a quote in a quoted cell. The cell ends there, unless another quote follows.
     Closed,
-    /// After a closed quoted cell that another byte follows, though this byte doesn't end a cell.
+    /// After a byte that stands behind a closing quote, but doesn't end the cell.
     Wrong,
 }
 
@@ -25,7 +26,7 @@ fn is_separator(byte: u8) -> bool
     byte == b',' || byte == b';' || byte == b'\t'
 }
 
-/// The first comma, semicolon or tab of `table`, which separates its cells; a comma if there is none.
+/// The separator of the cells of `table`: its first comma, semicolon or tab. If `table` has none of these, a comma.
 pub fn separator_of(table: &[u8]) -> u8
     ensures { result ≡ separator_of table.now }
 {
@@ -43,7 +44,7 @@ fn ends_cell(separator: u8, byte: u8) -> bool
     byte == separator || byte == 13 || byte == 10
 }
 
-/// The state of quotes after `byte`, which isn't in a quoted cell. It is `CellStart` if `byte` ends a cell; else
+/// The state of quotes after `byte`, which isn't in a quoted cell: `CellStart` if `byte` ends a cell, and otherwise
 /// `otherwise`.
 fn after_unquoted(separator: u8, byte: u8, otherwise: Quoting) -> Quoting
     ensures { result ≡ (if ends_cell separator byte then Quoting.CellStart else otherwise) }

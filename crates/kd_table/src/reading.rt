@@ -12,10 +12,10 @@ use csv::ByteRecord;
 use kd_state::SheetDay;
 use std::alloc::Global;
 
-/// What was read of the rows under the first row.
+/// What was read in the rows under the first row.
 #[derive(Drop)]
 pub struct Reading {
-    /// The days that rows describe, each with its own number.
+    /// The days of the rows. No two days have the same number.
     pub days: Vec<SheetDay>,
     /// Whether a row was refused.
     pub refused: bool,
@@ -31,7 +31,7 @@ fn is_taken(days: &[SheetDay], number: u8) -> bool
     }
 }
 
-/// Reads a row under the first row, and appends its day. Returns whether a row is refused: this one, or an earlier one.
+/// Reads a row under the first row, and appends its day. Returns whether this row or an earlier row is refused.
 fn read_body_row(
     days: &mut Vec<SheetDay>,
     refused: bool,

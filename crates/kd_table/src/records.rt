@@ -8,7 +8,7 @@ use crate::quotes::separator_of;
 use csv::{ByteRecord, ByteRecordsIntoIter, ReaderBuilder};
 use std::alloc::Global;
 
-/// The rows of a table, its first row included. `NoMemory` if memory runs out.
+/// The rows of a table, which include its first row. `NoMemory` if memory runs out.
 pub fn read_records(alloc: Global, table: &[u8]) -> Result<Vec<ByteRecord>, SpreadsheetFault>
     ensures { IfOk result (λ rows. AreRows table.now (map fields_of rows.items)) }
 {

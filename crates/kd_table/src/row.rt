@@ -35,7 +35,7 @@ pub fn places_of(columns: &Columns) -> [Option<usize>; 10]
     ]
 }
 
-/// Whether the column is the one at `place`.
+/// Whether `column` is the column at `place`.
 fn is_at(place: usize, column: Option<usize>) -> bool
     ensures { result ≡ is_at place column }
 {
@@ -45,7 +45,7 @@ fn is_at(place: usize, column: Option<usize>) -> bool
     }
 }
 
-/// Whether one of the columns is the one at `place`.
+/// Whether one of `columns` is the column at `place`.
 fn is_among(place: usize, columns: &[Option<usize>]) -> bool
     ensures { result ≡ list_any (is_at place) columns.now }
 {
@@ -62,7 +62,7 @@ pub fn is_column_read(columns: &Columns, place: usize) -> bool
     is_among(place, &places_of(columns)) || is_among(place, &columns.pins)
 }
 
-/// Whether `row` has nothing in these columns.
+/// Whether `row` is blank in these columns.
 fn has_nothing(row: &ByteRecord, columns: &[Option<usize>]) -> bool
     ensures { result ≡ list_all (λ column. is_blank (cell_at column (fields_of row.now))) columns.now }
 {

@@ -1,4 +1,4 @@
-//! The command `sheet`: makes a key sheet of a table.
+//! The command `sheet`: makes a key sheet from a table.
 ghost use Rattle.std.specs.Prelude.{◌≡◌, ◌≢◌, ◌⊎◌, ◌||◌, Ok, Err, IfOk, IsErr, List, false, map};
 ghost use Rattle.csv.specs.Records.{fields_of};
 ghost use Rattle.std.specs.Io.KnownBytes.{Appends};
@@ -32,7 +32,7 @@ struct Taken {
     note: Vec<u8>,
 }
 
-/// Reads the rows of a table, of which the first is `names`.
+/// Reads the rows `rows` of a table, under the first row `names`.
 fn take_rows(
     alloc: Global,
     options: &TableOptions<&[u8]>,
@@ -84,7 +84,7 @@ fn take_table(
     }
 }
 
-/// If `fault` is `Refused`, writes the notes on the table. Returns `fault`, or `NoMemory` if memory runs out for the
+/// Writes the notes on the table, if `fault` is `Refused`. Returns `fault`, or `NoMemory` if memory runs out for the
 /// notes.
 fn tell_refused<N: Sink>(
     fault: SpreadsheetFault,
@@ -107,12 +107,12 @@ fn tell_refused<N: Sink>(
     fault
 }
 
-/// Writes the key sheet that the days of `table` make.
+/// Writes the key sheet with the days of `table`. If the table isn't refused, `notes` gets a line for each unread
+/// column, and a warning for each day that has fewer pairs or groups than another day of its model.
 ///
-/// `Refused` if the table is refused: nothing is written, and `notes` gets a line for each fault. On `Device`, the sink
-/// has taken a prefix of the sheet. `notes` gets a line for each column that isn't read, too, and for each day of a table that
-/// isn't refused which has fewer pairs or groups than another day of its model. On `NoMemory`, nothing is written, and `notes`
-/// may lack lines.
+/// On `Refused`, the table is refused: nothing is written, and `notes` gets lines about the table's faults. On
+/// `Device`, the sink has taken a prefix of the sheet. On `NoMemory`, nothing is written, and lines may be missing in
+/// `notes`.
 pub fn run_sheet<W: Sink, N: Sink>(
     alloc: Global,
     table: &[u8],

@@ -13,7 +13,7 @@ use kd_sheet::writing::lines::{FileString, push_list_line, push_number_line, pus
 use kd_state::{Entry, PinEntry, RotorEntry, SheetDay, SheetWheel, push_letter};
 use kd_tables::{Device, Model, Sink, put_all};
 
-/// Appends the first two lines of a day: its number and its model.
+/// Appends the first two lines of a day: the day's number, and its model.
 pub fn push_day_head(text: &mut FileString, number: u8, model: Model)
     requires { array_string_len text.old ≤ 16 }
     ensures bytes { text.new.bytes ≡ text.old.bytes ++ concat (day_head_lines number model) }
@@ -80,7 +80,7 @@ fn push_rotor_day(text: &mut FileString, entry: &RotorEntry)
     push_plugs_lines(text, entry);
 }
 
-/// Appends the lines of a Converter's day, after its number and its model.
+/// Appends the lines of a Converter's day, after the day's number and model.
 fn push_converter_lines(text: &mut FileString, entry: &PinEntry)
     requires legal { IsLegalPinDay (pin_values entry.now) }
     requires room { array_string_len text.old ≤ 64 }
@@ -101,7 +101,8 @@ fn push_pin_day(text: &mut FileString, entry: &PinEntry)
     push_converter_lines(text, entry);
 }
 
-/// The section of `day`: the line `[[day]]`, and the day's lines. If `started`, an empty line comes first.
+/// The section of `day`: the line `[[day]]`, and the day's lines. If `started`, an empty line stands before the
+/// section.
 fn section_of(started: bool, day: &SheetDay) -> FileString
     ensures { result.bytes ≡ section_text started (day_lines day.now) }
 {
@@ -114,7 +115,7 @@ fn section_of(started: bool, day: &SheetDay) -> FileString
     text
 }
 
-/// Writes the sections of `days`. If `started`, an empty line comes first.
+/// Writes the sections of `days`. If `started`, an empty line stands before the first section.
 fn put_sections<W: Sink>(sink: &mut W, started: bool, days: &[SheetDay]) -> Result<(), Device>
     ensures text { Writes (W.taken sink.old) (W.taken sink.new)
         (sections_text started (map day_lines days.now)) result }

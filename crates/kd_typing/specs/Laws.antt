@@ -1,5 +1,4 @@
--- What the laws of this crate say. Typing on a machine's table gives the letters that pressing the machine's keys
--- gives.
+-- The statements of this crate's laws. Typing on a machine's table gives the letters that the machine's keys give.
 use Rattle.std.specs.Prelude.{◌≡◌, ◌<◌, List, ℕ, All}
 use Rattle.kd_enigma.specs.Cipher.{RotorKey, enigma_cipher, key_turned}
 use Rattle.kd_drum.specs.Converter.{PinKey, converter_cipher, pin_key_turned}
@@ -7,14 +6,15 @@ use Rattle.kd_typing.specs.PinTable.{pin_table, printed_text}
 use Rattle.kd_typing.specs.TableText.{lines_text, pin_lines, pin_table_in, rotor_lines, rotor_table_in}
 use Rattle.kd_typing.specs.RotorTable.{CanShow, rotor_table, typed_by}
 
--- Typing on the table of a key gives the key's own ciphertext, whatever letters the windows show at the start.
+-- Typing on the table of a key gives the ciphertext of a machine with this key, whatever letters the windows show at
+-- the start.
 abbrev pub TypingOnRotorTable : Type 0
 TypingOnRotorTable =
     (key : RotorKey) (window text : List ℕ) → CanShow key window → All (λ letter. letter < 26) text
     → typed_by (rotor_table key) window text ≡ enigma_cipher (key_turned key window) text
 
--- Typing on the table of a Converter's key gives the key's own ciphertext, whatever letters the wheels show at the
--- start.
+-- Typing on the table of a Converter's key gives the ciphertext of a Converter with this key, whatever letters the
+-- wheels show at the start.
 abbrev pub TypingOnPinTable : Type 0
 TypingOnPinTable =
     (key : PinKey) (letters text : List ℕ) → All (λ letter. letter < 26) text
@@ -22,7 +22,8 @@ TypingOnPinTable =
 
 -- ---- The laws of tables as text.
 
--- A table that is written as text is read back as the same table. So typing on its text is typing on the table.
+-- A table that is written as text is read back as the same table. So typing on the text gives what typing on the table
+-- gives.
 abbrev pub RotorTablesAreRead : Type 0
 RotorTablesAreRead = (key : RotorKey) → rotor_table_in (lines_text (rotor_lines (rotor_table key))) ≡ rotor_table key
 

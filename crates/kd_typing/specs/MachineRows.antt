@@ -1,4 +1,4 @@
--- The key of the machine from which the rows of a table are made.
+-- The key of the machine whose table has certain rows.
 use Rattle.kd_state.specs.EngineKey as keys
 use Rattle.kd_state.specs.EngineKey.{EngineKey}
 use Rattle.kd_typing.specs.declared.machine_rows.MachineRows.{MachineRows}

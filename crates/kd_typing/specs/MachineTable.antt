@@ -14,8 +14,8 @@ pub data MachineTable : Type 0 where
   Rotor : RotorTable → MachineTable
   Pin : PinTable → MachineTable
 
--- the letters that light up or are printed when `text` is typed on a table. The machine shows the letters `window`
--- before the first key.
+-- The letters that light up or are printed when `text` is typed on a table. Before the first key press, the machine
+-- shows the letters `window`.
 abbrev pub typed_on : MachineTable → List ℕ → List ℕ → List ℕ
 typed_on (Rotor table) window text = typed_by table window text
 typed_on (Pin table) window text = printed_text table window text
@@ -35,7 +35,7 @@ abbrev pub shown_letters : EngineKey → List ℕ
 shown_letters (keys.Rotor key) = key.window
 shown_letters (keys.Pin key) = key.letters
 
--- the table that the script of a page reads in `text`; the key says whether the machine is a Converter
+-- the table that a page's script reads in `text`; the key says whether the machine is a Converter
 abbrev pub table_in : EngineKey → List ℕ → MachineTable
 table_in (keys.Rotor key) text = Rotor (rotor_table_in text)
 table_in (keys.Pin key) text = Pin (pin_table_in text)

@@ -10,10 +10,11 @@ use Rattle.kd_pins.specs.PinWheel.{is_effective}
 use Rattle.kd_pins.specs.PinWheels.{acting_offset, pin_wheels, pins_on}
 use Rattle.kd_drum.specs.Converter.{PinKey, shown_place}
 
--- The table of a Converter. `pins` has a list for each wheel, with an item for each letter, in the wheel's own order.
--- The item says whether the acting pin is effective while the wheel shows this letter. `rows` has a row for each set of
--- wheels. In the row are the letters that are printed for A to Z if just these wheels have an effective acting pin. A
--- set has a number, with a binary digit for each wheel, wheel 1 first.
+-- The table of a Converter. `pins` has a list for each wheel, with an item for each letter, in the order of the letters
+-- on the wheel. The item says whether the acting pin is effective while the wheel shows this letter.
+-- `rows` has a row for each set of wheels: the letters that are printed for A to Z if these wheels, and no others, have
+-- an effective acting pin. The row's number has a binary digit for each wheel, wheel 1 first; the digit is 1 for the
+-- wheels of the set.
 pub record PinTable : Type 0 where
   pub rows : List (List ℕ)
   pub pins : List (List Bool)
@@ -35,13 +36,13 @@ abbrev pub printed_by : PinTable → List ℕ → ℕ → ℕ
 printed_by table letters letter =
     slice_index (slice_index_or table.rows (binary (map (acts_by table letters) pin_wheels)) []) letter
 
--- The letter that follows the shown letter of wheel `wheel`, in the wheel's own order. The wheel's first letter follows
--- its last.
+-- The letter that follows the shown letter of wheel `wheel`, in the order of the letters on the wheel. After the
+-- wheel's last letter comes its first letter.
 abbrev pub next_on_wheel : List ℕ → ℕ → ℕ
 next_on_wheel letters wheel =
     slice_index (ring_of wheel) ((shown_place letters wheel + 1) % length (ring_of wheel))
 
--- The letters that are printed for `text`, one after another, if the wheels show `letters` at first. After each printed
+-- The letters that are printed for `text`, one after another. At first, the wheels show `letters`. After each printed
 -- letter, every wheel moves to its next letter.
 abbrev pub printed_text : PinTable → List ℕ → List ℕ → List ℕ
 printed_text table letters [] = []
@@ -50,15 +51,16 @@ printed_text table letters (letter ∷ text) =
 
 -- ---- The table of a key.
 
--- whether a wheel is in the set `number`
+-- whether a wheel is in the set of wheels with number `number`
 abbrev pub is_in_row : ℕ → ℕ → Bool
 is_in_row number wheel = (nat_le 1 wheel && nat_le wheel 6) && nat_eq (number / 2 ^ (6 - wheel) % 2) 1
 
--- how many bars have a lug at a wheel of the set `number`
+-- how many bars have a lug at some wheel of the set with number `number`
 abbrev pub bars_met_in_row : List (ℕ × ℕ) → ℕ → ℕ
 bars_met_in_row bars number = count_by (λ bar. is_in_row number bar.0 || is_in_row number bar.1) bars
 
--- The letters that are printed for A to Z while just the wheels of the set `number` have an effective acting pin.
+-- The letters that are printed for A to Z while the wheels of the set with number `number`, and no others, have an
+-- effective acting pin.
 unfoldable pub pin_row : PinKey → ℕ → List ℕ
 pin_row key number = map (λ letter. (25 + bars_met_in_row key.bars number - letter) % 26) alphabet
 

@@ -1,6 +1,7 @@
--- The table of a rotor machine, in which typing looks letters up. The right wheel moves at each key, the other wheels
--- seldom. So the path of the current is cut into two parts. One leads in through the plugboard and the right wheel. The
--- other leads through the core: all that lies to the left of the right wheel.
+-- The table of a rotor machine, in which typing looks letters up. At each key press, the right wheel moves, but the
+-- other wheels move seldom. So the path of the current is cut into two parts. The first part leads in through the
+-- plugboard and the right wheel. The second part leads through the core, which is all that lies to the left of the
+-- right wheel.
 -- Source: the published accounts of the current's path and of the stepping.
 use Rattle.std.specs.Prelude.{◌≡◌, ℕ, zero, suc, ◌+◌, ◌-◌, ◌*◌, ◌/◌, ◌%◌, ◌^◌, ◌<◌, ◌≤◌, ◌==◌, Bool, false, List, [], ◌∷◌}
 use Rattle.std.specs.Prelude.{length, map, take, drop, slice_get, slice_index, slice_index_or, All, if◌then◌else◌}
@@ -12,10 +13,13 @@ use Rattle.kd_tables.specs.declared.wheel.Wheel.{Wheel}
 use Rattle.kd_step.specs.Stepper.{with_last_moved}
 use Rattle.kd_enigma.specs.Cipher.{RotorKey, IsPlugboard, path, product, rotors}
 
--- The table of a rotor machine. `into` has a row for each letter in the right window. In the row are the places that
--- the current of each key reaches, in through the plugboard and the right wheel. `core` has a row for all letters in
--- the other windows: the places at which the current comes out of the core. `steps` has a number for each letter in the
--- middle window, and each letter in the right window. It says how many wheels move at the next key.
+-- The table of a rotor machine.
+-- `into` has a row for each letter that the right window can show: the places that the current of each key reaches, in
+-- through the plugboard and the right wheel.
+-- `core` has a row for each combination of letters in the other windows: the places at which the current comes out of
+-- the core.
+-- `steps` has a number for each pair of letters in the middle and the right window. The number says how many wheels
+-- move at the next key press.
 pub record RotorTable : Type 0 where
   pub into : List (List ℕ)
   pub core : List (List ℕ)
@@ -23,7 +27,7 @@ pub record RotorTable : Type 0 where
 
 -- ---- Typing on a table.
 
--- the items of all slots except the right slot; then the item of the right slot alone
+-- the items of all slots except the right slot, whose item `right_slot` has
 abbrev pub core_slots : {X : Type 0} → List X → List X
 core_slots slots = take (length slots - 1) slots
 
@@ -34,26 +38,26 @@ right_slot slots = drop (length slots - 1) slots
 abbrev pub letter_in : List ℕ → ℕ → ℕ
 letter_in window from_right = slice_index window (length window - (from_right + 1))
 
--- the number of the row of `core` for these window letters, each of which is a digit from 0 to 25
+-- the number of the row of `core` for these window letters; in base 26, each letter is a digit from 0 to 25
 abbrev pub row_number : List ℕ → ℕ
 row_number [] = 0
 row_number (letter ∷ letters) = letter * 26 ^ length letters + row_number letters
 
--- the window letters after the next key
+-- the window letters after the next key press
 abbrev pub window_by : RotorTable → List ℕ → List ℕ
 window_by table window =
     with_last_moved (slice_index table.steps (26 * letter_in window 1 + letter_in window 0)) window
 
--- The letter that lights up for `key` while the windows show `window`. The letter's own key leads the current into the
--- core where the current of `key` comes out.
+-- The letter that lights up for `key` while the windows show `window`. This letter's own key would lead the current
+-- into the core at the place where the current of `key` comes out.
 abbrev pub lamp_by : RotorTable → List ℕ → ℕ → ℕ
 lamp_by table window key =
     let into = slice_index_or table.into (letter_in window 0) [] in
     let core = slice_index_or table.core (row_number (core_slots window)) [] in
     position_or_len (λ letter. letter == slice_index core (slice_index into key)) into
 
--- The letters that light up for the keys of `text`, one after another, if the windows show `window` at first. At each
--- key, wheels move before the lamp lights up.
+-- The letters that light up for the keys of `text`, one after another. At first, the windows show `window`. At each key
+-- press, wheels move before the lamp lights up.
 abbrev pub typed_by : RotorTable → List ℕ → List ℕ → List ℕ
 typed_by table window [] = []
 typed_by table window (key ∷ text) =
@@ -76,12 +80,13 @@ core_key key = record {
   plugs = exchange [];
 }
 
--- The places at which the current comes out of the core, for each place at which it enters. The core's windows show
+-- For each place at which the current can enter the core, the place at which it comes out. The core's windows show
 -- `window`.
 unfoldable pub core_row : RotorKey → List ℕ → List ℕ
 core_row key window = path (core_key key) window
 
--- The letters of `count` windows with this number: the number's last `count` digits, from 0 to 25.
+-- The letters of `count` windows whose row of `core` has this number. They are the number's last `count` digits in base
+-- 26.
 abbrev pub letters_with_number : ℕ → ℕ → List ℕ
 letters_with_number zero number = []
 letters_with_number (suc count) number = number / 26 ^ count % 26 ∷ letters_with_number count number
@@ -91,12 +96,12 @@ abbrev pub is_at_notch : List Wheel → ℕ → ℕ → Bool
 is_at_notch wheels from_right letter =
     option_map_or (λ wheel. is_notch wheel letter) (slice_get wheels (length wheels - (from_right + 1))) false
 
--- how many wheels move at the next key, if the middle and the right window show these letters
+-- how many wheels move at the next key press, if the middle and the right window show these letters
 unfoldable pub wheels_moved : List Wheel → ℕ → ℕ → ℕ
 wheels_moved wheels middle right =
     if is_at_notch wheels 1 middle then 3 else (if is_at_notch wheels 0 right then 2 else 1)
 
--- the number of rows of the core
+-- how many rows the core has
 abbrev pub core_size : RotorKey → ℕ
 core_size key = 26 ^ (length key.wheels - 1)
 
@@ -114,7 +119,7 @@ all_steps wheels = map (λ number. wheels_moved wheels (number / 26) (number % 2
 abbrev pub rotor_table : RotorKey → RotorTable
 rotor_table key = record { into = into_rows key; core = core_rows key; steps = all_steps key.wheels }
 
--- The key is one of a machine with three or four slots, and its windows can show these letters.
+-- The machine with this key has three or four slots, and its windows can show these letters.
 pub record CanShow (key : RotorKey) (window : List ℕ) : Type 0 where
   pub least : 3 ≤ length key.wheels
   pub most : length key.wheels ≤ 4

@@ -36,7 +36,7 @@ pin_lines table = map pins_text table.pins ++ map letters_text table.rows
 abbrev pub lines_of : List ℕ → List (List ℕ)
 lines_of text = slice_split (λ byte. byte == 10) text
 
--- The table in a text. The first line has `steps`, the next 26 lines have `into`, and all later lines have `core`.
+-- The table that a text has. The first line gives `steps`, the next 26 lines `into`, and all later lines `core`.
 unfoldable pub rotor_table_in : List ℕ → RotorTable
 rotor_table_in text =
     let lines = lines_of text in
@@ -46,7 +46,7 @@ rotor_table_in text =
       core = map letters_of (drop 27 lines);
     }
 
--- The table in a text. The first six lines have `pins`, and all later lines have `rows`.
+-- The table that a text has. The first six lines give `pins`, and all later lines `rows`.
 unfoldable pub pin_table_in : List ℕ → PinTable
 pin_table_in text =
     let lines = lines_of text in
@@ -54,7 +54,7 @@ pin_table_in text =
 
 -- ---- Lines in parts. No public contract cites these definitions.
 
--- The line of a wheel with these pins. The acting pin is `offset` places after the shown letter's pin.
+-- The line of digits for a wheel with these pins. The acting pin is `offset` places after the pin of the shown letter.
 unfoldable pub acting_text : List Bool → ℕ → List ℕ
 acting_text pins offset =
     pins_text (map (λ place. is_effective pins ((place + offset) % length pins)) (range_with_len 0 (length pins)))

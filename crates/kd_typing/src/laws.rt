@@ -1,4 +1,4 @@
-//! Laws about tables. They follow from the definitions of ciphers and tables, whatever the code does.
+//! Laws about tables. They follow from the definitions of ciphers and tables alone, not from the code.
 ghost use Rattle.kd_typing.specs.Laws.{PinTablesAreRead, RotorTablesAreRead, TypingOnPinTable, TypingOnRotorTable};
 
 /// Typing on the table of a rotor machine gives the machine's own ciphertext, whatever letters the windows show at the

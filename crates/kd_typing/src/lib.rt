@@ -1,4 +1,4 @@
-//! Tables of machines, in which typing a text looks letters up instead of pressing keys.
+//! Tables of machines: with a table, a text is typed by looking letters up instead of pressing keys.
 #![tactic(auto)]
 
 mod around;

@@ -25,7 +25,7 @@ impl Model for PinRows {
 }
 
 impl PinRows {
-    /// The rows for a Converter with these pins, these letters on its wheels, and bars with the readings `bars`.
+    /// The rows for a Converter. It has these pins, these letters on its wheels, and bars with the readings `bars`.
     pub fn new(pins: PinSet, letters: [Letter; 6], bars: [Reading; 27]) -> Self
         ensures { result ≡ record { pins = pins_of pins; letters = letters; bars = bars } }
     {
@@ -36,9 +36,10 @@ impl PinRows {
         }
     }
 
-    /// The letters that are printed for A to Z while just the wheels of the set `number` have an effective acting pin.
+    /// The letters that are printed for A to Z while the wheels of the set with number `number`, and no others, have an
+    /// effective acting pin.
     ///
-    /// The number has a binary digit for each wheel, wheel 1 first.
+    /// The number has a binary digit for each wheel, wheel 1 first; the digit is 1 for the wheels of the set.
     pub fn row_at(&self, number: usize) -> [Letter; 26]
         requires { number < 64 }
         ensures { result ≡ pin_row self.now number }
@@ -66,7 +67,7 @@ impl PinRows {
     }
 }
 
-/// How many bars have a lug at a wheel of the set `number`.
+/// How many bars have a lug at some wheel of the set with number `number`.
 fn bars_met(bars: &[Reading; 27], number: usize) -> u8
     ensures value { result ≡ bars_met_in_row bars.now number }
     ensures most { result ≤ 27 }
@@ -80,7 +81,7 @@ fn bars_met(bars: &[Reading; 27], number: usize) -> u8
     met
 }
 
-/// Whether a bar with the reading `bar` has a lug at a wheel of the set `number`.
+/// Whether a bar with the reading `bar` has a lug at some wheel of the set with number `number`.
 fn is_met(bar: Reading, number: usize) -> bool
     ensures { result ≡ (is_in_row number bar.0 || is_in_row number bar.1) }
 {
@@ -88,7 +89,7 @@ fn is_met(bar: Reading, number: usize) -> bool
     is_in_row(number, smaller) || is_in_row(number, larger)
 }
 
-/// Whether `wheel` is from 1 to 6, and is in the set `number`.
+/// Whether `wheel` is from 1 to 6, and is in the set with number `number`.
 fn is_in_row(number: usize, wheel: u8) -> bool
     ensures { result ≡ is_in_row number wheel }
 {

@@ -14,8 +14,8 @@ use kd_pictures::template::draw_letter;
 use kd_tables::{Letter, Sink};
 
 impl PinRows {
-    /// Writes the table as lines, with LFs between them. Each wheel has a line of digits, with 1 where the acting pin
-    /// is effective. Then come the rows.
+    /// Writes the table as lines, with LFs between them. Each wheel has a line of digits, one for each letter: 1 if the
+    /// acting pin is effective, and 0 if it isn't. Then come the rows.
     pub fn draw<W: Sink>(&self, sink: &mut W)
         ensures { Draws W.taken W.has_failed sink.old sink.new
             (lines_text (pin_lines (pin_table self.now))) }
@@ -76,8 +76,8 @@ fn draw_wheel<W: Sink>(sink: &mut W, pins: &[bool], offset: usize)
     draw(sink, acting_text(pins, offset).as_str());
 }
 
-/// The digits for a wheel's letters: 1 if the acting pin is effective. The acting pin is `offset` places after the
-/// letter's pin.
+/// The digits for a wheel's letters: 1 if the acting pin is effective, and 0 if it isn't. The acting pin is `offset`
+/// places after the letter's pin.
 fn acting_text(pins: &[bool], offset: usize) -> ArrayString<26>
     requires pins { length pins.now ≤ 26 }
     requires offset { offset ≤ 26 }

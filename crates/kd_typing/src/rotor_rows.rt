@@ -58,8 +58,10 @@ impl RotorRows {
         inward(self.plugs, wheels[wheels.len() - 1], letter)
     }
 
-    /// The places at which the current comes out of the core, for each place at which it enters. The core's windows
-    /// show `window`. The core has the other wheels and the reflector.
+    /// For each place at which the current can enter the core, the place at which it comes out. The core's windows show
+    /// `window`.
+    ///
+    /// The core has the reflector, and all wheels except the right wheel.
     #[tactic(auto, using(crate::proofs::WaysAround::core_of_wheels))]
     pub fn core_at(&self, window: &[Letter]) -> [Letter; 26]
         requires { length window.now + 1 ≡ length self.now.wheels }
@@ -73,7 +75,7 @@ impl RotorRows {
         )
     }
 
-    /// How many wheels move at the next key, if the middle and the right window show these letters.
+    /// How many wheels move at the next key press, if the middle and the right window show these letters.
     #[tactic(auto, unfolding(crate::specs::RotorTable::wheels_moved))]
     pub fn steps_at(&self, middle: Letter, right: Letter) -> u8
         ensures value { result ≡ wheels_moved self.now.wheels middle right }

@@ -14,8 +14,9 @@ use kd_state::SheetWheel;
 use kd_tables::{Letter, Sink};
 
 impl RotorRows {
-    /// Writes the table as lines, with LFs between them. The first line has digits: how many wheels move. Then come the
-    /// rows of the right wheel, from A on. Last come the rows of the core, in the alphabetical order of its windows.
+    /// Writes the table as lines, with LFs between them. The first line has a digit for each pair of letters in the
+    /// middle and the right window: how many wheels move at the next key press. Then come the rows of the right wheel,
+    /// from A on. Last come the rows of the core, in the alphabetical order of its windows.
     #[tactic(auto, using(crate::proofs::TableTexts::rotor_text_is))]
     pub fn draw<W: Sink>(&self, sink: &mut W)
         ensures { Draws W.taken W.has_failed sink.old sink.new
@@ -33,7 +34,7 @@ impl RotorRows {
         draw_windows(sink, self.wheels());
     }
 
-    /// The line of digits, each of which says how many wheels move.
+    /// The line of digits. Each digit says how many wheels move at a key press.
     fn steps_line(&self) -> ArrayString<676>
         ensures { result.bytes ≡ digits_text (rotor_table self.now).steps }
     {
@@ -95,14 +96,14 @@ fn draw_windows<W: Sink>(sink: &mut W, wheels: &[SheetWheel])
     }
 }
 
-/// The three letters with this number: the number's last three digits, from 0 (A) to 25 (Z).
+/// The three letters with this number. They are the number's last three digits in base 26, from 0 (A) to 25 (Z).
 fn three_letters(number: u16) -> [Letter; 3]
     ensures { result ≡ letters_with_number 3 number }
 {
     [letter(number / 676), letter(number / 26), letter(number)]
 }
 
-/// The letter with this number: the number's last digit, from 0 (A) to 25 (Z).
+/// The letter with this number: the number's last digit in base 26, from 0 (A) to 25 (Z).
 fn letter(number: u16) -> Letter
     ensures { result ≡ number % 26 }
 {

@@ -12,13 +12,13 @@ use Rattle.kd_typing_page.specs.declared.texts.TheConstants as texts
 abbrev pub letter_option : ℕ → List ℕ
 letter_option letter = filled texts.LETTER.now (letter_text letter ∷ [])
 
--- a wheel, with the letters that it can show, in their order
+-- a wheel, with the letters that it can show, in their order on the wheel
 unfoldable pub wheel_text : Language → ℕ → List ℕ → List ℕ
 wheel_text l wheel letters =
     filled (text_in l texts.WHEEL) (decimal wheel ∷ decimal wheel ∷ decimal wheel ∷ [])
     ++ flat_map letter_option letters ++ filled (text_in l texts.WHEEL_END) (decimal wheel ∷ [])
 
--- the six wheels, each with its letters in their order
+-- the six wheels, each with its letters in their order on the wheel
 unfoldable pub wheels_text : Language → List ℕ
 wheels_text l = flat_map (λ wheel. wheel_text l wheel (ring_of wheel)) pin_wheels
 

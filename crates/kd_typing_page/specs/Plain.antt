@@ -1,4 +1,4 @@
--- Templates take the values that the page fills into them.
+-- The templates of the page take as many values as the page fills into them.
 use Rattle.std.specs.Prelude.{◌≡◌, count_by}
 use Rattle.kd_pictures.specs.Checked.{Takes}
 use Rattle.kd_pictures.specs.Template.{is_gap}

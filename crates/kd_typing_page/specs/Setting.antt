@@ -38,7 +38,7 @@ wheel_pins l m wheel letters =
 unfoldable pub pins_text : Language → Parts → List ℕ
 pins_text l m = flat_map (λ wheel. wheel_pins l m wheel (ring_of wheel)) pin_wheels
 
--- a space, then the places of a bar's two lugs
+-- a space, then the places of a bar's two lugs; nothing if there is no bar
 abbrev pub bar_text : Option (Place × Place) → List ℕ
 bar_text None = []
 bar_text (Some standing) = filled texts.BAR.now (place_text standing.0 ∷ place_text standing.1 ∷ [])

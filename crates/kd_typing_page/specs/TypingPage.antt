@@ -18,8 +18,8 @@ use Rattle.kd_typing_page.specs.PinWheels.{pin_desk}
 use Rattle.kd_typing_page.specs.Setting.{setting_text}
 use Rattle.kd_typing_page.specs.Windows.{rotor_desk}
 
--- The file up to its body: the title, a policy, and the style sheet. The policy says which script and style sheet the
--- page may use.
+-- The file up to its body: the title, a policy, and the style sheet. The policy names the only script and style sheet
+-- that the page may use.
 unfoldable pub page_head : Language → Model → List ℕ
 page_head l model =
     file_head l ++ filled (text_in l texts.TITLE) (model_name model ∷ []) ++ texts.POLICY.now ++ STYLE.now
@@ -33,7 +33,7 @@ desk_text l m = if is_converter (model_of m) then pin_desk l (model_of m) else r
 abbrev pub script_words : Language → Model → List ℕ
 script_words l model = if is_converter model then text_in l texts.PIN_WORDS else text_in l texts.ROTOR_WORDS
 
--- the data that the script reads before the table: the letters that the machine shows, and the script's words
+-- the data that stands before the table, for the script: the letters that the machine shows, and the script's words
 unfoldable pub data_text : Language → Model → List ℕ → List ℕ
 data_text l model letters = texts.START.now ++ letters_text letters ++ script_words l model
 

@@ -58,8 +58,8 @@ fn draw_page<W: Sink>(sink: &mut W, language: Language, machine: &Machine, rows:
     draw_script(sink);
 }
 
-/// Writes the file up to its body: the title, a policy, and the style sheet. The policy says which script and style
-/// sheet the page may use.
+/// Writes the file up to its body: the title, a policy, and the style sheet. The policy names the only script and style
+/// sheet that the page may use.
 fn draw_page_head<W: Sink>(sink: &mut W, language: Language, model: Model)
     ensures { Draws W.taken W.has_failed sink.old sink.new (page_head language model) }
 {
@@ -70,8 +70,8 @@ fn draw_page_head<W: Sink>(sink: &mut W, language: Language, model: Model)
     draw(sink, BODY);
 }
 
-/// Writes the parts of the machine. A rotor machine has windows and lamps, a Converter pin wheels, and both have keys
-/// and tape.
+/// Writes the parts of the machine: windows and lamps of a rotor machine, or pin wheels of a Converter; then the keys
+/// and the tape.
 fn draw_desk<W: Sink>(sink: &mut W, language: Language, machine: &Machine)
     ensures { Draws W.taken W.has_failed sink.old sink.new (desk_text language machine.now) }
 {
@@ -82,7 +82,8 @@ fn draw_desk<W: Sink>(sink: &mut W, language: Language, machine: &Machine)
     }
 }
 
-/// Writes the data that the script reads before the table: the letters that the machine shows, and the script's words.
+/// Writes the data that stands before the table, for the script: the letters that the machine shows, and the script's
+/// words.
 fn draw_data<W: Sink>(sink: &mut W, language: Language, model: Model, rows: &MachineRows)
     ensures { Draws W.taken W.has_failed sink.old sink.new
         (data_text language model (shown_letters (rows_key rows.now))) }

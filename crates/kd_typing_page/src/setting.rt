@@ -98,7 +98,7 @@ fn draw_wheel_pins<W: Sink>(
     draw_effective(sink, machine, wheel, letters);
 }
 
-/// Writes those letters in `letters` that have an effective pin on wheel `wheel`.
+/// Writes each letter of `letters` whose pin on wheel `wheel` is effective.
 fn draw_effective<W: Sink>(sink: &mut W, machine: &Machine, wheel: u8, letters: &[Letter])
     ensures { Draws W.taken W.has_failed sink.old sink.new
         (flat_map (λ letter. pin_letter letter (machine_pin machine.now wheel letter)) letters.now) }
@@ -119,7 +119,7 @@ fn draw_pin<W: Sink>(sink: &mut W, letter: Letter, effective: Option<bool>)
     }
 }
 
-/// Writes the places of the lugs of the bars `bars`.
+/// Writes the places of the lugs of the bars with the numbers `bars`.
 fn draw_bars<W: Sink>(sink: &mut W, language: Language, machine: &Machine, bars: &[u8])
     ensures { Draws W.taken W.has_failed sink.old sink.new
         (flat_map (λ bar. bar_text (machine_standing machine.now bar)) bars.now) }
@@ -130,7 +130,7 @@ fn draw_bars<W: Sink>(sink: &mut W, language: Language, machine: &Machine, bars:
     }
 }
 
-/// Writes a space, then the places of a bar's two lugs.
+/// Writes a space, then the places of a bar's two lugs; nothing if there is no bar.
 fn draw_bar<W: Sink>(sink: &mut W, language: Language, standing: Option<Standing>)
     ensures { Draws W.taken W.has_failed sink.old sink.new (bar_text standing) }
 {

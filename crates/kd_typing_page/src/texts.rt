@@ -3,8 +3,8 @@
 
 use kd_pictures::texts::Text;
 
-/// The file's title, with the model. Then the policy: the page may use only the script and the style sheet whose
-/// SHA-256 the policy names. Then the start of the body.
+/// The file's title; its value is the model. Then the policy: it names, by their SHA-256, the only script and the only
+/// style sheet that the page may use. Then the start of the body.
 pub const TITLE: Text = ("~: typing", "~: Tippen");
 
 pub const POLICY: &str =
@@ -24,8 +24,8 @@ pub const PIN_HEAD: Text = (
     "<main class=alphabet>\n<header><h1>~ <small>Buchstaben drücken: Die Maschine druckt einen.</small></h1></header>\n<p id=off>Diese Seite braucht JavaScript: Ohne JavaScript wirkt keine Taste. Ist dies nur eine Vorschau, die Datei in einem Browser öffnen.</p>\n<div>\n<div class=windows role=group aria-label=\"Räder\">\n",
 );
 
-/// The window of a slot. First the text before its letters, then the letters, which are the same for all slots. Last
-/// the text after them.
+/// The window of a slot: the text before its letters, the letters, and the text after the letters. The letters are the
+/// same for all slots.
 pub const WINDOW: Text = (
     "<div class=wheel><button type=button value=1 aria-label=\"slot ~: next letter\">▲</button><label><span>slot ~</span><select autocomplete=off aria-label=\"slot ~: window\">",
     "<div class=wheel><button type=button value=1 aria-label=\"Platz ~: nächster Buchstabe\">▲</button><label><span>Platz ~</span><select autocomplete=off aria-label=\"Platz ~: Fenster\">",
@@ -56,7 +56,7 @@ pub const WHEEL_END: Text = (
 pub const LAMPS: &str =
     "</div>\n<div id=lamps aria-hidden=true>\n<div class=row><b data-lamp=Q><span>Q</span></b><b data-lamp=W><span>W</span></b><b data-lamp=E><span>E</span></b><b data-lamp=R><span>R</span></b><b data-lamp=T><span>T</span></b><b data-lamp=Z><span>Z</span></b><b data-lamp=U><span>U</span></b><b data-lamp=I><span>I</span></b><b data-lamp=O><span>O</span></b></div>\n<div class=row><b data-lamp=A><span>A</span></b><b data-lamp=S><span>S</span></b><b data-lamp=D><span>D</span></b><b data-lamp=F><span>F</span></b><b data-lamp=G><span>G</span></b><b data-lamp=H><span>H</span></b><b data-lamp=J><span>J</span></b><b data-lamp=K><span>K</span></b></div>\n<div class=row><b data-lamp=P><span>P</span></b><b data-lamp=Y><span>Y</span></b><b data-lamp=X><span>X</span></b><b data-lamp=C><span>C</span></b><b data-lamp=V><span>V</span></b><b data-lamp=B><span>B</span></b><b data-lamp=N><span>N</span></b><b data-lamp=M><span>M</span></b><b data-lamp=L><span>L</span></b></div>\n</div>\n";
 
-/// The end of the pin wheels, the knob, and the field with the end of the printed tape.
+/// The end of the pin wheels, the knob, and the field for the last letters on the printed tape.
 pub const KNOB: Text = (
     "</div>\n<fieldset class=knob><legend>Knob</legend><label><input type=radio name=knob value=C autocomplete=off checked><span><b>C</b> encipher</span></label><label><input type=radio name=knob value=D autocomplete=off><span><b>D</b> decipher</span></label></fieldset>\n<div id=strip class=strip aria-hidden=true></div>\n",
     "</div>\n<fieldset class=knob><legend>Knopf</legend><label><input type=radio name=knob value=C autocomplete=off checked><span><b>C</b> verschlüsseln</span></label><label><input type=radio name=knob value=D autocomplete=off><span><b>D</b> entschlüsseln</span></label></fieldset>\n<div id=strip class=strip aria-hidden=true></div>\n",
@@ -85,7 +85,7 @@ pub const PIN_TAPE: Text = (
     "</div>\n<p class=buttons><button type=button id=undo>Rückgängig</button><button type=button id=back>Zum Anfang</button><button type=button id=copy>Kopieren</button><button type=button id=clear>Löschen</button></p>\n</div>\n<section>\n<h2>Streifen <small>Buchstaben: <b id=count>0</b></small></h2>\n<div id=tape tabindex=0 role=group aria-label=\"Streifen\"></div>\n<details id=whole><summary>Einen ganzen Text eingeben</summary>\n<textarea id=text aria-label=\"Text\" autocomplete=off spellcheck=false></textarea>\n<button type=button id=go>Eintippen</button> <span class=note>A bis Z; bei C wird jeder Zwischenraum zu Z, Zeilenenden fallen weg.</span></details>\n",
 );
 
-/// The setting of a rotor machine: the words before its reflector and its wheels, and before its cables.
+/// The setting of a rotor machine: the words before its reflector and its wheels, and the word before its cables.
 pub const ROTOR_SETTING: Text = (
     "<details><summary>How the machine is set</summary><p>At the start, from the left: ",
     "<details><summary>Wie die Maschine eingestellt ist</summary><p>Am Anfang, von links: ",
@@ -93,8 +93,8 @@ pub const ROTOR_SETTING: Text = (
 
 pub const CABLES: Text = (".<br>Cables: ", ".<br>Steckerverbindungen: ");
 
-/// The setting of a Converter. First the words before the letters of its wheels. Then the words before the effective
-/// pins, before the pins of each wheel, and before the bars. Last the text for a bar, and the end.
+/// The setting of a Converter: the words before the letters of its wheels, before the effective pins, before the pins
+/// of each wheel, and before the bars. Then the text for a bar, and the end of the setting.
 pub const PIN_SETTING: Text = (
     "<details><summary>How the machine is set</summary><p>Letters at the start: ",
     "<details><summary>Wie die Maschine eingestellt ist</summary><p>Buchstaben am Anfang: ",
@@ -110,8 +110,8 @@ pub const BAR: &str = " <b>~-~</b>";
 
 pub const SETTING_END: &str = ".</p></details>\n</section>\n</main>\n";
 
-/// The data for the script. First the text before the letters that the machine shows. Then the script's words for a
-/// rotor machine, and for a Converter. The table follows.
+/// The data for the script: the text before the letters that the machine shows. Then the script's words for a rotor
+/// machine, and for a Converter. The table stands after these words.
 pub const START: &str = "<script type=\"application/json\" id=data>{\"start\": \"";
 
 pub const ROTOR_WORDS: Text = (

@@ -23,7 +23,7 @@ pub(crate) fn draw_rotor_desk<W: Sink>(sink: &mut W, language: Language, machine
     draw_in(sink, language, ROTOR_TAPE);
 }
 
-/// Writes the windows of the slots in `slots` that the machine has.
+/// Writes the windows of the slots `slots`; nothing for a slot that the machine doesn't have.
 fn draw_windows<W: Sink>(sink: &mut W, language: Language, machine: &Machine, slots: &[u8])
     ensures { Draws W.taken W.has_failed sink.old sink.new
         (flat_map (λ slot. slot_window language slot (machine_slot machine.now slot)) slots.now) }

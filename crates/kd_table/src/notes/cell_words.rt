@@ -1,4 +1,4 @@
-//! The words for what is wrong with the text of a cell.
+//! The words that say what is wrong with the text of a cell.
 use super::letter_words::{off_wheel_words, pair_words, pins_words};
 use super::words::Words;
 use crate::cell::{Cell, day_in, slots, windows};
@@ -39,8 +39,8 @@ pub fn cell_words(cell: Cell, model: Option<Model>, text: &[u8]) -> Words {
     words
 }
 
-/// Says which words of `text` have no value, or that the cell is blank or too long. `what` follows each of the words,
-/// for example " isn't a wheel".
+/// Writes a line for each word of `text` that has no value: the word, then `what`, for example " isn't a wheel". If the
+/// cell is blank or too long, says so.
 pub fn item_words<T: FromWord + Copy>(lines: &mut Words, text: &[u8], what: &str) {
     if is_blank(text) {
         lines.tell(NOTHING);
@@ -49,7 +49,8 @@ pub fn item_words<T: FromWord + Copy>(lines: &mut Words, text: &[u8], what: &str
     }
 }
 
-/// Says which words of `text` have no value. `what` follows each of them. Returns false if the cell is too long.
+/// Writes a line for each word of `text` that has no value: the word, then `what`. Returns false if the cell is too
+/// long.
 fn has_told_words<T: FromWord + Copy>(lines: &mut Words, text: &[u8], what: &str) -> bool {
     if text.len() > CELL_LIMIT {
         return false;
@@ -74,8 +75,8 @@ fn tell_words<T: FromWord + Copy>(lines: &mut Words, words: &[&[u8]], what: &str
     }
 }
 
-/// Says that there are `found` things, where `count` are needed. `one` is the name of one such thing, `many` of
-/// several.
+/// Says that there are `found` things in place of `count` things. `one` is the name of one thing, `many` the name of
+/// several things.
 fn count_words(lines: &mut Words, found: usize, count: usize, one: &str, many: &str) {
     lines.begin();
     lines.add_number(found as u64);
@@ -118,7 +119,7 @@ fn reflector_words(lines: &mut Words, model: Option<Model>, text: &[u8]) {
     }
 }
 
-/// Says which words mean no letter, or that the number of letters isn't `count`.
+/// Says which words don't mean a letter, or that the number of letters isn't `count`.
 fn letter_words(lines: &mut Words, text: &[u8], count: usize) {
     match values_in::<Letter>(text) {
         Some(letters) if letters.len() == count => {}
@@ -137,7 +138,7 @@ fn letter_words(lines: &mut Words, text: &[u8], count: usize) {
     }
 }
 
-/// Says what is wrong with the window letters. A Converter's wheels don't have all letters.
+/// Says what is wrong with the window letters. A Converter's wheel may lack a letter.
 fn window_words(lines: &mut Words, model: Option<Model>, text: &[u8]) {
     letter_words(lines, text, windows(model));
     if model == Some(Model::M209)
@@ -172,7 +173,7 @@ fn wheel_words(lines: &mut Words, model: Option<Model>, text: &[u8]) {
     }
 }
 
-/// Says which wheels aren't in the model's box, and which are there twice. If there is a wheel for each slot
+/// Says which wheels aren't in the model's box, and which wheels come twice. If there is a wheel for each slot
 /// (`is_whole`), also says which wheels can't be in their slots.
 fn seat_words(lines: &mut Words, wheels: &[Option<Wheel>], model: Model, is_whole: bool) {
     for (index, wheel) in wheels.iter().enumerate() {

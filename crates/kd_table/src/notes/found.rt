@@ -1,4 +1,4 @@
-//! What was found in the rows so far. The notes on later rows need it.
+//! What was found in the rows so far, for the notes on later rows.
 use super::cell_words::day_words;
 use super::head::Head;
 use super::head_words::missing_of_model;
@@ -9,10 +9,10 @@ use arrayvec::ArrayVec;
 use csv::ByteRecord;
 use kd_tables::Model;
 
-/// What was found in the rows so far. The notes on later rows need it.
+/// What was found in the rows so far, for the notes on later rows.
 #[derive(Drop)]
 pub struct Found {
-    /// For each day, the number of the first row that has this day. 0 if no row has it.
+    /// For each day, the number of the first row with this day; 0 if no row has this day.
     rows: [u64; 32],
     /// The models for which there are already notes on missing columns.
     models: ArrayVec<Option<Model>, 4>,
@@ -27,7 +27,7 @@ impl Found {
         }
     }
 
-    /// Says which columns the row needs, but the table lacks. This is said only at the first row of each model.
+    /// Names the columns that the row needs, but the table lacks. Only the first row of each model gets these words.
     pub fn missing(&mut self, head: &Head<'_>, row: &ByteRecord) -> Words {
         match row_model(head.options(), head.columns(), row) {
             Some(model) if !self.models.as_slice().contains(&Some(model)) => {

@@ -4,8 +4,8 @@ use crate::options::TableOptions;
 use csv::ByteRecord;
 use std::alloc::Global;
 
-/// The values that are the same for the notes on each row of a table. These are the options, the columns, and the first
-/// row, which has the columns' names.
+/// The values that are the same for the notes on each row of a table: the options, the columns, and the first row,
+/// which has the columns' names.
 #[derive(Drop)]
 pub struct Head<'a> {
     alloc: Global,
@@ -75,7 +75,7 @@ impl<'a> Head<'a> {
     }
 }
 
-/// A row, and its place, with which each line about the row begins.
+/// A row, and the words for its place. Each line about the row begins with these words.
 #[derive(Drop)]
 pub struct PlacedRow<'a> {
     place: &'a [u8],

@@ -1,4 +1,5 @@
-//! Says which columns a table lacks, which are misnamed, or why its first row names none.
+//! The words that say which columns a table lacks, which columns are misnamed, or why the first row has no column
+//! names.
 use super::head::Head;
 use super::note::option_name;
 use super::words::Words;
@@ -9,7 +10,7 @@ use crate::near_names::{ALL_CELLS, is_near_name, near_column};
 use crate::row::places_of;
 use kd_tables::Model;
 
-/// The columns that each table needs, unless an option replaces them.
+/// The columns that every table needs, unless an option replaces them.
 static NEEDED: [Cell; 2] = [Cell::Day, Cell::Model];
 
 /// Columns that most tables have. Their names show the language of the table.
@@ -21,7 +22,8 @@ static OFTEN_NAMED: [Cell; 5] = [
     Cell::Bars,
 ];
 
-/// Says which columns are misnamed, and which the table lacks that any table needs, or why its first row names none.
+/// Names the misnamed columns, and the columns that every table needs, but this table lacks. If the first row has no
+/// column names, and none is nearly such a name, says why.
 pub fn head_words(head: &Head<'_>) -> Words {
     let mut lines = Words::new();
     for cell in &ALL_CELLS {
@@ -35,7 +37,8 @@ pub fn head_words(head: &Head<'_>) -> Words {
     lines
 }
 
-/// Says which columns are missing that a day of `model` needs. If the first row has no column names, says nothing.
+/// Names the columns that a day of `model` needs, but this table lacks. If the first row has no column names, says
+/// nothing.
 pub fn missing_of_model(head: &Head<'_>, model: Model) -> Words {
     let mut lines = Words::new();
     if !names_none(head.columns()) {
@@ -44,7 +47,8 @@ pub fn missing_of_model(head: &Head<'_>, model: Model) -> Words {
     lines
 }
 
-/// Asks whether the column of `cell` was meant by a name that is nearly its own, if the table lacks the column.
+/// Asks whether a column with nearly the right name is meant to be the column of `cell`. Says nothing if the table has
+/// the column of `cell`, or if there is no such column.
 fn tell_near(lines: &mut Words, head: &Head<'_>, cell: Cell) {
     if column_of(head.columns(), cell).is_none()
         && let Some(column) = near_column(head.columns(), head.names(), cell)
@@ -60,7 +64,7 @@ fn tell_near(lines: &mut Words, head: &Head<'_>, cell: Cell) {
     }
 }
 
-/// Whether the first row has no name of a column that is read.
+/// Whether the first row names none of the columns that are read.
 fn names_none(columns: &Columns) -> bool {
     are_missing(&places_of(columns)) && are_missing(&columns.pins)
 }
@@ -90,7 +94,7 @@ fn is_utf16(cell: &[u8]) -> bool {
     matches!(cell, [0xFF, 0xFE, ..] | [0xFE, 0xFF, ..])
 }
 
-/// Whether `cell` begins with `sep=`, by which some programs know the separator of cells.
+/// Whether `cell` begins with `sep=`, which tells some programs the separator of cells.
 fn says_separator(cell: &[u8]) -> bool {
     if cell.len() < 4 {
         return false;
@@ -99,7 +103,7 @@ fn says_separator(cell: &[u8]) -> bool {
     is_named("sep=", start)
 }
 
-/// The name of the column of `cell` that was meant by `name`, which is nearly it.
+/// The name of the column of `cell` that `name` nearly is.
 fn meant_name(cell: Cell, name: &[u8]) -> &'static str {
     if is_near_name(name, english_name(cell)) {
         english_name(cell)
@@ -110,7 +114,7 @@ fn meant_name(cell: Cell, name: &[u8]) -> &'static str {
     }
 }
 
-/// Says which columns of `cells` the table lacks, but for those that are misnamed.
+/// Names each column of `cells` that is needed, but missing in the table. Misnamed columns are left out.
 fn tell_missing(lines: &mut Words, head: &Head<'_>, cells: &[Cell]) {
     for cell in cells {
         if !is_optional(*cell)
@@ -138,7 +142,7 @@ fn missing_column(lines: &mut Words, head: &Head<'_>, cell: Cell) {
     lines.end();
 }
 
-/// The name of the column of `cell`, in the language of the table.
+/// The name of the column of `cell`, in the language in which the table's columns are named.
 fn name_of(head: &Head<'_>, cell: Cell) -> &'static str {
     if is_german(head) {
         german_name(cell)
@@ -147,7 +151,7 @@ fn name_of(head: &Head<'_>, cell: Cell) -> &'static str {
     }
 }
 
-/// Whether one of the columns that most tables have has a German name.
+/// Whether a column that most tables have has a German name in this table.
 fn is_german(head: &Head<'_>) -> bool {
     for cell in &OFTEN_NAMED {
         let name = cell_at(head.names(), column_of(head.columns(), *cell));

@@ -1,10 +1,10 @@
-//! The words for what is wrong with the letters of pins and pairs.
+//! The words that say what is wrong with the letters of pins and pairs.
 use super::cell_words::{TOO_LONG, item_words};
 use super::words::Words;
 use crate::items::{joined, values_in};
 use kd_tables::{Letter, place_on_wheel};
 
-/// Says that `letter` isn't on a Converter's wheel `wheel`, if so.
+/// Says that `letter` isn't on a Converter's wheel `wheel`. Says nothing if it is.
 pub fn off_wheel_words(lines: &mut Words, wheel: u8, letter: Letter) {
     if place_on_wheel(wheel, letter).is_none() {
         lines.begin();
@@ -24,7 +24,7 @@ pub fn pins_words(lines: &mut Words, text: &[u8], wheel: u8) {
     }
 }
 
-/// Says which bytes aren't letters of wheel `wheel`, and which letters are there twice.
+/// Says which bytes aren't letters of wheel `wheel`, and which letters come twice.
 fn pin_letters_words(lines: &mut Words, letters: &[u8], wheel: u8) {
     for (index, byte) in letters.iter().enumerate() {
         pin_letter_words(lines, *byte, wheel);
@@ -34,7 +34,7 @@ fn pin_letters_words(lines: &mut Words, letters: &[u8], wheel: u8) {
     }
 }
 
-/// Says that `byte` isn't a letter, or isn't on wheel `wheel`, if so.
+/// Says that `byte` isn't a letter, or isn't on wheel `wheel`. Says nothing if it is on the wheel.
 fn pin_letter_words(lines: &mut Words, byte: u8, wheel: u8) {
     match Letter::from_byte(byte) {
         Some(letter) => off_wheel_words(lines, wheel, letter),
@@ -63,7 +63,7 @@ fn twice_words(lines: &mut Words, pairs: &[(Letter, Letter)]) {
     }
 }
 
-/// Says which letters two pairs share.
+/// Says which letters the pairs `other` and `pair` both have.
 fn shared_words(lines: &mut Words, other: (Letter, Letter), pair: (Letter, Letter)) {
     let one = [other.0.byte(), other.1.byte()];
     let two = [pair.0.byte(), pair.1.byte()];

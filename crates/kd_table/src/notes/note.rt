@@ -1,4 +1,4 @@
-//! Appends lines to notes. Each line begins with the place that it is about.
+//! Appends lines to notes. Each line begins with the place that the line is about.
 ghost use Rattle.std.specs.Prelude.{◌≡◌, ◌++◌, ◌∷◌, ◌<◌, [], codes, decimal, ℕ, List, true, flat_map, length, map, IfOk};
 ghost use Rattle.std.specs.List.{slice_split};
 ghost use Rattle.kd_table.specs.Notes.{cell_name, cell_place, line_at, option_name, row_number, row_place, shown, shown_byte};
@@ -20,7 +20,7 @@ pub fn push_bytes(note: &mut Vec<u8>, bytes: &[u8]) -> Result<(), SpreadsheetFau
     Ok(())
 }
 
-/// Appends a line: a place, then the words about it.
+/// Appends a line: a place, then words about this place.
 pub fn push_line(note: &mut Vec<u8>, place: &[u8], words: &[u8]) -> Result<(), SpreadsheetFault>
     ensures { IfOk result (λ _. note.new.items ≡ note.old.items ++ line_at place.now words.now) }
 {
@@ -29,7 +29,7 @@ pub fn push_line(note: &mut Vec<u8>, place: &[u8], words: &[u8]) -> Result<(), S
     push_bytes(note, b"\n")
 }
 
-/// Appends the lines of `words`, each after the place.
+/// Appends the lines of `words`, with the place before each line.
 pub fn push_lines(note: &mut Vec<u8>, place: &[u8], words: &[u8]) -> Result<(), SpreadsheetFault>
     ensures { IfOk result (λ _. (lines : List (List ℕ)) × (0 < length lines)
         × (note.new.items ≡ note.old.items ++ flat_map (line_at place.now) lines)) }
@@ -43,7 +43,7 @@ pub fn push_lines(note: &mut Vec<u8>, place: &[u8], words: &[u8]) -> Result<(), 
     }
 }
 
-/// Appends the lines of `words`, each after the place. If there are no words, appends nothing.
+/// Appends the lines of `words`, with the place before each line. If there are no words, appends nothing.
 pub fn push_words(note: &mut Vec<u8>, place: &[u8], words: &Words) -> Result<(), SpreadsheetFault>
     ensures { IfOk result (λ _. (lines : List (List ℕ))
         × (note.new.items ≡ note.old.items ++ flat_map (line_at place.now) lines)) }
@@ -54,8 +54,8 @@ pub fn push_words(note: &mut Vec<u8>, place: &[u8], words: &Words) -> Result<(),
     push_lines(note, place, words.as_slice())
 }
 
-/// Appends the lines of `words`, each after the place. If there are no words, but a line `is_due`, appends the line
-/// `otherwise`.
+/// Appends the lines of `words`, with the place before each line. If there are no words, but a line has to be there
+/// (`is_due`), appends the line `otherwise`.
 pub fn push_due_words(
     note: &mut Vec<u8>,
     place: &[u8],
@@ -108,7 +108,7 @@ fn push_number(note: &mut Vec<u8>, number: u64, after: &[u8]) -> Result<(), Spre
     push_bytes(note, after)
 }
 
-/// Appends the words for a row's number, and for its day if that is known.
+/// Appends the words for a row's number and, if it is known, for the row's day.
 fn push_row_number(
     place: &mut Vec<u8>,
     number: u64,
@@ -125,7 +125,7 @@ fn push_row_number(
     }
 }
 
-/// The words for a row's place: its number, and its day if that is known.
+/// The words for a row's place: its number and, if it is known, its day.
 pub fn row_place(alloc: Global, number: u64, day: Option<u8>) -> Result<Vec<u8>, SpreadsheetFault>
     ensures { IfOk result (λ place. place.items ≡ row_place number day) }
 {
@@ -158,7 +158,7 @@ fn push_cell_name(place: &mut Vec<u8>, head: &Head<'_>, cell: Cell) -> Result<()
     }
 }
 
-/// The words for a cell's place: its row, and its column's name.
+/// The words for a cell's place: the words `row` for the row's place, and the name of the cell's column.
 pub fn cell_place(head: &Head<'_>, row: &[u8], cell: Cell) -> Result<Vec<u8>, SpreadsheetFault>
     ensures { IfOk result (λ place. place.items
         ≡ cell_place head.now.columns head.now.names row.now cell) }

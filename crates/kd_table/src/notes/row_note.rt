@@ -19,7 +19,7 @@ use crate::items::is_blank;
 use crate::row::row_day;
 use csv::ByteRecord;
 
-/// Whether the text of `cell` can't be read, though the table has the column of `cell`, or an option for it.
+/// Whether the table has the column of `cell` or an option for it, but the text of `cell` can't be read.
 fn is_faulty(head: &Head<'_>, row: &PlacedRow<'_>, cell: Cell) -> bool
     ensures { result ≡ is_faulty head.now.options head.now.columns row.now.cells cell }
 {
@@ -79,7 +79,7 @@ fn push_cells(
     Ok(())
 }
 
-/// The cells of a row that depend on the row's model. None if the model's name can't be read.
+/// The cells of a row that depend on the row's model. No cells if the model's name can't be read.
 fn cells_of_row(head: &Head<'_>, row: &PlacedRow<'_>) -> &'static [Cell]
     ensures { result.now ≡ option_map_or cells_of
         (row_model head.now.options head.now.columns row.now.cells) [] }
@@ -105,7 +105,7 @@ fn push_row_cells(
     push_cells(note, head, row, known)
 }
 
-/// Says before which column a row ends too early, or which texts stand beyond the last column.
+/// Says before which column a row ends, or which texts stand beyond the last column.
 fn end_words(head: &Head<'_>, row: &ByteRecord) -> Words {
     let mut lines = Words::new();
     let count = head.columns().count;
@@ -139,7 +139,7 @@ fn is_untold(head: &Head<'_>, row: &ByteRecord, start: usize, end: usize) -> boo
     }
 }
 
-/// The words for a row's place: its number, and its day if that is known.
+/// The words for a row's place: its number and, if it is known, its day.
 fn place_of_row(head: &Head<'_>, number: u64, row: &ByteRecord) -> Result<Vec<u8>, SpreadsheetFault>
     ensures { IfOk result (λ place. place.items
         ≡ row_place number (day_in (cell_at head.now.columns.day (fields_of row.now)))) }
@@ -171,7 +171,7 @@ fn push_placed_row(
     )
 }
 
-/// Appends the notes on a row that isn't blank. `found` takes up the row's day and its model.
+/// Appends the notes on a row that isn't blank. Adds the row's day and model to `found`.
 pub fn push_row(
     note: &mut Vec<u8>,
     found: &mut Found,

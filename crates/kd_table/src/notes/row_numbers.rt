@@ -1,4 +1,5 @@
-//! Numbers the rows of a table as a spreadsheet does. Empty rows count, and line ends in quoted cells don't end a row.
+//! Numbers the rows of a table as a spreadsheet does. Empty rows are counted, and a line end in a quoted cell doesn't
+//! end a row.
 ghost use Rattle.std.specs.Prelude.{◌≡◌, MatchOption, false};
 ghost use Rattle.kd_table.specs.RowNumbers.{AreLineEnds, AtStart, IsCounted, IsNext, IsRowBefore, StartsRow};
 ghost use Rattle.kd_table.specs.RowNumbers.{ends_line, numbers_from, numbers_left};
@@ -14,7 +15,7 @@ pub struct RowNumbers<'a> {
 }
 
 impl<'a> RowNumbers<'a> {
-    /// All of `table`, which begins with row 1.
+    /// The whole of `table`, whose first row has the number 1.
     pub fn new(separator: u8, table: &'a [u8]) -> Self
         ensures left { numbers_left result ≡ numbers_from separator (AtStart false) 1 table.now }
         ensures counted { IsCounted result }
@@ -40,7 +41,7 @@ impl<'a> RowNumbers<'a> {
     }
 }
 
-/// The bytes after the line end with which `rest` begins: CR, LF or both. `None` if it doesn't begin with one.
+/// The bytes after the line end at the start of `rest`: CR, LF or both. `None` if `rest` doesn't begin with a line end.
 fn after_line_end(rest: &[u8]) -> Option<&[u8]>
     ensures { MatchOption result
         (StartsRow rest.now)
@@ -59,7 +60,7 @@ fn ends_line(byte: u8) -> bool
     byte == 13 || byte == 10
 }
 
-/// The number of empty rows with which `rest` begins, and the bytes after them.
+/// The number of empty rows at the start of `rest`, and the bytes after these rows.
 fn skip_empty(rest: &[u8]) -> (u64, &[u8])
     ensures skipped { AreLineEnds rest.now result.0 result.1.now }
     ensures starts { StartsRow result.1.now }

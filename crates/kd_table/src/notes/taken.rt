@@ -1,4 +1,4 @@
-//! The note on a table that means days.
+//! The note on a table that isn't refused.
 ghost use Rattle.std.specs.Prelude.{◌≡◌, codes, map, IfOk};
 ghost use Rattle.std.specs.String.{string_bytes};
 ghost use Rattle.csv.specs.Records.{fields_of};
@@ -13,7 +13,7 @@ use kd_slips::counts::{DayCounts, counts_of, few_lines};
 use kd_state::SheetDay;
 use std::alloc::Global;
 
-/// How many pairs and groups these days have.
+/// The numbers of pairs and groups of these days.
 fn counts_of_days(alloc: Global, days: &[SheetDay]) -> Result<Vec<DayCounts>, SpreadsheetFault>
     ensures { IfOk result (λ counts. counts.items ≡ map counts_of days.now) }
 {
@@ -26,7 +26,7 @@ fn counts_of_days(alloc: Global, days: &[SheetDay]) -> Result<Vec<DayCounts>, Sp
     Ok(counts)
 }
 
-/// The lines on days that have fewer pairs, or fewer groups, than another day of their model.
+/// The warnings about days that have fewer pairs, or fewer groups, than another day of their model.
 fn few_note(alloc: Global, days: &[SheetDay]) -> Result<String, SpreadsheetFault>
     ensures { IfOk result (λ lines. string_bytes lines
         ≡ few_lines (codes "warning: ") (map counts_of days.now)) }
@@ -35,7 +35,7 @@ fn few_note(alloc: Global, days: &[SheetDay]) -> Result<String, SpreadsheetFault
     Ok(few_lines(alloc, "warning: ", counts.as_slice())?)
 }
 
-/// The note on a table whose first row is `names`, and that means `days`.
+/// The note on a table that isn't refused, with the first row `names` and the days `days`.
 #[tactic(auto, unfolding(crate::specs::Notes::taken_note))]
 pub fn taken_note(
     alloc: Global,

@@ -1,4 +1,4 @@
-//! The note on the columns that aren't read.
+//! The notes on unread columns.
 ghost use Rattle.std.specs.Prelude.{◌≡◌, ◌++◌, ◌+◌, ◌≤◌, flat_map, IfOk};
 ghost use Rattle.std.specs.List.{range_with_len};
 ghost use Rattle.csv.specs.Records.{fields_of};
@@ -13,7 +13,7 @@ use crate::row::is_column_read;
 use csv::ByteRecord;
 use std::alloc::Global;
 
-/// Appends the line on the column at `place`, if it has a name, and isn't read.
+/// Appends the note on the column at `place`, if the column has a name, but isn't read.
 fn push_unread_line(
     note: &mut Vec<u8>,
     columns: &Columns,

@@ -5,13 +5,13 @@ ghost use Rattle.kd_table.specs.Notes.{shown_byte};
 use arrayvec::ArrayVec;
 use itoa::Buffer;
 
-/// The most bytes of a cell that are shown.
+/// The greatest number of bytes that are shown of a cell.
 const SHOWN: usize = 60;
 
-/// The most bytes in lines of words.
+/// The greatest number of bytes that lines of words may have.
 const ROOM: usize = 2048;
 
-/// The last line if there is no room for all lines.
+/// The last line, which stands there if there is no room for all lines.
 const MORE: &[u8] = b"\nfurther faults aren't told";
 
 /// Lines of words, with line ends between them. If there is no room for a line, this line and all later lines are left
@@ -86,8 +86,8 @@ impl Words {
         self.add(buffer.format(number));
     }
 
-    /// Appends the text of a cell to the current line. `?` stands for bytes that can't be printed. If the cell is long,
-    /// only its start is appended.
+    /// Appends the text of a cell to the current line. `?` stands for each byte that can't be printed and, in a long
+    /// cell, for each byte outside of ASCII. Only the start of a long cell is appended.
     pub fn add_cell(&mut self, cell: &[u8]) {
         let is_long = cell.len() > SHOWN;
         for byte in cell.iter().take(SHOWN) {
