@@ -18,7 +18,7 @@ abbrev pub rotor_pattern : ℕ → List ℕ
 rotor_pattern slots = line_of (codes "PART" ∷ blank_places slots ∷ blank_places slots ∷ blank_places 2
     ∷ blank_places 3 ∷ [])
 
--- the pattern of a line of keys on the Converter M-209
+-- the pattern of a line in an order that gives a part's keys on the Converter M-209
 abbrev pub pin_pattern : List ℕ
 pin_pattern = line_of (codes "PART" ∷ blank_places 1 ∷ blank_places 6 ∷ [])
 

@@ -38,8 +38,8 @@ IsFeedAnswer m old new byte made answer =
     → MatchResult answer (λ _. HasReadSoFar m new (bytes ++ byte ∷ []) (text ++ made))
     (HasFaultForGood m (bytes ++ byte ∷ []) text)
 
--- At the end of the message, the reader outputs `made`: the rest of the result, or the rest of the text before the
--- fault.
+-- At the end of the message, the reader outputs `made`: the rest of the result. If the message has a fault, `made` is the
+-- rest of the text before the fault.
 abbrev pub IsEndAnswer : Message → (List ℕ → List ℕ → Type 0) → List ℕ → Result (Unit {0}) FormFault → Type 0
 IsEndAnswer m old made answer = (bytes text : List ℕ) → HasReadSoFar m old bytes text
     → IsMessageAnswer m bytes (text ++ made) answer

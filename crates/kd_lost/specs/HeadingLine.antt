@@ -1,6 +1,6 @@
--- Which lines of a damaged form are taken for headings. Such a line begins like `PART`. It also has a digit or a slash,
--- or a lost sign at the start of its second word. So a wrong sign in a body begins no part. A heading begins one even
--- if some of its signs are lost or wrong.
+-- Which lines of a damaged form are taken for headings. Such a line begins like `PART`. It also has a digit or a slash
+-- anywhere, or a lost sign at the start of its second word. So a wrong sign in a body begins no part, but a heading begins
+-- a part even if some of the heading's signs are lost or wrong.
 -- Test: tests/cases/curator-messages.toml
 use Rattle.std.specs.Prelude.{codes, ℕ, ◌+◌, ◌==◌, ◌&&◌, ◌||◌, nat_le, Bool, false, true, if◌then◌else◌, List, [], ◌∷◌}
 use Rattle.std.specs.Prelude.{Option, None, Some, drop, is_some, length, map, not, slice_get, take}

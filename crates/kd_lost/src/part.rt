@@ -52,7 +52,8 @@ pub struct DamagedPart {
     pub by_count: Option<DamagedText>,
     /// The first line of the body that has letters, but not 50, though letters follow it. `None` if there is none.
     pub short_line: Option<ShortLine>,
-    /// The number of the first group that doesn't have five letters, though letters follow it. `None` if there is none.
+    /// The number of the first group that doesn't have five letters, though letters follow the group. `None` if each group
+    /// but the last has five letters.
     pub short_group: Option<usize>,
     /// Whether needless blanks in the part's first line were dropped. They are dropped if the line isn't a heading
     /// otherwise.

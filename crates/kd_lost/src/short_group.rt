@@ -1,4 +1,4 @@
-//! The first group of a body that doesn't have five letters, though letters follow it.
+//! The first *short group* of a body: it doesn't have five letters, though letters follow the group.
 ghost use Rattle.std.specs.Prelude.{◌≡◌, ◌≤◌, ◌^◌, ◌+◌, ◌<◌, if◌then◌else◌, is_some};
 ghost use Rattle.kd_lost.specs.Lost.{received_letter};
 ghost use Rattle.kd_lost.specs.ShortGroup.{IsFirstShortGroup};
@@ -6,7 +6,8 @@ ghost use Rattle.kd_lost.specs.ShortGroup.{IsFirstShortGroup};
 use crate::received::is_received;
 use crate::short_line::letters_on;
 
-/// The number, counted from 1, of the first group of `body` that doesn't have five letters, though letters follow it.
+/// The number, counted from 1, of the first group in `body` that doesn't have five letters, though letters follow the
+/// group.
 pub(crate) fn first_short_group(body: &[u8]) -> Option<usize>
     ensures { IsFirstShortGroup body.now result }
 {

@@ -337,8 +337,8 @@ pub const REFLECTOR: Text = (
 
 pub const PLUG: &str = "<td><label><input type=checkbox> <b>~</b> <code>~</code></label>";
 
-/// A checkbox for a pin: its letter, its mark, and the way to set it. The beginning of the setting's line stands only
-/// once, in the head of the wheel.
+/// A checkbox for a pin: its letter, its mark, and the way to set it. The words with which all settings of a wheel's pins
+/// begin, such as `PIN 3`, stand in the heading above.
 pub const PIN: &str = "<label><input type=checkbox><b>~</b><br>~<small>~</small></label>";
 
 pub const ON: Text = ("ON", "EIN");

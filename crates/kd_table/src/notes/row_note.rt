@@ -19,7 +19,7 @@ use crate::items::is_blank;
 use crate::row::row_day;
 use csv::ByteRecord;
 
-/// Whether the table has the column of `cell` or an option for it, but the text of `cell` can't be read.
+/// Whether the text of `cell` can't be read, though there is a column or an option for the cell.
 fn is_faulty(head: &Head<'_>, row: &PlacedRow<'_>, cell: Cell) -> bool
     ensures { result ≡ is_faulty head.now.options head.now.columns row.now.cells cell }
 {
