@@ -6,7 +6,7 @@ use Rattle.std.specs.List.{Contains}
 use Rattle.kd_lost.specs.declared.part.{DamagedPart.{DamagedPart}, PartNumbers.{PartNumbers}}
 use Rattle.kd_lost.specs.Laws.{RepetitionsAgree}
 use Rattle.kd_lost.specs.OneMessage.{agrees_with_each, are_of_one_message, bodies_agree, headings_agree, numbers_agree}
-use Rattle.kd_lost.specs.OneMessage.{ends_within, heading_repeats, parts_agree, texts_agree}
+use Rattle.kd_lost.specs.OneMessage.{ends_within, frames_agree, parts_agree, texts_agree}
 
 pub first_or_later : {X : Type 0} (one : X) (others : List X) (x : X) → Contains (one ∷ others) x
     → (one ≡ x) ⊎ Contains others x
@@ -45,7 +45,7 @@ pub repetitions_agree : RepetitionsAgree
 repetitions_agree before after one other numbers again agree there is its same =
     let both = and_parts (agrees_with_each one after) (are_of_one_message after) (later_parts before (one ∷ after) agree) in
     let bodies = bodies_agree one.body.items other.body.items in
-    let texts = texts_agree one.text other.text && (ends_within one other && (ends_within other one && heading_repeats one other)) in
+    let texts = texts_agree one.text other.text && (ends_within one other && (ends_within other one && frames_agree one other)) in
     let headings : headings_agree (Some numbers) (Some again) (bodies && texts) ≡ true =
     (λ i. headings_agree (sym is i) (sym its i) (bodies && texts)) ∙ agree_with_it one other after both.0 there in
     (and_parts bodies texts (same_number_agree numbers again (bodies && texts) same headings)).0

@@ -14,7 +14,7 @@ use Rattle.kd_lost.specs.declared.form.DamagedFormFault.{DamagedFormFault}
 use Rattle.kd_lost.specs.declared.form.DamagedFormFault.TheVariants as faults
 use Rattle.kd_lost.specs.declared.part.{DamagedPart.{DamagedPart}, PartNumbers.{PartNumbers}}
 use Rattle.kd_lost.specs.ByCount.{IsByCount}
-use Rattle.kd_lost.specs.DamagedPart.{AreNumbersRead, IsDamagedHeading, IsDamagedTextAnswer, IsPartShown, body_letters, body_of}
+use Rattle.kd_lost.specs.DamagedPart.{AreNumbersRead, IsDamagedHeading, IsDamagedTextAnswer, IsPartShown, IsPartTest, body_letters, body_of}
 use Rattle.kd_lost.specs.DamagedPart.{first_line}
 use Rattle.kd_lost.specs.HeadingLine.{heading_signs, is_heading_line, is_order}
 use Rattle.kd_lost.specs.Lines.{heading_line, line_breaks}
@@ -78,6 +78,7 @@ pub record IsReadAs (s : Day) (part : List ℕ) (read : DamagedPart) : Type 0 wh
   pub heading : read.heading.bytes ≡ heading_signs (first_line part)
   pub came : read.came ≡ length (received_letters (body_of part))
   pub body : read.body.items ≡ body_letters (body_of part)
+  pub group : IsPartTest s given read.body.items read.group
   pub text : IsDamagedTextAnswer s part read.text
   pub shown : IfOk read.text (IsPartShown s part)
   pub by_count : IsByCount s part given read

@@ -13,10 +13,12 @@ use Rattle.kd_form.specs.Part.{heading_words}
 use Rattle.kd_lost.specs.declared.damage.PartDamage.{PartDamage}
 use Rattle.kd_lost.specs.declared.damage.PartDamage.TheVariants.{HeadingDamaged, HeadingKeyLost, BadByte, CountWrong}
 use Rattle.kd_lost.specs.declared.damaged_text.DamagedText.{DamagedText}
+use Rattle.kd_lost.specs.declared.damaged_text.GroupTest.{GroupTest}
+use Rattle.kd_lost.specs.declared.damaged_text.GroupTest.TheVariants.{NotTested}
 use Rattle.kd_lost.specs.declared.part.PartNumbers.{PartNumbers}
 use Rattle.kd_lost.specs.Lost.{IsCompletion, meant_byte, covered, is_lost, received_letter, received_letters}
 use Rattle.kd_lost.specs.WholePart.{IsPartText}
-use Rattle.kd_lost.specs.DamagedText.{IsDamagedLettersAnswer, text_part}
+use Rattle.kd_lost.specs.DamagedText.{IsBodyTest, IsDamagedLettersAnswer, text_part}
 
 -- ---- The lines of a part.
 
@@ -65,6 +67,12 @@ abbrev pub AreNumbersRead : Day → List ℕ → Option PartNumbers → Type 0
 AreNumbersRead s line numbers =
     MatchOption numbers ((h : Heading) → ¬ (IsDamagedHeading s line h))
     (λ given. (h : Heading) × IsDamagedHeading s line h × (given ≡ numbers_of h))
+
+-- `test` says whether the group or the list letters in `body` are the day's. Without numbers in the heading, they aren't
+-- tested.
+abbrev pub IsPartTest : Day → Option PartNumbers → List (Option ℕ) → GroupTest → Type 0
+IsPartTest s None body test = test ≡ NotTested
+IsPartTest s (Some numbers) body test = IsBodyTest s numbers.letters body test
 
 -- The answer for the body of a part with the heading `h`.
 abbrev pub IsDamagedBodyAnswer : Day → Heading → List ℕ → AnswerRule PartDamage DamagedText

@@ -1,15 +1,16 @@
 -- How the letters of a body are tested and deciphered, if some of these letters were lost.
 -- Test: tests/messages-as-worked
-use Rattle.std.specs.Prelude.{◌≡◌, ◌⊎◌, ◌↔◌, ℕ, ◌-◌, List, [], ◌∷◌, length, map, take, drop, Any, IsTrue}
+use Rattle.std.specs.Prelude.{◌≡◌, ◌⊎◌, ◌↔◌, ℕ, ◌-◌, ◌<◌, ◌≤◌, ◌==◌, if◌then◌else◌, List, [], ◌∷◌, length, map, take, drop, Any, IsTrue}
 use Rattle.std.specs.Prelude.{Option, Some, None, Ok}
 use Rattle.std.specs.List.{slice_range}
 use Rattle.kd_state.specs.AnswerRules.{AnswerRule, ◌>>=◌, Finds, Demands, FindsAlways}
-use Rattle.kd_state.specs.SheetDay.{Day, AreADaysGroup}
+use Rattle.kd_state.specs.SheetDay.{Day, AreADaysGroup, Pin, Rotor, RotorDay}
 use Rattle.kd_state.specs.EngineKey.{IsWindow}
 use Rattle.kd_state.specs.OwnKeys.{sheet_key}
 use Rattle.kd_form.specs.declared.heading.Indicator.{Indicator}
 use Rattle.kd_form.specs.BodyCipher.{HasIndicator, deciphered_key}
 use Rattle.kd_form.specs.InternalKey.{IsInternalKey}
+use Rattle.kd_form.specs.KeyPatterns.{IsConverterDay}
 use Rattle.arrayvec.specs.ArrayVec.{ArrayVec}
 use Rattle.kd_form.specs.declared.keys.PinKeys.{PinKeys}
 use Rattle.kd_form.specs.PartMaking.{cipher_from, enciphered_choice, list_letters}
@@ -52,6 +53,27 @@ pub data IsListTest (due : List ℕ) (start end : List (Option ℕ)) (test : Gro
       → IsListTest due start end test
   ListRight : Completes start due → Completes end due → ¬ (IsLostInBoth start end) → test ≡ tests.Right
       → IsListTest due start end test
+
+-- how many letters of a body stand before its text: the group and two fillers, or the first copy of the indicators
+abbrev pub front_letters : Day → ℕ
+front_letters (Rotor s) = 5
+front_letters (Pin s) = 10
+
+-- The last two letters of a Converter's body. If other than `counted` letters came, they count as lost: the body's end
+-- may be missing.
+abbrev pub last_letters : ℕ → List (Option ℕ) → List (Option ℕ)
+last_letters counted body =
+    if length body == counted then drop (length body - 2) body else None ∷ None ∷ []
+
+-- `test` is the result of comparing the group or the list letters in `body`, the letters of a part, with the day's. The
+-- part may be one that isn't read. Its heading counts `counted` letters.
+pub data IsBodyTest (s : Day) (counted : ℕ) (body : List (Option ℕ)) (test : GroupTest) : Type 0 where
+  FrontMissing : length body < front_letters s → test ≡ tests.NotTested → IsBodyTest s counted body test
+  GroupTested : (d : RotorDay) → s ≡ Rotor d → front_letters s ≤ length body
+      → IsGroupTest s (slice_range body 2 5) test → IsBodyTest s counted body test
+  ListTested : IsConverterDay s → front_letters s ≤ length body
+      → IsListTest (list_letters s) (slice_range body 8 10) (last_letters counted body) test
+      → IsBodyTest s counted body test
 
 -- `lost` says which copies of the indicators have a lost letter. One copy is the first ten letters, the other copy the
 -- last ten.

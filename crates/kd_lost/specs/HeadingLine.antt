@@ -43,15 +43,28 @@ begins_with_part bytes =
     nat_le 2 (right_signs (codes "PART") bytes) && nat_le 3 (fitting_signs (codes "PART") bytes)
     && not (is_letter (slice_get bytes 4))
 
--- whether the first three signs of `bytes` are `PART` without one letter
-abbrev pub has_three : List ℕ → Bool
-has_three bytes =
-    nat_le 3 (right_signs (codes "ART") bytes) || nat_le 3 (right_signs (codes "PRT") bytes)
-    || nat_le 3 (right_signs (codes "PAT") bytes) || nat_le 3 (right_signs (codes "PAR") bytes)
+-- whether `bytes` begin with `word`, and no letter follows
+abbrev pub begins_with_word : List ℕ → List ℕ → Bool
+begins_with_word word bytes =
+    right_signs word bytes == length word && not (is_letter (slice_get bytes (length word)))
 
 -- whether `bytes` begin with `PART` without one of its letters, and no letter follows
 abbrev pub begins_with_three : List ℕ → Bool
-begins_with_three bytes = has_three bytes && not (is_letter (slice_get bytes 3))
+begins_with_three bytes =
+    begins_with_word (codes "ART") bytes || begins_with_word (codes "PRT") bytes
+    || begins_with_word (codes "PAT") bytes || begins_with_word (codes "PAR") bytes
+
+-- whether `bytes` begin with `PART` with two neighbouring letters exchanged, and no letter follows
+abbrev pub begins_exchanged : List ℕ → Bool
+begins_exchanged bytes =
+    begins_with_word (codes "APRT") bytes || begins_with_word (codes "PRAT") bytes
+    || begins_with_word (codes "PATR") bytes
+
+-- whether `bytes` begin with `PART` with a blank between two of its letters, and no letter follows
+abbrev pub begins_with_blank : List ℕ → Bool
+begins_with_blank bytes =
+    begins_with_word (codes "P ART") bytes || begins_with_word (codes "PA RT") bytes
+    || begins_with_word (codes "PAR T") bytes
 
 -- whether `bytes` begin with `front`, then any letter, then `back`
 abbrev pub begins_apart : List ℕ → List ℕ → List ℕ → Bool
@@ -59,13 +72,14 @@ begins_apart front back bytes =
     is_letter (slice_get bytes (length front))
     && (right_signs front bytes == length front && right_signs back (drop (length front + 1) bytes) == length back)
 
--- whether the first five signs of `bytes` are `PART` with one more letter before its T
+-- whether the first five signs of `bytes` are `PART` with one more letter
 abbrev pub has_five : List ℕ → Bool
 has_five bytes =
     begins_apart [] (codes "PART") bytes || begins_apart (codes "P") (codes "ART") bytes
     || begins_apart (codes "PA") (codes "RT") bytes || begins_apart (codes "PAR") (codes "T") bytes
+    || begins_apart (codes "PART") [] bytes
 
--- whether `bytes` begin with `PART` with one more letter before its T, and no sixth letter follows
+-- whether `bytes` begin with `PART` with one more letter, and no sixth letter follows
 abbrev pub begins_with_five : List ℕ → Bool
 begins_with_five bytes = has_five bytes && not (is_letter (slice_get bytes 5))
 
@@ -79,7 +93,8 @@ has_digit_line (byte ∷ bytes) =
 abbrev pub is_part_line : List ℕ → Bool
 is_part_line bytes =
     begins_with_part (after_blanks bytes) || begins_with_three (after_blanks bytes)
-    || begins_with_five (after_blanks bytes)
+    || begins_with_five (after_blanks bytes) || begins_exchanged (after_blanks bytes)
+    || begins_with_blank (after_blanks bytes)
 
 -- how many letters or lost signs stand at the beginning of `bytes`
 abbrev pub leading_signs : List ℕ → ℕ

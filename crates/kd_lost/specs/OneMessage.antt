@@ -1,12 +1,13 @@
 -- Whether the parts of a received form are of one message.
 use Rattle.std.specs.Prelude.{ℕ, ◌==◌, ◌&&◌, ◌||◌, not, Bool, true, false, List, [], ◌∷◌, Option, Some, None}
-use Rattle.std.specs.Prelude.{Result, Ok, Err, is_err, length, nat_le}
+use Rattle.std.specs.Prelude.{Result, Ok, Err, is_err, is_none, length, nat_le}
 use Rattle.kd_lost.specs.declared.damage.PartDamage.{PartDamage}
 use Rattle.kd_lost.specs.declared.damaged_text.{DamagedText.{DamagedText}, TextKeys.{TextKeys}}
 use Rattle.kd_lost.specs.declared.damaged_text.TextKeys.TheVariants as text_keys
 use Rattle.kd_lost.specs.declared.part.{DamagedPart.{DamagedPart}, PartNumbers.{PartNumbers}}
 use Rattle.kd_lost.specs.ByCount.{first_word, later_words}
 use Rattle.kd_lost.specs.Lost.{is_lost}
+use Rattle.kd_lost.specs.Texts.{is_of_other_day, shown_text}
 
 -- ---- Two parts that were read.
 
@@ -94,12 +95,26 @@ counts_agree one other =
 abbrev pub heading_repeats : DamagedPart → DamagedPart → Bool
 heading_repeats one other = counts_agree one other && keys_agree one other
 
+-- whether `one` isn't read, and is of another day than `other`, as its group or its list letters show
+abbrev pub is_stranger : DamagedPart → DamagedPart → Bool
+is_stranger one other =
+    is_none (shown_text one) && (is_of_other_day one && not (is_of_other_day other))
+
+-- whether the groups or the list letters of two parts may be of one day
+abbrev pub days_agree : DamagedPart → DamagedPart → Bool
+days_agree one other = not (is_stranger one other) && not (is_stranger other one)
+
+-- whether the headings of two parts may be one heading, sent twice, and the parts may be of one day
+abbrev pub frames_agree : DamagedPart → DamagedPart → Bool
+frames_agree one other = heading_repeats one other && days_agree one other
+
 -- Whether two parts may be one part, sent twice. Their bodies agree, and so do the counts and the keys in their
--- headings. If both parts are read, their texts agree. If one part is read, the other part doesn't have more letters.
+-- headings, and their days. If both parts are read, their texts agree. If one part is read, the other part doesn't have
+-- more letters.
 abbrev pub may_repeat : DamagedPart → DamagedPart → Bool
 may_repeat one other =
     bodies_agree one.body.items other.body.items
-    && (texts_agree one.text other.text && (ends_within one other && (ends_within other one && heading_repeats one other)))
+    && (texts_agree one.text other.text && (ends_within one other && (ends_within other one && frames_agree one other)))
 
 -- ---- The parts of a form.
 

@@ -1,13 +1,12 @@
 -- Which part of a received form is shown under each number, and whether the form is one whole message.
 use Rattle.std.specs.Prelude.{◌≡◌, ◌≢◌, ℕ, ◌<◌, ◌==◌, if◌then◌else◌, List, [], ◌∷◌, All, Option, None, Some}
-use Rattle.std.specs.Prelude.{MatchOption, Ok, IfSome, IsTrue, is_err, is_ok, is_some, nat_le, nat_lt, ◌&&◌, ◌||◌}
+use Rattle.std.specs.Prelude.{MatchOption, Ok, IsFalse, IsTrue, is_err, is_ok, is_some, nat_le, nat_lt, ◌&&◌, ◌||◌}
 use Rattle.std.specs.Prelude.{Bool, true, false}
 use Rattle.std.specs.List.{count_by, range_with_len}
 use Rattle.kd_lost.specs.declared.damaged_text.DamagedText.{DamagedText}
-use Rattle.kd_lost.specs.declared.damaged_text.GroupTest.TheVariants.{Wrong}
 use Rattle.kd_lost.specs.declared.part.{DamagedPart.{DamagedPart}, PartNumbers.{PartNumbers}}
 use Rattle.kd_lost.specs.OneMessage.{are_of_one_message}
-use Rattle.kd_lost.specs.Texts.{lost_in, shown_text, text_within}
+use Rattle.kd_lost.specs.Texts.{is_of_other_day, lost_in, shown_text, text_within}
 
 -- ---- Numbers. Only a heading gives them: a part with a damaged heading has no number.
 
@@ -113,9 +112,9 @@ IsReadWhole part =
 abbrev pub IsNumberWhole : List DamagedPart → ℕ → Type 0
 IsNumberWhole parts number = MatchOption (shown_under parts number) ⊥ IsReadWhole
 
--- Neither the group nor the list letters show that the part is of another day or network.
+-- Neither the group nor the list letters show that the part, be it read or not, is of another day or network.
 abbrev pub MayBeOfTheDay : DamagedPart → Type 0
-MayBeOfTheDay part = IfSome (shown_text part) (λ shown. shown.group ≢ Wrong)
+MayBeOfTheDay part = IsFalse (is_of_other_day part)
 
 -- The form is one whole message. The parts are shown as one message. Each part has a number, and no part is of another
 -- day or network. Under each number, from 1 to the number of parts, a text without a lost letter is shown.

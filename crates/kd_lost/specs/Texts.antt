@@ -3,7 +3,8 @@ use Rattle.std.specs.Prelude.{ℕ, ◌==◌, ◌&&◌, nat_le, Bool, true, false
 use Rattle.std.specs.Prelude.{Result, Ok, Err}
 use Rattle.std.specs.List.{count_by}
 use Rattle.kd_lost.specs.declared.damage.PartDamage.{PartDamage}
-use Rattle.kd_lost.specs.declared.damaged_text.DamagedText.{DamagedText}
+use Rattle.kd_lost.specs.declared.damaged_text.{DamagedText.{DamagedText}, GroupTest.{GroupTest}}
+use Rattle.kd_lost.specs.declared.damaged_text.GroupTest.TheVariants as tests
 use Rattle.kd_lost.specs.declared.part.DamagedPart.{DamagedPart}
 
 -- the text or, if there is none, the text by count
@@ -14,6 +15,21 @@ text_or (Err damage) counted = counted
 -- The text that is shown of a part: its text or, if there is none, its text by count.
 abbrev pub shown_text : DamagedPart → Option DamagedText
 shown_text part = text_or part.text part.by_count
+
+-- whether the group or the list letters are of another day
+abbrev pub is_wrong_day : GroupTest → Bool
+is_wrong_day tests.Right = false
+is_wrong_day tests.Wrong = true
+is_wrong_day tests.NotTested = false
+
+-- the test of the text's group; without a text, `other`
+abbrev pub test_or : GroupTest → Option DamagedText → GroupTest
+test_or other (Some shown) = shown.group
+test_or other None = other
+
+-- whether the group or the list letters of a part, be it read or not, are of another day
+abbrev pub is_of_other_day : DamagedPart → Bool
+is_of_other_day part = is_wrong_day (test_or part.group (shown_text part))
 
 -- how many letters of a text are lost
 abbrev pub lost_in : DamagedText → ℕ

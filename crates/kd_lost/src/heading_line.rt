@@ -1,8 +1,9 @@
 //! Which lines of a damaged form are taken for headings.
 ghost use Rattle.std.specs.Prelude.{◌≡◌, ◌<◌, ◌≤◌, length, nat_le, slice_get};
 ghost use Rattle.kd_lost.specs.HeadingLine.{begins_apart, begins_with_five, begins_with_groups, has_five, leading_signs, may_be_part};
-ghost use Rattle.kd_lost.specs.HeadingLine.{after_blanks, after_word, begins_with_part, begins_with_three};
-ghost use Rattle.kd_lost.specs.HeadingLine.{fitting_signs, has_digit_line, has_lost_number, has_short_word, has_three};
+ghost use Rattle.kd_lost.specs.HeadingLine.{after_blanks, after_word, begins_exchanged, begins_with_blank};
+ghost use Rattle.kd_lost.specs.HeadingLine.{begins_with_part, begins_with_three, begins_with_word};
+ghost use Rattle.kd_lost.specs.HeadingLine.{fitting_signs, has_digit_line, has_lost_number, has_short_word};
 ghost use Rattle.kd_lost.specs.HeadingLine.{is_blank, is_blank_at, is_lost_sign};
 ghost use Rattle.kd_lost.specs.HeadingLine.{heading_sign, heading_signs, is_heading_byte, is_heading_line, is_letter};
 ghost use Rattle.kd_lost.specs.HeadingLine.{right_signs};
@@ -73,7 +74,11 @@ pub(crate) fn is_part_line(bytes: &[u8]) -> bool
     ensures { result ≡ is_part_line bytes.now }
 {
     let line = after_blanks(bytes);
-    begins_with_part(line) || begins_with_three(line) || begins_with_five(line)
+    begins_with_part(line)
+        || begins_with_three(line)
+        || begins_with_five(line)
+        || begins_exchanged(line)
+        || begins_with_blank(line)
 }
 
 /// Whether the first line of `bytes` may belong to a part: it begins like `PART`, or with two groups.
@@ -138,31 +143,49 @@ fn begins_with_part(bytes: &[u8]) -> bool
         && !is_letter(bytes.get(4).copied())
 }
 
-/// Whether `bytes` begin with `PART`, in which one letter is left out.
+/// Whether `bytes` begin with `PART` without one of its letters, and no letter follows.
 fn begins_with_three(bytes: &[u8]) -> bool
     ensures { result ≡ begins_with_three bytes.now }
 {
-    has_three(bytes) && !is_letter(bytes.get(3).copied())
+    begins_with_word(b"ART", bytes)
+        || begins_with_word(b"PRT", bytes)
+        || begins_with_word(b"PAT", bytes)
+        || begins_with_word(b"PAR", bytes)
 }
 
-/// Whether the first three signs of `bytes` are `PART` without one letter.
-fn has_three(bytes: &[u8]) -> bool
-    ensures { result ≡ has_three bytes.now }
+/// Whether `bytes` begin with `PART` with two neighbouring letters exchanged, and no letter follows.
+fn begins_exchanged(bytes: &[u8]) -> bool
+    ensures { result ≡ begins_exchanged bytes.now }
 {
-    are_right(3, b"ART", bytes)
-        || are_right(3, b"PRT", bytes)
-        || are_right(3, b"PAT", bytes)
-        || are_right(3, b"PAR", bytes)
+    begins_with_word(b"APRT", bytes)
+        || begins_with_word(b"PRAT", bytes)
+        || begins_with_word(b"PATR", bytes)
 }
 
-/// Whether `bytes` begin with `PART` with one more letter before its T, and no sixth letter follows.
+/// Whether `bytes` begin with `PART` with a blank between two of its letters, and no letter follows.
+fn begins_with_blank(bytes: &[u8]) -> bool
+    ensures { result ≡ begins_with_blank bytes.now }
+{
+    begins_with_word(b"P ART", bytes)
+        || begins_with_word(b"PA RT", bytes)
+        || begins_with_word(b"PAR T", bytes)
+}
+
+/// Whether `bytes` begin with `word`, and no letter follows.
+fn begins_with_word(word: &[u8], bytes: &[u8]) -> bool
+    ensures { result ≡ begins_with_word word.now bytes.now }
+{
+    right_signs(word, bytes) == word.len() && !is_letter(bytes.get(word.len()).copied())
+}
+
+/// Whether `bytes` begin with `PART` with one more letter, and no sixth letter follows.
 fn begins_with_five(bytes: &[u8]) -> bool
     ensures { result ≡ begins_with_five bytes.now }
 {
     has_five(bytes) && !is_letter(bytes.get(5).copied())
 }
 
-/// Whether the first five signs of `bytes` are `PART` with one more letter before its T.
+/// Whether the first five signs of `bytes` are `PART` with one more letter.
 fn has_five(bytes: &[u8]) -> bool
     ensures { result ≡ has_five bytes.now }
 {
@@ -170,6 +193,7 @@ fn has_five(bytes: &[u8]) -> bool
         || begins_apart(b"P", b"ART", bytes)
         || begins_apart(b"PA", b"RT", bytes)
         || begins_apart(b"PAR", b"T", bytes)
+        || begins_apart(b"PART", b"", bytes)
 }
 
 /// Whether `bytes` begin with `front`, then any letter, then `back`.

@@ -36,5 +36,5 @@ pub use short_line::ShortLine;
 pub use shown_parts::{
     are_in_order, is_any_read, is_one_message, is_whole, shown_under, times_of, total_of,
 };
-pub use texts::shown_text;
+pub use texts::{is_wrong_day, shown_text};
 pub use wrong_sign::WrongSign;

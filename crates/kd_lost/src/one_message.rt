@@ -3,7 +3,7 @@ ghost use Rattle.std.specs.Prelude.{◌≡◌};
 ghost use Rattle.kd_lost.specs.OneMessage.{agrees_with_each, are_of_one_message, headings_agree, letter_agrees};
 ghost use Rattle.kd_lost.specs.OneMessage.{letters_agree, numbers_agree, parts_agree, same_keys, same_letters};
 ghost use Rattle.kd_lost.specs.OneMessage.{bodies_agree, ends_within, key_signs, keys_agree, may_repeat};
-ghost use Rattle.kd_lost.specs.OneMessage.{count_signs, counts_agree, heading_repeats, same_count};
+ghost use Rattle.kd_lost.specs.OneMessage.{count_signs, counts_agree, frames_agree, heading_repeats, is_stranger, same_count};
 ghost use Rattle.kd_lost.specs.OneMessage.{sign_agrees, signs_agree, texts_agree};
 
 use crate::by_count::{first_word, later_words};
@@ -11,6 +11,7 @@ use crate::damage::PartDamage;
 use crate::damaged_text::{DamagedText, TextKeys};
 use crate::part::{DamagedPart, PartNumbers};
 use crate::received::is_lost;
+use crate::texts::{is_of_other_day, shown_text};
 use kd_tables::Letter;
 
 /// Whether the parts, taken two by two, can always be of one message.
@@ -50,7 +51,21 @@ fn may_repeat(one: &DamagedPart, other: &DamagedPart) -> bool
         && texts_agree(&one.text, &other.text)
         && ends_within(one, other)
         && ends_within(other, one)
-        && heading_repeats(one, other)
+        && frames_agree(one, other)
+}
+
+/// Whether the headings of two parts may be one heading, sent twice, and the parts may be of one day.
+fn frames_agree(one: &DamagedPart, other: &DamagedPart) -> bool
+    ensures { result ≡ frames_agree one.now other.now }
+{
+    heading_repeats(one, other) && !is_stranger(one, other) && !is_stranger(other, one)
+}
+
+/// Whether `one` isn't read, and is of another day than `other`, as its group or its list letters show.
+fn is_stranger(one: &DamagedPart, other: &DamagedPart) -> bool
+    ensures { result ≡ is_stranger one.now other.now }
+{
+    shown_text(one).is_none() && is_of_other_day(one) && !is_of_other_day(other)
 }
 
 /// Whether the headings of two parts may be one heading, sent twice.

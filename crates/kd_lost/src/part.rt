@@ -4,7 +4,7 @@ ghost use Rattle.kd_state.specs.LineWords.{IsWithout};
 ghost use Rattle.kd_form.specs.FormParts.{IsHeading};
 ghost use Rattle.kd_lost.specs.DamagedPart.{AreNumbersRead, IsDamagedBodyAnswer, IsDamagedLinesAnswer};
 ghost use Rattle.kd_lost.specs.DamagedPart.{IsHeadedPartAnswer};
-ghost use Rattle.kd_lost.specs.DamagedPart.{IsDamagedTextAnswer, IsPartShown, body_letters, body_of, first_line};
+ghost use Rattle.kd_lost.specs.DamagedPart.{IsDamagedTextAnswer, IsPartShown, IsPartTest, body_letters, body_of, first_line};
 ghost use Rattle.kd_lost.specs.DamagedPart.{numbers_of};
 ghost use Rattle.kd_lost.specs.HeadingLine.{heading_signs, is_order};
 ghost use Rattle.kd_lost.specs.Lost.{meant_byte, received_letters};
@@ -14,7 +14,7 @@ ghost use Rattle.kd_lost.specs.WrongSign.{IsFirstWrongSign};
 
 use crate::body::{decipher_pin, decipher_rotor};
 use crate::damage::PartDamage;
-use crate::damaged_text::DamagedText;
+use crate::damaged_text::{DamagedText, GroupTest};
 use crate::heading_line::{heading_signs, is_order};
 use crate::received::{
     are_body_bytes, body_letters, filled_line, has_lost_byte, is_spelled, letter_count,
@@ -22,6 +22,7 @@ use crate::received::{
 };
 use crate::short_group::first_short_group;
 use crate::short_line::{ShortLine, first_short_line};
+use crate::warnings::test_body;
 use crate::wrong_sign::{WrongSign, first_wrong_sign};
 use arrayvec::{ArrayString, ArrayVec};
 use kd_form::day_machine::slots_of;
@@ -43,6 +44,9 @@ pub struct DamagedPart {
     pub came: usize,
     /// The first letters of the body, at most 525. A sign that may not be in a body counts as a lost letter.
     pub body: ArrayVec<Option<Letter>, 525>,
+    /// Whether the group or the list letters in the body are the day's letters. They are tested also if the part isn't
+    /// read, but not if its heading is damaged.
+    pub group: GroupTest,
     /// The text, or why it can't be read.
     pub text: Result<DamagedText, PartDamage>,
     /// The first wrong sign of the body, if it has one.
@@ -86,6 +90,7 @@ pub fn read_damaged_part(day: &SheetDay, part: &[u8]) -> DamagedPart
     ensures heading { result.heading.bytes ≡ heading_signs (first_line part.now) }
     ensures came { result.came ≡ length (received_letters (body_of part.now)) }
     ensures body { result.body.items ≡ body_letters (body_of part.now) }
+    ensures group { IsPartTest day.now result.numbers result.body.items result.group }
     ensures text { IsDamagedTextAnswer day.now part.now result.text }
     ensures shown { IfOk result.text (IsPartShown day.now part.now) }
     ensures wrong_sign { IsFirstWrongSign (body_of part.now) result.wrong_sign }
@@ -109,6 +114,7 @@ fn read_split_part(day: &SheetDay, part: &[u8]) -> DamagedPart
     ensures heading { result.heading.bytes ≡ heading_signs (first_line part.now) }
     ensures came { result.came ≡ length (received_letters (body_of part.now)) }
     ensures body { result.body.items ≡ body_letters (body_of part.now) }
+    ensures group { IsPartTest day.now result.numbers result.body.items result.group }
     ensures text { IsDamagedTextAnswer day.now part.now result.text }
     ensures shown { IfOk result.text (IsPartShown day.now part.now) }
     ensures wrong_sign { IsFirstWrongSign (body_of part.now) result.wrong_sign }
@@ -131,6 +137,7 @@ fn read_lines(day: &SheetDay, line: &[u8], body: &[u8]) -> DamagedPart
     ensures heading { result.heading.bytes ≡ heading_signs line.now }
     ensures came { result.came ≡ length (received_letters body.now) }
     ensures body { result.body.items ≡ body_letters body.now }
+    ensures group { IsPartTest day.now result.numbers result.body.items result.group }
     ensures text { IsDamagedLinesAnswer day.now line.now body.now result.text }
     ensures wrong_sign { IsFirstWrongSign body.now result.wrong_sign }
     ensures by_count { result.by_count ≡ None }
@@ -151,6 +158,7 @@ fn read_lines(day: &SheetDay, line: &[u8], body: &[u8]) -> DamagedPart
             heading: came_heading,
             came,
             body: letters,
+            group: GroupTest::NotTested,
             text: Err(PartDamage::HeadingDamaged),
             wrong_sign,
             by_count: None,
@@ -166,6 +174,7 @@ fn read_lines(day: &SheetDay, line: &[u8], body: &[u8]) -> DamagedPart
         numbers: Some(numbers_of(&heading)),
         heading: came_heading,
         came,
+        group: test_body(day, heading.letters, letters.as_slice()),
         body: letters,
         text: read_body_after(day, &heading, line, body),
         wrong_sign,

@@ -5,10 +5,9 @@ ghost use Rattle.kd_lost.specs.ShownParts.{IsNumberWhole, IsReadWhole, IsWhole, 
 ghost use Rattle.kd_lost.specs.ShownParts.{are_in_order, is_any_read, is_covered, is_number, is_one_message, is_worse};
 ghost use Rattle.kd_lost.specs.ShownParts.{numbers_of, shown_under, times_of, total_of};
 
-use crate::damaged_text::GroupTest;
 use crate::one_message::are_of_one_message;
 use crate::part::{DamagedPart, PartNumbers};
-use crate::texts::{is_text_within, lost_in, shown_text};
+use crate::texts::{is_of_other_day, is_text_within, lost_in, shown_text};
 use kd_tables::Letter;
 
 /// The number of parts that the first undamaged heading gives; 0 if all are damaged.
@@ -164,20 +163,8 @@ fn may_be_of_the_day(parts: &[DamagedPart]) -> bool
     ensures { IsTrue result ↔ All MayBeOfTheDay parts.now }
 {
     match parts {
-        [part, rest @ ..] => may_be(part) && may_be_of_the_day(rest),
+        [part, rest @ ..] => !is_of_other_day(part) && may_be_of_the_day(rest),
         [] => true,
-    }
-}
-
-fn may_be(part: &DamagedPart) -> bool
-    ensures { IsTrue result ↔ MayBeOfTheDay part.now }
-{
-    match shown_text(part) {
-        Some(shown) => match shown.group {
-            GroupTest::Wrong => false,
-            GroupTest::Right | GroupTest::NotTested => true,
-        },
-        None => true,
     }
 }
 

@@ -1,8 +1,9 @@
 //! The text that is shown of a part, and whether another text has all its letters.
 ghost use Rattle.std.specs.Prelude.{◌≡◌, MatchOption, None, Some, is_none};
-ghost use Rattle.kd_lost.specs.Texts.{letter_within, letters_within, lost_in, shown_text, text_within};
+ghost use Rattle.kd_lost.specs.Texts.{is_of_other_day, is_wrong_day, letter_within, letters_within, lost_in, shown_text};
+ghost use Rattle.kd_lost.specs.Texts.{text_within};
 
-use crate::damaged_text::DamagedText;
+use crate::damaged_text::{DamagedText, GroupTest};
 use crate::part::DamagedPart;
 use kd_tables::Letter;
 
@@ -16,6 +17,26 @@ pub fn shown_text(part: &DamagedPart) -> Option<&DamagedText>
         (Ok(shown), _) => Some(shown),
         (Err(_), Some(shown)) => Some(shown),
         (Err(_), None) => None,
+    }
+}
+
+/// Whether the group or the list letters are of another day.
+pub fn is_wrong_day(group: GroupTest) -> bool
+    ensures { result ≡ is_wrong_day group }
+{
+    match group {
+        GroupTest::Wrong => true,
+        GroupTest::Right | GroupTest::NotTested => false,
+    }
+}
+
+/// Whether the group or the list letters of `part`, be it read or not, are of another day.
+pub(crate) fn is_of_other_day(part: &DamagedPart) -> bool
+    ensures { result ≡ is_of_other_day part.now }
+{
+    match shown_text(part) {
+        Some(shown) => is_wrong_day(shown.group),
+        None => is_wrong_day(part.group),
     }
 }
 

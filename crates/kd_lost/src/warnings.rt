@@ -5,11 +5,12 @@ ghost use Rattle.std.specs.Bool.{OnTrue, OnFalse};
 ghost use Rattle.kd_form.specs.PartMaking.{list_letters};
 ghost use Rattle.kd_form.specs.KeyPatterns.{IsConverterDay};
 ghost use Rattle.kd_lost.specs.Lost.{Completes};
-ghost use Rattle.kd_lost.specs.DamagedText.{IsGroupTest, IsListTest, IsLostInBoth};
+ghost use Rattle.kd_lost.specs.DamagedText.{IsBodyTest, IsGroupTest, IsListTest, IsLostInBoth, front_letters};
 
 use crate::copies::is_letter_for;
 use crate::damaged_text::GroupTest;
 use arrayvec::ArrayVec;
+use kd_form::day_machine::slots_of;
 use kd_state::SheetDay;
 use kd_tables::Letter;
 
@@ -26,6 +27,30 @@ pub(crate) fn test_group(day: &SheetDay, received: &[Option<Letter>]) -> GroupTe
         GroupTest::Right
     } else {
         GroupTest::Wrong
+    }
+}
+
+/// Tests the group or the list letters in `body`, the letters of a part. The part's heading counts `counted` letters.
+pub(crate) fn test_body(day: &SheetDay, counted: usize, body: &[Option<Letter>]) -> GroupTest
+    ensures { IsBodyTest day.now counted body.now result }
+{
+    if body.len() < front_letters(day) {
+        return GroupTest::NotTested;
+    }
+    match slots_of(day) {
+        Some(_) => test_group(day, &body[2..5]),
+        None if body.len() == counted => test_list(day, &body[8..10], &body[body.len() - 2..]),
+        None => test_list(day, &body[8..10], &[None, None]),
+    }
+}
+
+/// How many letters of a body stand before its text.
+fn front_letters(day: &SheetDay) -> usize
+    ensures { result ≡ front_letters day.now }
+{
+    match slots_of(day) {
+        Some(_) => 5,
+        None => 10,
     }
 }
 

@@ -26,7 +26,7 @@ use Rattle.kd_message.specs.Laws.{HasLettersOf, IsOn, NothingReadIsHidden, Repet
 use Rattle.kd_message.specs.Laws.{WholeMessagesHaveOneTotal, clear_text, letters_of_part}
 use Rattle.kd_lost.specs.OneMessage.{agrees_with_each, are_of_one_message, headings_agree, numbers_agree, parts_agree}
 use Rattle.kd_lost.proofs.OneMessage.{agree_with_it, contains_none, first_or_later, same_number_agree}
-use Rattle.kd_lost.specs.OneMessage.{bodies_agree, ends_within, heading_repeats, letters_agree, may_repeat, same_keys, texts_agree}
+use Rattle.kd_lost.specs.OneMessage.{bodies_agree, ends_within, frames_agree, letters_agree, may_repeat, same_keys, texts_agree}
 use Rattle.kd_lost.specs.Repetitions.{are_kept, is_kept, is_same_part}
 use Rattle.kd_message.specs.ReceivePage.{as_they_came, by_number, counted_or_damage, name_at, number_in, number_or, part_at}
 use Rattle.kd_message.specs.ReceivePage.{part_in, section_text, sheet_to_receive, shown_in, text_or_damage}
@@ -222,7 +222,7 @@ repetition_letters one other others numbers again shown later whole there is its
     let letters = letters_agree shown.received.items later.received.items in
     let keys = same_keys shown.keys later.keys in
     let bodies = bodies_agree one.body.items other.body.items in
-    let ends = ends_within one other && (ends_within other one && heading_repeats one other) in
+    let ends = ends_within one other && (ends_within other one && frames_agree one other) in
     let told : headings_agree (Some numbers) (Some again) (bodies && (texts_agree (Ok shown) (Ok later) && ends)) ≡ true =
     (λ i. headings_agree (sym is i) (sym its i) (bodies && (texts_agree (sym text i) (sym more i) && ends)))
     ∙ agree_with_it one other others both.0 there in

@@ -6,7 +6,7 @@ use Rattle.std.proofs.lemmas.Bool.{Decides.nat_tests, and_parts, cases_eq, false
 use Rattle.std.proofs.lemmas.List.{drop-drop, drop-take, take-append-drop, take-take}
 use Rattle.std.proofs.lemmas.List.Elements.{All-contains_itself, All-cons, All-head, All-nil, All-tail, All-weaker}
 use Rattle.std.specs.List.{Contains, cons_option, range_with_len, slice_range}
-use Rattle.std.specs.Prelude.{IfOk, IfSome}
+use Rattle.std.specs.Prelude.{IfOk}
 use Rattle.kd_tables.specs.Text.{is_text_byte}
 use Rattle.kd_state.specs.AnswerRules.{GoesOn}
 use Rattle.kd_state.specs.LineWords.{IsFirstPart, IsWithout, line_of}
@@ -44,7 +44,7 @@ use Rattle.kd_lost.proofs.PartShown.{least_count, shown_there}
 use Rattle.kd_message.specs.Laws.{IsClear, WholeMessagesAreRead, letters_of_part}
 use Rattle.kd_lost.specs.OneMessage.{are_of_one_message}
 use Rattle.kd_lost.specs.ShownParts.{IsNumberWhole, IsWhole, MayBeOfTheDay, are_covered, is_number, shown_under, total_of}
-use Rattle.kd_lost.specs.Texts.{text_or}
+use Rattle.kd_lost.specs.Texts.{is_wrong_day, test_or, text_or}
 use Rattle.kd_lost.proofs.CompletedParts.{read_as_it_stands}
 use Rattle.kd_message.proofs.PagesWhole.{at_range, shown_known, shown_numbered, total_is, whole_under}
 use Rattle.kd_message.proofs.ReceivePages.{shown_holds}
@@ -358,7 +358,8 @@ module _ (s : Day) (bytes : List (List ℕ)) (reads : List DamagedPart) (whole :
       let agree = (and_parts (are_of_one_message reads) (are_covered reads reads) whole.one_message).0 in
       let counted : total_of reads ≡ numbers.parts = total_is reads one numbers agree inside given in
       let right : shown.group ≢ Wrong =
-      subst (λ t. IfSome (text_or t one.by_count) (λ (text : DamagedText). text.group ≢ Wrong)) is day in
+      λ wrong. false≢true (sym day ∙ ap (λ t. is_wrong_day (test_or one.group (text_or t one.by_count))) is
+      ∙ ap is_wrong_day wrong) in
       let back = part_read s p part one numbers shown of stands clear given is right numbered
       (subst (IsExpectedCount p.expected) counted expected) in
       let made : ℕ → ReadPart = λ n. record { parts = n; letters = back.text } in

@@ -5,7 +5,6 @@ use Rattle.std.proofs.Common.{None, Ok, if◌then◌else◌, MatchOption, flat_m
 use Rattle.std.proofs.lemmas.Bool.{Decides.nat_tests, cases_Bool}
 use Rattle.std.proofs.lemmas.List.Elements.{All-cons, All-head, All-nil, All-tail}
 use Rattle.std.specs.List.{range_with_len}
-use Rattle.std.specs.Prelude.{IfSome}
 use Rattle.kd_state.specs.SheetDay.{Day}
 use Rattle.kd_state.proofs.OneAnswer.{ThenNext-Ok, Yields-Ok}
 use Rattle.kd_form.specs.FormParts.{parts_of}
@@ -13,7 +12,7 @@ use Rattle.kd_form.specs.FormText.{IsAnswerAt, ReadsPartsTo, first_part_start, n
 use Rattle.kd_form.specs.PartReading.{HasDueNumbers, IsExpectedCount, IsPartAnswer, PartStart, ReadPart}
 use Rattle.kd_form.specs.Sending.{space_letter}
 use Rattle.kd_lost.specs.declared.damaged_text.DamagedText.{DamagedText}
-use Rattle.kd_lost.specs.declared.damaged_text.GroupTest.TheVariants.{Right, Wrong}
+use Rattle.kd_lost.specs.declared.damaged_text.GroupTest.TheVariants.{Right}
 use Rattle.kd_lost.specs.declared.part.{DamagedPart.{DamagedPart}, PartNumbers.{PartNumbers}}
 use Rattle.kd_form.specs.declared.heading.Heading.{Heading}
 use Rattle.kd_lost.specs.DamagedForm.{AsItStands, IsMeant, IsReadOf, Respaced, letters_in}
@@ -30,7 +29,7 @@ use Rattle.kd_message.specs.Laws.{FormsReadAreWhole, letters_of_part, message_le
 use Rattle.kd_lost.specs.OneMessage.{agrees_with_each, are_of_one_message, numbers_agree, headings_agree, may_repeat}
 use Rattle.kd_lost.specs.ShownParts.{IsNumberWhole, IsReadWhole, MayBeOfTheDay, are_covered, better, is_covered, is_covered_by}
 use Rattle.kd_lost.specs.ShownParts.{is_number, is_one_message, parts_or, shown_under, text_in, total_of}
-use Rattle.kd_lost.specs.Texts.{letter_within, letters_within, lost_in, shown_text, text_or, text_within}
+use Rattle.kd_lost.specs.Texts.{is_wrong_day, letter_within, letters_within, lost_in, shown_text, test_or, text_or, text_within}
 use Rattle.kd_lost.proofs.ShownParts.{range_first}
 
 -- -------- parts in the order of their numbers
@@ -244,8 +243,7 @@ letters_known (letter ∷ letters) =
 
 right_day : (part : DamagedPart) (shown : DamagedText) → part.text ≡ Ok shown → shown.group ≡ Right → MayBeOfTheDay part
 right_day part shown is right =
-    subst (λ t. IfSome (text_or t part.by_count) (λ (text : DamagedText). text.group ≢ Wrong)) (sym is)
-    (λ wrong. absurd (cc))
+    ap (λ t. is_wrong_day (test_or part.group (text_or t part.by_count))) is ∙ ap is_wrong_day right
 
 meant_whole : (s : Day) (part meant : List ℕ) (h : Heading) → IsDamagedHeading s (first_line part) h
     → IsMeant s part meant → meant ≡ part

@@ -17,7 +17,8 @@ use Rattle.kd_message.specs.declared.texts.TheConstants as texts
 use Rattle.kd_message.specs.LoneParts.{lone_asked, lone_reason, lone_words}
 use Rattle.kd_lost.specs.ShownParts.{is_one_message}
 use Rattle.kd_message.specs.TextSheet.{asked_words, count_asked, counted_reason, first_text_group, groups_told, has_lost}
-use Rattle.kd_message.specs.TextSheet.{is_wrong_day, lost_groups, reason_text}
+use Rattle.kd_message.specs.TextSheet.{lost_groups, reason_text}
+use Rattle.kd_lost.specs.Texts.{is_wrong_day}
 
 -- the words for a part's number, at the start of a note about the part
 abbrev pub note_name : Language → PartName → List ℕ
@@ -52,7 +53,7 @@ damage_note l name part damage (Some shown) =
     (count_asked l damage part.short_group)
     ++ read_note l name shown
 damage_note l name part damage None =
-    note_line l name (reason_text l part damage) (asked_words l part damage)
+    day_note l name part.group ++ note_line l name (reason_text l part damage) (asked_words l part damage)
 
 abbrev pub part_note_of : Language → PartName → DamagedPart → Result DamagedText PartDamage → List ℕ
 part_note_of l name part (Ok shown) = read_note l name shown

@@ -67,7 +67,7 @@ worked_text l s name None = []
 abbrev pub counted_or_damage : Language → Day → PartName → DamagedPart → PartDamage → Option DamagedText → List ℕ
 counted_or_damage l s name part damage (Some shown) =
     counted_text l (sheet_to_receive (day_model s)) s name part damage shown
-counted_or_damage l s name part damage None = damage_text l name part damage
+counted_or_damage l s name part damage None = damage_text l (sheet_to_receive (day_model s)) name part damage
 
 -- the text of a part; if there is none, the reason why the part isn't read
 abbrev pub text_or_damage : Language → Day → PartName → DamagedPart → Result DamagedText PartDamage → List ℕ

@@ -28,6 +28,7 @@ use Rattle.kd_message.specs.declared.texts.TheConstants as texts
 use Rattle.kd_part_sheet.specs.PartSheet.{warnings_text}
 use Rattle.kd_part_sheet.specs.Rows.{pieces}
 use Rattle.kd_lost.specs.ShownParts.{are_in_order, is_one_message, numbers_of}
+use Rattle.kd_lost.specs.Texts.{is_wrong_day}
 
 -- the head of the sheet
 abbrev pub text_sheet_head : Language → Day → List ℕ
@@ -152,12 +153,15 @@ first_text_group model = if is_converter model then 3 else 2
 abbrev pub indicator_place : ℕ → ℕ
 indicator_place number = if number == 0 then 1 else number + 2
 
+-- the number of the group with this key letter, among the first two groups
+abbrev pub key_letter_group : ℕ → ℕ
+key_letter_group number = if nat_le (indicator_place number) 5 then 1 else 2
+
 -- The words for the two groups with this key letter, in a body of `came` letters. One is among the first two groups,
 -- the other among the last two.
 unfoldable pub key_letter_groups : Language → ℕ → ℕ → List ℕ
 key_letter_groups l came number =
-    let group = if nat_le (indicator_place number) 5 then 1 else 2 in
-    group_words l group ++ COMMA.now ++ group_words l (came / 5 - 2 + group)
+    group_words l (key_letter_group number) ++ COMMA.now ++ group_words l (came / 5 - 2 + key_letter_group number)
 
 -- the words for the groups with the indicators, in a body of `came` letters: the first two and the last two
 unfoldable pub indicator_groups : Language → ℕ → List ℕ
@@ -170,11 +174,6 @@ indicator_groups l came =
 abbrev pub is_copy_lost : Option LostCopies → Bool
 is_copy_lost None = false
 is_copy_lost (Some copies) = copies.at_start || copies.at_end
-
-abbrev pub is_wrong_day : GroupTest → Bool
-is_wrong_day tests.Right = false
-is_wrong_day tests.Wrong = true
-is_wrong_day tests.NotTested = false
 
 -- whether the day couldn't be tested: a letter of the group, or a list letter in both copies, is lost
 abbrev pub is_not_tested : GroupTest → Bool
@@ -238,10 +237,17 @@ abbrev pub sign_group : Language → Option WrongSign → List ℕ
 sign_group l (Some sign) = group_words l ((sign.place - 1) / 5 + 1)
 sign_group l None = text_in l texts.ALL_OF_IT
 
--- the sentence with the heading's count, and the number of letters that came
-unfoldable pub counts_text : Language → ℕ → ℕ → List ℕ
-counts_text l counted came =
-    text_in l texts.COUNT_WRONG ++ decimal counted ++ text_in l texts.COUNT_CAME ++ decimal came
+-- The words for the groups with a lost letter or a wrong sign. A body has room for 525 letters. If all of these letters
+-- are there, the first wrong sign stands behind them.
+abbrev pub sign_groups : Language → DamagedPart → List ℕ
+sign_groups l part =
+    if has_lost part.body.items then lost_groups l [] false 1 (pieces 5 part.body.items)
+    else sign_group l part.wrong_sign
+
+-- the sentence with the count in the heading, which is on line `line` of the form, and the number of letters that came
+unfoldable pub counts_text : Language → ℕ → ℕ → ℕ → List ℕ
+counts_text l line counted came =
+    line_words l line 1 ++ text_in l texts.COUNT_WRONG ++ decimal counted ++ text_in l texts.COUNT_CAME ++ decimal came
     ++ text_in l texts.COUNT_END
 
 -- The sentence that says how many letters a short line has. The part begins on line `line` of the form.
@@ -272,7 +278,7 @@ short_groups l group None = count_asked l damages.CountWrong group
 -- line in which letters are missing
 unfoldable pub count_text : Language → DamagedPart → List ℕ
 count_text l part =
-    counts_text l (heading_count part.numbers) part.came ++ short_text l part.line (part_line part)
+    counts_text l part.line (heading_count part.numbers) part.came ++ short_text l part.line (part_line part)
 
 -- the sentence that says why a part isn't read
 abbrev pub reason_text : Language → DamagedPart → PartDamage → List ℕ
@@ -292,10 +298,10 @@ abbrev pub asked_words : Language → DamagedPart → PartDamage → List ℕ
 asked_words l part damages.HeadingDamaged =
     if part.came == 0 then text_in l texts.ALL_OF_IT else text_in l texts.ITS_HEADING
 asked_words l part damages.HeadingKeyLost = text_in l texts.ITS_KEYS
-asked_words l part damages.BadByte = sign_group l part.wrong_sign
+asked_words l part damages.BadByte = sign_groups l part
 asked_words l part damages.CountWrong = short_groups l part.short_group (part_line part)
 asked_words l part (damages.CopiesDiffer number) = key_letter_groups l part.came number
-asked_words l part (damages.KeyLetterLost number) = key_letter_groups l part.came number
+asked_words l part (damages.KeyLetterLost number) = group_words l (key_letter_group number)
 asked_words l part damages.KeyNotOnWheel = indicator_groups l part.came
 asked_words l part damages.NoInternalKey = indicator_groups l part.came
 
@@ -305,10 +311,16 @@ unfoldable pub unread_text : Language → PartName → List ℕ → List ℕ →
 unread_text l name reason words =
     text_in l texts.UNREAD ++ reason ++ texts.REASON_END.now ++ ask_text l name.part words
 
--- the paragraph about a part that isn't read
-abbrev pub damage_text : Language → PartName → DamagedPart → PartDamage → List ℕ
-damage_text l name part damage =
+-- the only warning of a part that isn't read: its group or its list letters are of another day
+abbrev pub unread_warnings : GroupTest → Warnings
+unread_warnings group =
+    record { letters_lost = false; copies_lost = false; wrong_day = is_wrong_day group; not_tested = false }
+
+-- the paragraph about a part that isn't read, and the warning if its group is of another day
+abbrev pub damage_text : Language → Sheet → PartName → DamagedPart → PartDamage → List ℕ
+damage_text l sheet name part damage =
     unread_text l name (reason_text l part damage) (asked_words l part damage)
+    ++ warnings_text l sheet (unread_warnings part.group)
 
 -- the paragraph about a part that didn't come
 abbrev pub missing_text : Language → PartName → List ℕ
@@ -325,7 +337,7 @@ damaged_count l line came =
 -- the sentence that says what is wrong with the count
 abbrev pub counted_reason : Language → DamagedPart → PartDamage → List ℕ
 counted_reason l part damages.HeadingDamaged = damaged_count l part.line part.came
-counted_reason l part _ = counts_text l (heading_count part.numbers) part.came
+counted_reason l part _ = counts_text l part.line (heading_count part.numbers) part.came
 
 -- The sentence that names the first short group. If no group is short, the sentence says that the number of letters
 -- that came may be right.

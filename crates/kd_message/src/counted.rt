@@ -9,7 +9,7 @@ use crate::texts::{
     ASK, ASK_END, BY_COUNT, COUNT_DAMAGED, COUNT_DAMAGED_END, FULL_GROUPS, FULL_GROUPS_END,
     REASON_END, SHORT_GROUP, SHORT_GROUP_END,
 };
-use crate::unread::{draw_count_asked, draw_counts, draw_line_words, heading_count};
+use crate::unread::{draw_count_asked, draw_counts, draw_line_words};
 use kd_lost::{DamagedPart, DamagedText, PartDamage};
 use kd_part_sheet::part_sheet::PartName;
 use kd_part_sheet::sheet::Sheet;
@@ -54,7 +54,7 @@ pub(crate) fn draw_counted_reason<W: Sink>(
 {
     match damage {
         PartDamage::HeadingDamaged => draw_damaged_count(sink, language, part.line, part.came),
-        _ => draw_counts(sink, language, heading_count(&part.numbers), part.came),
+        _ => draw_counts(sink, language, part),
     }
 }
 

@@ -7,13 +7,13 @@ ghost use Rattle.kd_message.specs.Notes.{lost_note, missing_note, note_name, par
 use crate::counted::{draw_counted_reason, draw_groups_told};
 use crate::groups::{draw_lost_groups, has_lost};
 use crate::lone_parts::{draw_lone_reason, draw_lone_words, lone_asked};
-use crate::text_sheet::{first_text_group, is_wrong_day};
+use crate::text_sheet::first_text_group;
 use crate::texts::{
     ALL_OF_IT, ASKED_END, COLON, DID_NOT_COME, LINE_END, NOTE_ASK, NOTE_END, NOTE_LOST,
     NOTE_OTHER_DAY, NOTE_PART, NOTE_SEVERAL,
 };
 use crate::unread::{draw_asked, draw_count_asked, draw_reason};
-use kd_lost::{DamagedPart, DamagedText, GroupTest, PartDamage, is_one_message};
+use kd_lost::{DamagedPart, DamagedText, GroupTest, PartDamage, is_one_message, is_wrong_day};
 use kd_part_sheet::part_sheet::PartName;
 use kd_pictures::template::{Value, fill_in};
 use kd_pictures::{Language, draw, draw_in};
@@ -145,7 +145,7 @@ fn draw_counted_note<W: Sink>(
     draw_read_note(sink, language, name, shown);
 }
 
-/// Writes the note that says why a part isn't read.
+/// Writes the notes on a part that isn't read: whether it is of another day, and why it isn't read.
 fn draw_unread_note<W: Sink>(
     sink: &mut W,
     language: Language,
@@ -156,6 +156,7 @@ fn draw_unread_note<W: Sink>(
     ensures { Draws W.taken W.has_failed sink.old sink.new
         (damage_note language name part.now damage None) }
 {
+    draw_day_note(sink, language, name, part.group);
     draw_note_name(sink, language, name);
     draw_reason(sink, language, part, damage);
     draw_in(sink, language, NOTE_ASK);

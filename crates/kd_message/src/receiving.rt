@@ -540,7 +540,7 @@ fn draw_text_or_damage<W: Sink>(
         (Err(damage), Some(shown)) => {
             draw_counted_text(sink, language, sheet, day, name, part, *damage, shown)
         }
-        (Err(damage), None) => draw_damage(sink, language, name, part, *damage),
+        (Err(damage), None) => draw_damage(sink, language, sheet, name, part, *damage),
     }
 }
 

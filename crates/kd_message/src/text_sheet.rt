@@ -7,7 +7,7 @@ ghost use Rattle.kd_part_sheet.specs.Rows.{pieces};
 ghost use Rattle.kd_lost.specs.ShownParts.{numbers_of};
 ghost use Rattle.kd_message.specs.TextSheet.{ask_for_lost, ask_text, begins_late, came_text, came_words};
 ghost use Rattle.kd_message.specs.TextSheet.{first_text_group, heading_words, headings_after, is_any_smoothed};
-ghost use Rattle.kd_message.specs.TextSheet.{is_copy_lost, is_not_tested, is_wrong_day, lost_groups, numbers_after};
+ghost use Rattle.kd_message.specs.TextSheet.{is_copy_lost, is_not_tested, lost_groups, numbers_after, unread_warnings};
 ghost use Rattle.kd_message.specs.TextSheet.{order_text, order_words, passed_text, read_text, several_words};
 ghost use Rattle.kd_message.specs.TextSheet.{text_begin, text_part_head, text_sheet_head, warnings_of};
 
@@ -20,6 +20,7 @@ use itoa::Buffer;
 use kd_form::text_bytes::space_letter;
 use kd_lost::{
     DamagedPart, DamagedText, GroupTest, LostCopies, PartNumbers, are_in_order, is_one_message,
+    is_wrong_day,
 };
 use kd_part_sheet::markup::{COMMA, LOST_LETTER, SPACE};
 use kd_part_sheet::part_sheet::{PartName, Warnings, draw_warnings};
@@ -263,12 +264,15 @@ fn is_copy_lost(copies: &Option<LostCopies>) -> bool
     }
 }
 
-pub(crate) fn is_wrong_day(group: GroupTest) -> bool
-    ensures { result ≡ is_wrong_day group }
+/// The only warning of a part that isn't read: its group or its list letters are of another day.
+pub(crate) fn unread_warnings(group: GroupTest) -> Warnings
+    ensures { result ≡ unread_warnings group }
 {
-    match group {
-        GroupTest::Wrong => true,
-        GroupTest::Right | GroupTest::NotTested => false,
+    Warnings {
+        letters_lost: false,
+        copies_lost: false,
+        wrong_day: is_wrong_day(group),
+        not_tested: false,
     }
 }
 

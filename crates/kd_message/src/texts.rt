@@ -225,7 +225,10 @@ pub const THIS_SIGN: Text = ("this sign", "dieses Zeichen");
 
 pub const NO_LETTER: Text = (" is no letter.", " ist kein Buchstabe.");
 
-pub const COUNT_WRONG: Text = ("The heading counts ", "Buchstaben nach dem Spruchkopf: ");
+pub const COUNT_WRONG: Text = (
+    ": the heading counts ",
+    ": Buchstaben nach dem Spruchkopf: ",
+);
 
 pub const COUNT_CAME: Text = (", but ", ", eingegangen: ");
 

@@ -4,12 +4,13 @@ ghost use Rattle.kd_pictures.specs.Drawing.{Draws};
 ghost use Rattle.kd_message.specs.TextSheet.{ask_text, asked_words, bad_byte_text, counts_text, damage_text};
 ghost use Rattle.kd_lost.specs.ByCount.{heading_count};
 ghost use Rattle.kd_message.specs.TextSheet.{count_asked, heading_fault, indicator_groups, indicator_place};
-ghost use Rattle.kd_message.specs.TextSheet.{key_letter_groups, line_words, missing_text, reason_text, sign_group};
+ghost use Rattle.kd_message.specs.TextSheet.{key_letter_group, key_letter_groups, line_words, missing_text, reason_text};
+ghost use Rattle.kd_message.specs.TextSheet.{sign_group, sign_groups};
 ghost use Rattle.kd_message.specs.TextSheet.{count_text, short_groups, short_text, short_words};
 ghost use Rattle.kd_message.specs.TextSheet.{sign_text, sign_words};
 
-use crate::groups::{draw_group_words, draw_groups_words};
-use crate::text_sheet::draw_count;
+use crate::groups::{draw_group_words, draw_groups_words, draw_lost_groups, has_lost};
+use crate::text_sheet::{draw_count, unread_warnings};
 use crate::texts::{
     ALL_OF_IT, ASK, ASK_END, BAD_BYTE, COLON, COPIES_DIFFER, COUNT_CAME, COUNT_END, COUNT_WRONG,
     DID_NOT_COME, FULL_LINE, GAP, HEADING_DAMAGED, HEADING_KEY_LOST, ITS_COUNT, ITS_COUNT_OR_LINES,
@@ -19,7 +20,8 @@ use crate::texts::{
 use itoa::Buffer;
 use kd_lost::{DamagedPart, PartDamage, PartNumbers, ShortLine, WrongSign, part_line};
 use kd_part_sheet::markup::COMMA;
-use kd_part_sheet::part_sheet::PartName;
+use kd_part_sheet::part_sheet::{PartName, draw_warnings};
+use kd_part_sheet::sheet::Sheet;
 use kd_pictures::template::{Value, fill_in};
 use kd_pictures::{Language, draw, draw_in};
 use kd_tables::Sink;
@@ -44,16 +46,17 @@ pub(crate) fn draw_ask<W: Sink>(sink: &mut W, language: Language, name: PartName
     draw(sink, ASK_END);
 }
 
-/// Writes why a part isn't read, and what to ask for.
+/// Writes why a part isn't read, and what to ask for. Warns if the part is of another day.
 pub(crate) fn draw_damage<W: Sink>(
     sink: &mut W,
     language: Language,
+    sheet: Sheet,
     name: PartName,
     part: &DamagedPart,
     damage: PartDamage,
 )
     ensures { Draws W.taken W.has_failed sink.old sink.new
-        (damage_text language name part.now damage) }
+        (damage_text language sheet name part.now damage) }
 {
     draw_in(sink, language, UNREAD);
     draw_reason(sink, language, part, damage);
@@ -61,6 +64,7 @@ pub(crate) fn draw_damage<W: Sink>(
     fill_in(sink, language, ASK, &[Value::Number(u16::from(name.part))]);
     draw_asked(sink, language, part, damage);
     draw(sink, ASK_END);
+    draw_warnings(sink, language, sheet, unread_warnings(part.group));
 }
 
 /// Writes why a part isn't read.
@@ -162,6 +166,19 @@ fn draw_sign_words<W: Sink>(sink: &mut W, language: Language, byte: u8)
     }
 }
 
+/// Writes the words for the groups with a lost letter or a wrong sign. If all of the first 525 letters are there, writes
+/// the words for the group of the first wrong sign.
+fn draw_sign_groups<W: Sink>(sink: &mut W, language: Language, part: &DamagedPart)
+    ensures { Draws W.taken W.has_failed sink.old sink.new (sign_groups language part.now) }
+{
+    let letters = part.body.as_slice();
+    if has_lost(letters) {
+        draw_lost_groups(sink, language, "", false, 1, letters);
+    } else {
+        draw_sign_group(sink, language, &part.wrong_sign);
+    }
+}
+
 /// Writes the words for the group in which a wrong sign stands.
 fn draw_sign_group<W: Sink>(sink: &mut W, language: Language, sign: &Option<WrongSign>)
     ensures { Draws W.taken W.has_failed sink.old sink.new (sign_group language sign.now) }
@@ -172,15 +189,16 @@ fn draw_sign_group<W: Sink>(sink: &mut W, language: Language, sign: &Option<Wron
     }
 }
 
-/// Writes the heading's count and the number of letters that came.
-pub(crate) fn draw_counts<W: Sink>(sink: &mut W, language: Language, counted: usize, came: usize)
+/// Writes the heading's count, with the heading's line, and the number of letters that came.
+pub(crate) fn draw_counts<W: Sink>(sink: &mut W, language: Language, part: &DamagedPart)
     ensures { Draws W.taken W.has_failed sink.old sink.new
-        (counts_text language counted came) }
+        (counts_text language part.now.line (heading_count part.now.numbers) part.now.came) }
 {
+    draw_line_words(sink, language, part.line, 1);
     draw_in(sink, language, COUNT_WRONG);
-    draw_count(sink, counted);
+    draw_count(sink, heading_count(&part.numbers));
     draw_in(sink, language, COUNT_CAME);
-    draw_count(sink, came);
+    draw_count(sink, part.came);
     draw_in(sink, language, COUNT_END);
 }
 
@@ -189,7 +207,7 @@ pub(crate) fn draw_counts<W: Sink>(sink: &mut W, language: Language, counted: us
 fn draw_count_wrong<W: Sink>(sink: &mut W, language: Language, part: &DamagedPart)
     ensures { Draws W.taken W.has_failed sink.old sink.new (count_text language part.now) }
 {
-    draw_counts(sink, language, heading_count(&part.numbers), part.came);
+    draw_counts(sink, language, part);
     draw_short(sink, language, part.line, part_line(part));
 }
 
@@ -259,7 +277,7 @@ fn draw_count_and_group<W: Sink>(sink: &mut W, language: Language, group: usize)
 }
 
 /// The letter count in the heading; 0 if the heading is damaged.
-pub(crate) fn heading_count(numbers: &Option<PartNumbers>) -> usize
+fn heading_count(numbers: &Option<PartNumbers>) -> usize
     ensures { result ≡ heading_count numbers.now }
 {
     match numbers {
@@ -280,6 +298,13 @@ fn indicator_place(number: u8) -> u16
     }
 }
 
+/// The number of the group with key letter `number`, among the first two groups.
+fn key_letter_group(number: u8) -> usize
+    ensures { result ≡ key_letter_group number }
+{
+    if indicator_place(number) <= 5 { 1 } else { 2 }
+}
+
 /// Writes what to ask for if a part isn't read.
 pub(crate) fn draw_asked<W: Sink>(
     sink: &mut W,
@@ -293,13 +318,16 @@ pub(crate) fn draw_asked<W: Sink>(
     match damage {
         PartDamage::HeadingDamaged if part.came > 0 => draw_in(sink, language, ITS_HEADING),
         PartDamage::HeadingKeyLost => draw_in(sink, language, ITS_KEYS),
-        PartDamage::BadByte => draw_sign_group(sink, language, &part.wrong_sign),
+        PartDamage::BadByte => draw_sign_groups(sink, language, part),
         PartDamage::HeadingDamaged => draw_in(sink, language, ALL_OF_IT),
         PartDamage::CountWrong => {
             draw_short_groups(sink, language, part.short_group, part_line(part))
         }
-        PartDamage::CopiesDiffer(number) | PartDamage::KeyLetterLost(number) => {
+        PartDamage::CopiesDiffer(number) => {
             draw_key_letter_groups(sink, language, part.came, number)
+        }
+        PartDamage::KeyLetterLost(number) => {
+            draw_group_words(sink, language, key_letter_group(number))
         }
         PartDamage::KeyNotOnWheel | PartDamage::NoInternalKey => {
             draw_indicator_groups(sink, language, part.came)
@@ -312,7 +340,7 @@ fn draw_key_letter_groups<W: Sink>(sink: &mut W, language: Language, came: usize
     ensures { Draws W.taken W.has_failed sink.old sink.new
         (key_letter_groups language came number) }
 {
-    let group = if indicator_place(number) <= 5 { 1 } else { 2 };
+    let group = key_letter_group(number);
     draw_group_words(sink, language, group);
     draw(sink, COMMA);
     draw_group_words(sink, language, (came / 5).saturating_sub(2) + group);

@@ -96,10 +96,16 @@ abbrev pub windows_after : Day → List ℕ → ℕ → Bool → List ℕ
 windows_after s start presses is_idle =
     if is_idle then [] else shown_after (is_converter (day_model s)) (letters_after s start presses)
 
--- a row: its groups, a checkbox, the number of letters so far, and the windows after the row
+-- The number at the end of a row. On a Converter, it is what the machine's counter shows: how many letters were pressed
+-- in this step. On a rotor machine, it is how many letters the rows have so far.
+abbrev pub row_number : Bool → Progress → ℕ
+row_number is_converter progress = if is_converter then progress.presses else progress.letters
+
+-- a row: its groups, a checkbox, the row's number, and the windows after the row
 unfoldable pub row_text : Day → List ℕ → Progress → List Cell → List ℕ
 row_text s start progress row =
-    markup.ROW.now ++ flat_map group_text (pieces 5 row) ++ filled markup.ROW_BOX.now (decimal progress.letters ∷ [])
+    markup.ROW.now ++ flat_map group_text (pieces 5 row)
+    ++ filled markup.ROW_BOX.now (decimal (row_number (is_converter (day_model s)) progress) ∷ [])
     ++ windows_after s start progress.presses (pressed_count row == 0) ++ markup.ROW_END.now
 
 -- The rows `rows`, after rows that made this progress. At the start of the step, the machine showed `start`.

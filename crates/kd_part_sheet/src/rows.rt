@@ -6,7 +6,7 @@ ghost use Rattle.kd_state.specs.OwnKeys.{sheet_key};
 ghost use Rattle.kd_pictures.specs.Drawing.{Draws};
 ghost use Rattle.kd_part_sheet.specs.Cells.{place_text};
 ghost use Rattle.kd_part_sheet.specs.Rows.{above_text, group_text, has_below, has_marks, is_skipped, line_if, pieces, pressed_count};
-ghost use Rattle.kd_part_sheet.specs.Rows.{progress_after, row_text, rows_after, shown_after, windows_after};
+ghost use Rattle.kd_part_sheet.specs.Rows.{progress_after, row_number, row_text, rows_after, shown_after, windows_after};
 
 use crate::cells::{Cell, Line, Mark, Sign, draw_place};
 use crate::cutting::first_piece;
@@ -89,14 +89,24 @@ fn draw_row<W: Sink>(
 {
     draw(sink, ROW);
     draw_groups(sink, row);
-    fill(
-        sink,
-        language,
-        ROW_BOX,
-        &[Value::Number(progress.letters as u16)],
-    );
+    let number = row_number(is_converter(day.model()), progress);
+    fill(sink, language, ROW_BOX, &[Value::Number(number)]);
     draw_windows_after(sink, day, start, progress.presses, pressed_count(row) == 0);
     draw(sink, ROW_END);
+}
+
+/// The number at the end of a row. On a Converter, it is what the machine's counter shows: how many letters were pressed
+/// in this step. On a rotor machine, it is how many letters the rows have so far.
+fn row_number(is_converter: bool, progress: Progress) -> u16
+    requires presses { progress.presses ≤ progress.letters }
+    requires few { progress.letters ≤ 520 }
+    ensures { result ≡ row_number is_converter progress }
+{
+    if is_converter {
+        progress.presses as u16
+    } else {
+        progress.letters as u16
+    }
 }
 
 /// Writes the windows after `presses` key presses; nothing if no letter of the row is pressed.

@@ -28,8 +28,8 @@ pub const LEGEND: SheetText = (
             "</p>\n<p>Über der Linie: tippen. Auf die Linie: den Buchstaben der Lampe schreiben. Darunter: wie er lauten muss. Wo darüber nichts steht: abschreiben.<br>Am Ende der Zeile: Buchstaben bis hier, und Fenster. Weichen sie ab, die Fenster wie vor der Zeile einstellen und die Zeile wiederholen.",
         ),
         (
-            "</p>\n<p>Above the line: enter. On it: write what the machine prints. Below: what it has to be. Where nothing stands above, copy.<br>A row ends with the letters so far, those of the indicators too, and the wheels. If they differ, set the wheels as before the row, and begin it again. The machine’s own counter counts every letter.",
-            "</p>\n<p>Über der Linie: eingeben. Auf die Linie: schreiben, was die Maschine druckt. Darunter: wie es lauten muss. Wo darüber nichts steht: abschreiben.<br>Am Ende der Zeile: Buchstaben bis hier, die Kennbuchstaben mitgezählt, und Räder. Weichen sie ab, die Räder wie vor der Zeile einstellen und die Zeile wiederholen. Das Zählwerk der Maschine zählt jeden Buchstaben.",
+            "</p>\n<p>Above the line: enter. On it: write what the machine prints. Below: what it has to be. Where nothing stands above, copy.<br>At the start of a step, set the counter to 0. A row ends with the counter and the wheels. If they differ, set both as before the row, and begin it again.",
+            "</p>\n<p>Über der Linie: eingeben. Auf die Linie: schreiben, was die Maschine druckt. Darunter: wie es lauten muss. Wo darüber nichts steht: abschreiben.<br>Am Anfang eines Schritts das Zählwerk auf 0 stellen. Am Ende der Zeile: Zählwerk und Räder. Weichen sie ab, beide wie vor der Zeile einstellen und die Zeile wiederholen.",
         ),
     ),
     (
@@ -38,8 +38,8 @@ pub const LEGEND: SheetText = (
             "</p>\n<p>Über der Linie: tippen. Auf die Linie: den Buchstaben der Lampe schreiben. Darunter: wie er lauten muss. Kleingedruckte Buchstaben darüber auslassen.<br>Am Ende der Zeile: Buchstaben bis hier, und Fenster. Weichen sie ab, die Fenster wie vor der Zeile einstellen und die Zeile wiederholen.",
         ),
         (
-            "</p>\n<p>Above the line: enter. On it: write what the machine prints. Below: what it has to be. Skip letters in small print above.<br>A row ends with the letters so far, those of the indicators too, and the wheels. If they differ, set the wheels as before the row, and begin it again. The machine’s own counter counts every letter.",
-            "</p>\n<p>Über der Linie: eingeben. Auf die Linie: schreiben, was die Maschine druckt. Darunter: wie es lauten muss. Kleingedruckte Buchstaben darüber auslassen.<br>Am Ende der Zeile: Buchstaben bis hier, die Kennbuchstaben mitgezählt, und Räder. Weichen sie ab, die Räder wie vor der Zeile einstellen und die Zeile wiederholen. Das Zählwerk der Maschine zählt jeden Buchstaben.",
+            "</p>\n<p>Above the line: enter. On it: write what the machine prints. Below: what it has to be. Skip letters in small print above.<br>At the start of a step, set the counter to 0. A row ends with the counter and the wheels. If they differ, set both as before the row, and begin it again.",
+            "</p>\n<p>Über der Linie: eingeben. Auf die Linie: schreiben, was die Maschine druckt. Darunter: wie es lauten muss. Kleingedruckte Buchstaben darüber auslassen.<br>Am Anfang eines Schritts das Zählwerk auf 0 stellen. Am Ende der Zeile: Zählwerk und Räder. Weichen sie ab, beide wie vor der Zeile einstellen und die Zeile wiederholen.",
         ),
     ),
 );
@@ -135,8 +135,8 @@ pub const NEXT_STEP: SheetText = (
             "</section>\n<section class=next>\n<h2>2 Text, ab Buchstabe 251<span>~, Tag ~: Verschlüsseln, Teil ~ von ~</span></h2>\n",
         ),
         (
-            "</section>\n<section class=next>\n<h2>2 Text, from letter 201<span>~, day ~: send, part ~ of ~</span></h2>\n",
-            "</section>\n<section class=next>\n<h2>2 Text, ab Buchstabe 201<span>~, Tag ~: Verschlüsseln, Teil ~ von ~</span></h2>\n",
+            "</section>\n<section class=next>\n<h2>2 Text, counter at 190<span>~, day ~: send, part ~ of ~</span></h2>\n",
+            "</section>\n<section class=next>\n<h2>2 Text, Zählwerk auf 190<span>~, Tag ~: Verschlüsseln, Teil ~ von ~</span></h2>\n",
         ),
     ),
     (
@@ -145,8 +145,8 @@ pub const NEXT_STEP: SheetText = (
             "</section>\n<section class=next>\n<h2>2 Text, ab Buchstabe 251<span>~, Tag ~: Entschlüsseln, Teil ~ von ~</span></h2>\n",
         ),
         (
-            "</section>\n<section class=next>\n<h2>2 Text, from letter 201<span>~, day ~: receive, part ~ of ~</span></h2>\n",
-            "</section>\n<section class=next>\n<h2>2 Text, ab Buchstabe 201<span>~, Tag ~: Entschlüsseln, Teil ~ von ~</span></h2>\n",
+            "</section>\n<section class=next>\n<h2>2 Text, counter at 190<span>~, day ~: receive, part ~ of ~</span></h2>\n",
+            "</section>\n<section class=next>\n<h2>2 Text, Zählwerk auf 190<span>~, Tag ~: Entschlüsseln, Teil ~ von ~</span></h2>\n",
         ),
     ),
 );

@@ -20,6 +20,7 @@ returns c =
         heading = read.heading;
         came = read.came;
         body = read.body;
+        group = read.group;
         text = read.text;
         shown = read.shown;
         by_count = read.by_count;

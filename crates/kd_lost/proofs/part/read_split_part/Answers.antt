@@ -23,6 +23,7 @@ returns-in-Some c =
       came = c.read_lines.ensures.came
           ∙ ap (λ b. length (received_letters b)) (sym (ap body_of first.joined ∙ there.1));
       body = c.read_lines.ensures.body ∙ ap body_letters (sym (ap body_of first.joined ∙ there.1));
+      group = c.read_lines.ensures.group;
       text = told.1;
       shown = told.2;
       wrong_sign = subst (λ b. IsFirstWrongSign b c.read_lines.result.wrong_sign)
@@ -46,6 +47,7 @@ returns-in-None c =
       heading = c.read_lines-in-None.ensures.heading ∙ ap heading_signs (sym there.0);
       came = c.read_lines-in-None.ensures.came ∙ ap (λ b. length (received_letters b)) (sym there.1);
       body = c.read_lines-in-None.ensures.body ∙ ap body_letters (sym there.1);
+      group = c.read_lines-in-None.ensures.group;
       text = told.1;
       shown = told.2;
       wrong_sign = subst (λ b. IsFirstWrongSign b c.read_lines-in-None.result.wrong_sign) (sym there.1)
