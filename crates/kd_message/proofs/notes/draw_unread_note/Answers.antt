@@ -7,6 +7,6 @@ use Rattle.kd_message.proofs.notes.draw_unread_note.Goals as goal
 pub returns : goal.returns
 unfolding note_line
 returns g c =
-    joined (both (both (both c.draw_note_name.ensures c.draw_reason.ensures) c.draw_in.ensures) c.draw_asked.ensures)
-    c.draw.ensures
+    joined (both (both (both (both c.draw_day_note.ensures c.draw_note_name.ensures) c.draw_reason.ensures)
+    c.draw_in.ensures) c.draw_asked.ensures) c.draw.ensures
     (grind (arith, common_steps))
