@@ -72,14 +72,13 @@ begins_apart front back bytes =
     is_letter (slice_get bytes (length front))
     && (right_signs front bytes == length front && right_signs back (drop (length front + 1) bytes) == length back)
 
--- whether the first five signs of `bytes` are `PART` with one more letter
+-- whether the first five signs of `bytes` are `PART` with one more letter before its T
 abbrev pub has_five : List ℕ → Bool
 has_five bytes =
     begins_apart [] (codes "PART") bytes || begins_apart (codes "P") (codes "ART") bytes
     || begins_apart (codes "PA") (codes "RT") bytes || begins_apart (codes "PAR") (codes "T") bytes
-    || begins_apart (codes "PART") [] bytes
 
--- whether `bytes` begin with `PART` with one more letter, and no sixth letter follows
+-- whether `bytes` begin with `PART` with one more letter before its T, and no sixth letter follows
 abbrev pub begins_with_five : List ℕ → Bool
 begins_with_five bytes = has_five bytes && not (is_letter (slice_get bytes 5))
 

@@ -178,14 +178,14 @@ fn begins_with_word(word: &[u8], bytes: &[u8]) -> bool
     right_signs(word, bytes) == word.len() && !is_letter(bytes.get(word.len()).copied())
 }
 
-/// Whether `bytes` begin with `PART` with one more letter, and no sixth letter follows.
+/// Whether `bytes` begin with `PART` with one more letter before its T, and no sixth letter follows.
 fn begins_with_five(bytes: &[u8]) -> bool
     ensures { result ≡ begins_with_five bytes.now }
 {
     has_five(bytes) && !is_letter(bytes.get(5).copied())
 }
 
-/// Whether the first five signs of `bytes` are `PART` with one more letter.
+/// Whether the first five signs of `bytes` are `PART` with one more letter before its T.
 fn has_five(bytes: &[u8]) -> bool
     ensures { result ≡ has_five bytes.now }
 {
@@ -193,7 +193,6 @@ fn has_five(bytes: &[u8]) -> bool
         || begins_apart(b"P", b"ART", bytes)
         || begins_apart(b"PA", b"RT", bytes)
         || begins_apart(b"PAR", b"T", bytes)
-        || begins_apart(b"PART", b"", bytes)
 }
 
 /// Whether `bytes` begin with `front`, then any letter, then `back`.
