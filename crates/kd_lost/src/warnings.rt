@@ -29,7 +29,7 @@ pub(crate) fn test_group(day: &SheetDay, received: &[Option<Letter>]) -> GroupTe
     }
 }
 
-/// The letters, if none is lost.
+/// The letters of `received`; `None` if one of them is lost.
 fn known_letters(received: &[Option<Letter>]) -> Option<ArrayVec<Letter, 3>>
     requires { length received.now ≤ 3 }
     ensures { MatchOption result
@@ -77,7 +77,7 @@ fn completes(received: &[Option<Letter>], letters: &[Letter]) -> bool
     received.is_empty() && letters.is_empty()
 }
 
-/// Whether, at some place, the letter is lost in both copies.
+/// Whether, at some place, the letter is lost in both copies of the list letters.
 fn is_lost_in_both(start: &[Option<Letter>], end: &[Option<Letter>]) -> bool
     ensures { IsTrue result ↔ IsLostInBoth start.now end.now }
 {
