@@ -19,7 +19,7 @@ fn main(rt: HostRuntime) -> ExitCode {
 
 /// Runs the program on the host's files, folders and standard output, and returns the exit status.
 ///
-/// This isn't part of `main`, as the kit can't prove a call whose type has a lifetime that `main` infers.
+/// The call is here, and not in `main`: the prover can't handle a lifetime that `main` infers in the call's type.
 fn run_on_host<E: Sink>(
     rt: &HostRuntime,
     language: Language,

@@ -12,7 +12,7 @@ use crate::scans::Scans;
 ///
 /// A tree of rows and columns grows from `root`. In each round the nearest column joins the tree, and then the row that
 /// holds this column. The growth ends at a free column, which no row holds. For each row `r` of the tree, `plans` gets
-/// an assignment of columns to the rows up to `root`, without `r`. The old contents of `plans` are never read.
+/// an assignment. It gives a column to each row up to `root`, except `r`. The old contents of `plans` are never read.
 pub fn assign_row<const N: usize>(
     cost: &[[u8; N]; N],
     prices: &mut [i16; N],

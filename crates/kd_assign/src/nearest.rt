@@ -30,7 +30,9 @@ impl<const N: usize> Nearest<N> {
         }
     }
 
-    /// Adds `row` to the tree: for each column outside the tree, compares the row's offer with the column's ceiling.
+    /// Adds `row` to the tree, and compares its offer with the ceiling of each column outside the tree.
+    ///
+    /// A column's ceiling is the lowest price that a row of the tree has offered for it so far.
     pub fn join(
         &mut self,
         reached: &[bool; N],

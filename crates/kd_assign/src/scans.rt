@@ -27,7 +27,7 @@ impl Scans {
         Scans { count: 0 }
     }
 
-    /// Counts one comparison, and returns whether `new` is less than `slack`.
+    /// Compares two prices: counts one comparison, and returns whether `new` is below `slack`.
     pub fn closer(&mut self, slack: i16, new: i16) -> bool
         requires room { self.old < 4294967295 }
         ensures less { IsTrue result ↔ (new <ℤ slack) }

@@ -25,9 +25,9 @@ pub struct Solution<const N: usize> {
 
 /// Finds a minimum-cost assignment by the Hungarian method of Kuhn and Munkres.
 ///
-/// The method grows a tree of tight edges from each row. An edge joins a row and a column. An edge is tight if its two
-/// prices add up to the cost in the cell. If several assignments cost the least, the contract leaves open which one is
-/// found.
+/// The method grows a tree of tight edges from each row. An edge joins a row and a column. An edge is tight if the
+/// prices of its row and its column add up to the cost in their cell. If several assignments cost the least, the
+/// contract leaves open which one is found.
 pub fn assign<const N: usize>(cost: &[[u8; N]; N]) -> Solution<N>
     requires some { 1 ≤ N }
     requires few { N ≤ 32 }

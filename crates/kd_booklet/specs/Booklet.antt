@@ -19,7 +19,7 @@ ArePages l sheet m [] text = text ≡ []
 ArePages l sheet m (plan ∷ plans) text = (n : Parts) × (more : List ℕ) × Leads m plan.settings.items n
     × (text ≡ day_text (page_of l sheet plan.day m n plan.settings.items) ++ more) × ArePages l sheet n plans more
 
--- a planned day in the list of days, with the number of settings on this day
+-- the entry for a planned day in the list of days: the day's number, and how many settings the day has
 abbrev pub listed_day : DayPlan → ListedDay
 listed_day plan = record { day = plan.day; settings = length plan.settings.items }
 
@@ -31,8 +31,8 @@ pub record IsBooklet (l : Language) (sheet : List ℕ) (m : Parts) (first : DayP
   pub are_pages : ArePages l sheet m (first ∷ others) pages
   pub whole : text ≡ file_text l (model_of m) sheet (listed_day first) (map listed_day others) pages
 
--- The settings of the plan lead from machine `m` to machine `n`. Machine `n` is ready, and the settings are few enough
--- for a page.
+-- The plan's settings lead from machine `m` to machine `n`. Machine `n` is ready to encipher. The plan has at most 192
+-- settings, few enough for a page.
 pub record IsDrawable (m : Parts) (plan : DayPlan) (n : Parts) : Type 0 where
   pub leads : Leads m plan.settings.items n
   pub ready : IsReady n

@@ -8,8 +8,8 @@ use Rattle.kd_card.specs.declared.prices.PriceParts.{PriceParts}
 use Rattle.kd_plan.specs.Planned.{IsProvedPlannedCard}
 use Rattle.kd_booklet.specs.HandOrder.{in_hand_order}
 
--- The settings are those of a planned card in another order: rings come first, window letters last. In this order, the
--- settings also lead to the day. No list that leads to the day is shorter.
+-- The settings are a planned card's settings in another order: rings come first, window letters last. In this order,
+-- too, the settings lead to the day. No shorter list leads to the day.
 pub record IsHandList (m : Parts) (s : Day) (settings : List Setting) : Type 0 where
   pub planned : List Setting
   pub prices : PriceParts

@@ -40,11 +40,12 @@ seats_before_turning [] = true
 seats_before_turning (x ∷ xs) =
     if is_at_stage Windows x then list_all (λ y. not (is_seat y)) xs else seats_before_turning xs
 
--- The reordered list has the same settings as the list.
+-- Putting a list of settings in the operator's order adds no setting, and loses none.
 abbrev pub HandOrderIsPermutation : Type 0
 HandOrderIsPermutation = (xs : List Setting) → IsPermutation xs (in_hand_order xs)
 
--- If no wheel is seated after the first window is turned, the list and the reordered list lead to the same machine.
+-- Suppose that no wheel is seated after the first window is turned. Then a list leads to the same machine in its own
+-- order and in the operator's order.
 abbrev pub HandOrderLeads : Type 0
 HandOrderLeads =
     (m n : Parts) (xs : List Setting) → IsTrue (seats_before_turning xs) → Leads m xs n → Leads m (in_hand_order xs) n

@@ -22,12 +22,12 @@ abbrev pub lug_at : Parts → ℕ → Lug → Option Place
 lug_at m bar Left = option_map (λ standing. standing.0) (machine_standing m bar)
 lug_at m bar Right = option_map (λ standing. standing.1) (machine_standing m bar)
 
--- The value is `due` after a list, but not before the list.
+-- A list of settings gives a thing the value `due`, which the thing didn't have before the list.
 abbrev pub Becomes : {A : Type 0} → A → A → A → Type 0
 Becomes before after due = (before ≢ due) × (after ≡ due)
 
--- The letter in the window of a slot, or on a pin wheel, becomes `letter`. In a slot, this is the letter of the wheel
--- that machine `n` has in the slot.
+-- On machine `n`, the wheel in slot `number`, or pin wheel `number`, has the letter `letter`. On machine `m`, the same
+-- wheel doesn't have this letter.
 abbrev pub WindowTurns : Parts → Parts → ℕ → ℕ → Type 0
 WindowTurns (Rotor m) n number letter =
     (wheel : Wheel) → is_seated n number wheel ≡ true
@@ -35,9 +35,9 @@ WindowTurns (Rotor m) n number letter =
 WindowTurns (Pin m) n number letter =
     Becomes (machine_pin_letter (Pin m) number) (machine_pin_letter n number) (Some letter)
 
--- The thing that the setting sets differs between machine `m`, before a list, and machine `n`, after the list. On
--- machine `n`, the thing is as the setting says. A page marks this difference, unless the thing is a Converter's
--- letter.
+-- `m` is the machine before a list of settings, and `n` is the machine after the list. On `n`, the thing that the
+-- setting sets is as the setting says; on `m`, it isn't. A page marks this difference, unless the thing is a
+-- Converter's letter.
 abbrev pub Changes : Parts → Parts → Setting → Type 0
 Changes m n (RingTo wheel letter) = Becomes (machine_ring m wheel) (machine_ring n wheel) (Some letter)
 Changes m n (SeatReflector reflector) = Becomes (machine_reflector m) (machine_reflector n) (Some reflector)
@@ -49,7 +49,8 @@ Changes m n (PinTo wheel letter effective) =
 Changes m n (LugTo bar lug place) = Becomes (lug_at m bar lug) (lug_at n bar lug) (Some place)
 Changes m n (Turn number letter) = WindowTurns m n number letter
 
--- Each setting of a day's list changes the thing that it sets. This isn't so in a list that turns a wheel twice.
+-- Each setting of a day's list changes the thing that it sets. Other lists may have settings without a lasting change,
+-- such as the first of two turns of one wheel.
 abbrev pub DaySettingsChangeThings : Type 0
 DaySettingsChangeThings =
     (m n : Parts) (s : Day) (plan : DayPlan) → IsMachine m → IsLegalDay s → IsDayPlan m s plan n

@@ -12,7 +12,7 @@ use arrayvec::ArrayVec;
 use kd_sheet::Sheet;
 use kd_state::{Machine, SheetDay};
 
-/// The plans of several days.
+/// The plans of at most 31 days, one after another.
 pub type DayPlans = ArrayVec<DayPlan, 31>;
 
 /// Plans the days `numbers`. The first plan starts from `machine`, each later plan from the machine as the previous

@@ -2,7 +2,7 @@
 ghost use Rattle.kd_booklet.specs.HandOrder.{HandOrderIsPermutation, HandOrderLeads};
 ghost use Rattle.kd_booklet.specs.SettingChanges.{DaySettingsChangeThings};
 
-/// A list in the order that suits an operator has the same settings as before.
+/// Putting a list of settings in the order that suits an operator adds no setting, and loses none.
 ///
 /// If no wheel is seated after the first window is turned, the list leads to the same machine in both orders.
 pub fn hand_order_leads_alike()

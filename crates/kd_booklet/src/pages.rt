@@ -94,7 +94,7 @@ fn list_days(listed: &mut ArrayVec<ListedDay, 31>, plans: &[DayPlan])
     }
 }
 
-/// A planned day in the list of days, with the number of settings on this day.
+/// The entry for a planned day in the list of days: the day's number, and how many settings the day has.
 fn listed_day(plan: &DayPlan) -> ListedDay
     ensures { result ≡ listed_day plan.now }
 {

@@ -6,8 +6,8 @@ ghost use Rattle.kd_booklet.specs.HandOrder.{in_hand_order, is_at_stage, stage_o
 use arrayvec::ArrayVec;
 use kd_state::{Setting, Settings};
 
-/// A stage of an operator's work. Rings are set first, while the wheels are out. Windows are set last, after all other
-/// parts.
+/// A stage of an operator's work. Rings are set first, while the wheels are out. Windows are turned last, after all
+/// other settings.
 #[derive(Clone, Copy, PartialEq, Eq)]
 pub(crate) enum Stage {
     Rings,

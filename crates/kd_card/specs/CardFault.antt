@@ -44,9 +44,9 @@ pub record HasLineWords (bytes : List ℕ) (words : List (List ℕ)) (rest : Lis
   pub first : IsFirstPart 10 bytes line rest
   pub parts : words_of line ≡ words
 
--- The result of reading a line such as `SUM 12`: the bytes after the line, or a fault. The line is `prefix` and then a
--- number. If the line has another form or no LF, the fault is `BadLine`. If the line's number isn't `due`, the fault is
--- `CountWrong`.
+-- The result of reading a line such as `SUM 12`: the bytes after the line, or a fault. The line must be the text
+-- `prefix`, the number `due` and LF. For another number, the fault is `CountWrong`. For any other line, the fault is
+-- `BadLine`.
 abbrev pub IsValueAnswer : Bool → List ℕ → List ℕ → ℕ → List ℕ → AnswerRule CardFault (List ℕ)
 IsValueAnswer signed prefix due line bytes = do
   found ← Finds
@@ -131,8 +131,8 @@ pub record BeginsWithWord (word bytes : List ℕ) : Type 0 where
   pub rest : List ℕ
   pub has : HasLineWords bytes (word ∷ behind) rest
 
--- A group of lines that begin with `word` ends before `bytes`. Either `bytes` are empty, or their first line ends with
--- LF and begins with another word.
+-- `bytes` are what follows a group of lines that begin with `word`. Either `bytes` are empty, or their first line ends
+-- with LF and has another first word.
 pub data EndsGroup (word bytes : List ℕ) : Type 0 where
   AtNothing : bytes ≡ [] → EndsGroup word bytes
   AtOther : (other : List ℕ) → BeginsWithWord other bytes → other ≢ word → EndsGroup word bytes
@@ -163,8 +163,8 @@ pub record BeginsWithKinds {K X : Type 0} (format : KindFormat K X) (last : Opti
   pub none_more : HasNoNext format (last_of last kinds) rest
 
 -- The result of reading a group of kinds: the kinds and the bytes after them, or a fault. The fault is `BadLine` if a
--- line has no LF, or has the group's word but no valid next kind. The fault is `PriceMissing` if the kinds' counts
--- don't add up to `number`.
+-- line has no LF. The fault is also `BadLine` if a line begins with the group's word, but isn't the line of a valid
+-- next kind. The fault is `PriceMissing` if the kinds' counts don't add up to `number`.
 -- Code: the reader keeps at most `number` kinds, and stops adding counts at `number + 1`.
 abbrev pub IsGroupAnswer : {K X : Type 0} → KindFormat K X → ℕ → ℕ → List ℕ → AnswerRule CardFault (List K × List ℕ)
 IsGroupAnswer {K} format number line bytes = do

@@ -1,5 +1,5 @@
--- Kinds: a kind is one entry for equal cables, columns, bars or rows. A kind has the number of these cables, columns,
--- bars or rows, and the price of each.
+-- Kinds: equal cables are one kind, and so are equal columns, equal bars or equal rows. A kind has a count, and the
+-- price of a single cable, column, bar or row.
 use Rattle.kd_card.specs.{declared.kinds.CableKind.CableKind, declared.kinds.PairKind.PairKind}
 use Rattle.kd_card.specs.{declared.kinds.BarKind.BarKind, declared.kinds.RowKind.RowKind, declared.kinds.KindOf.KindOf}
 use Rattle.kd_state.specs.{Costs.{column_letters, one_unless}, LineWords.line_of, Machine.cable_letters}
@@ -22,7 +22,8 @@ letters_text (letter ∷ letters) = tables.letters_text (letter ∷ letters)
 abbrev pub kind_line : List ℕ → List ℕ → ℕ → ℤ → List (List ℕ)
 kind_line word key count price = word ∷ key ∷ decimal count ∷ signed_decimal price ∷ []
 
--- Two letters are in alphabetical order, or only the first end has a letter, or no end has a letter.
+-- The two ends of a cable have letters in alphabetical order, or only the first end has a letter, or neither end has
+-- one.
 abbrev pub AreEnds : Option ℕ → Option ℕ → Type 0
 AreEnds None None = Unit {0}
 AreEnds None (Some other) = ⊥
@@ -36,10 +37,12 @@ IsPairInOrder (Some pair) = (pair.0 < pair.1) × (pair.1 < 26)
 
 -- ---- the four sorts of kinds
 
--- The form of kinds of one sort (of cables, columns, bars or rows) on a card. Each line begins with `word`. `kind`
--- gives a kind's key (letters, a standing or a reading), its count and its price. `text` writes a key, such as `AB`.
--- `InForm` says which keys a card may have. Lines are sorted by the numbers that `order` gives for the kinds' keys. So
--- empty cables and empty columns come last.
+-- The form of kinds of one sort on a card: of cables, columns, bars or rows.
+-- - `word`: the first word of each line.
+-- - `kind`: a kind's key (letters, a standing or a reading), its count and its price.
+-- - `text`: the text of a key, such as `AB`.
+-- - `InForm`: which keys a card may have.
+-- - `order`: the numbers by which lines are sorted. Empty cables and empty columns come last.
 pub record KindFormat (K X : Type 0) : Type 1 where
   pub word : List ℕ
   pub kind : K → KindOf X
@@ -140,8 +143,8 @@ pub record IsGroup {K X : Type 0} (format : KindFormat K X) (number : ℕ) (kind
 abbrev pub expansion : {X : Type 0} → List (KindOf X) → List (X × ℤ)
 expansion kinds = flat_map (λ kind. replicate kind.count (kind.key, kind.price)) kinds
 
--- In some order, the kinds have the keys `keys` with the prices `prices`. Each key comes as often as its kind's count
--- says.
+-- If each kind's key and price are repeated as often as its count says, the result is `keys` with their `prices`, in
+-- some order.
 -- Code: `kinds_of` sorts keys with their prices, and counts equal neighbours. For each key, `prices_of` takes its
 -- kind's price, and lowers the kind's count.
 pub record AreKindsOf {K X : Type 0} (format : KindFormat K X) (keys : List X) (prices : List ℤ) (kinds : List K)

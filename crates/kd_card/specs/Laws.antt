@@ -10,8 +10,8 @@ use Rattle.kd_state.specs.{declared.setting.Setting.Setting, Costs.{cost_table, 
 use Rattle.kd_state.specs.Machine.{IsMachine, model_of}
 use Rattle.std.specs.Prelude.{◌≡◌, ℕ, ◌+◌, ◌≤◌, List, [], ◌++◌, length, pos, ◌+ℤ◌, ◌≤ℤ◌, ◌↔◌, Ok}
 
--- There are as many settings for loose things as there are loose things. A thing such as a ring or a pin is loose if it
--- isn't as the day says. Cables and bars are never loose.
+-- The list of settings for a machine's loose things has one setting for each of these things. A thing such as a ring or
+-- a pin is loose if it isn't as the day says. Cables and bars are never loose.
 abbrev pub LooseThingsAreCounted : Type 0
 LooseThingsAreCounted =
     (machine : Parts) (day : Day) → IsMachine machine → IsLegalDay day → model_of machine ≡ day_model day
@@ -27,28 +27,30 @@ FittingPricesBoundLists =
     → (pos (loose_count machine day) +ℤ price_sum prices) ≤ℤ pos (length settings)
 
 -- A setting is unpriced if it changes no cable and no bar. Suppose that a list reaches the day, and has no more
--- unpriced settings than there are loose things. Then all unpriced settings of the list are needed.
+-- unpriced settings than there are loose things. Then each unpriced setting lowers the number of loose things by one.
 abbrev pub AsFewAreNeeded : Type 0
 AsFewAreNeeded =
     (machine : Parts) (day : Day) (settings : List Setting) → IsLegalDay day → model_of machine ≡ day_model day
     → LeadsToTheDay machine day settings
     → length settings ≤ loose_count machine day + priced_count settings → AreSettingsNeeded machine day settings
 
--- If a card with prices by number proves itself, its length is the prices' sum plus the number of loose things.
+-- If a card with prices by number proves itself, the number of its settings is the prices' sum plus the number of loose
+-- things.
 abbrev pub ProvingCardsAreAsLong : Type 0
 ProvingCardsAreAsLong =
     (machine : Parts) (day : Day) (settings : List Setting) (prices : PriceParts)
     → ProvesByNumber machine day settings prices
     → pos (length settings) ≡ (pos (loose_count machine day) +ℤ price_sum prices)
 
--- No list that reaches the day is shorter than a card that proves itself.
+-- No list that reaches the day has fewer settings than a card that proves itself.
 abbrev pub ProvingCardsAreShortest : Type 0
 ProvingCardsAreShortest =
     (machine : Parts) (day : Day) (settings : List Setting) (prices : PriceParts) → IsMachine machine → IsLegalDay day
     → ArePrices prices → Proves machine day settings prices
     → IsShortest machine day settings
 
--- If prices by kind show that a list of settings is shortest, no shorter list reaches the day.
+-- Suppose that prices by kind fit. Suppose that a list has as many settings as the prices' sum plus the number of loose
+-- things. Then no shorter list reaches the day.
 abbrev pub ShownListsAreShortest : Type 0
 ShownListsAreShortest =
     (machine : Parts) (day : Day) (settings : List Setting) (prices : PriceParts) → IsMachine machine → IsLegalDay day
@@ -60,7 +62,7 @@ ProvingPricesShow =
     (machine : Parts) (day : Day) (settings : List Setting) (prices : PriceParts) → version_of prices ≡ ByKind
     → Proves machine day settings prices → ShowShortest machine day settings prices
 
--- If a card with prices by number proves itself, none of its prices can be raised alone: in each row and in each column
+-- If a card with prices by number proves itself, none of its prices can be raised alone. In each row and in each column
 -- of the table of costs, one cell's cost is the sum of its row's price and its column's price.
 abbrev pub ProvingPricesAreTight : Type 0
 ProvingPricesAreTight =

@@ -16,7 +16,8 @@ use Rattle.std.specs.Option.{option_map_or}
 abbrev pub setting_unless : Bool → Setting → List Setting
 setting_unless already x = if already then [] else x ∷ []
 
--- the settings that `lines` gives for each item and its number; the first item has the number `number`
+-- the settings for the items of a list, item after item. The function `lines` gives the settings for one item and its
+-- number. The first item has the number `number`.
 abbrev pub lines_from : {Z : Type 0} → (ℕ → Z → List Setting) → ℕ → List Z → List Setting
 lines_from lines number [] = []
 lines_from lines number (z ∷ zs) = lines number z ++ lines_from lines (number + 1) zs

@@ -30,8 +30,8 @@ DayAfterDay Sets machine days lists = ⊥
 abbrev pub total_length : List (List Setting) → ℕ
 total_length lists = sum (map length lists)
 
--- On a rotor machine, cards that prove themselves also have the fewest settings in total over several days. No lists
--- that reach these days, in this order and from the same first machine, have fewer settings.
+-- Suppose that a rotor machine has a card for each of several days, and each card proves itself. Then these cards have
+-- the fewest settings in total of all lists that reach these days, in this order and from the same first machine.
 abbrev pub CardsAreFewestInAll : Type 0
 CardsAreFewestInAll =
     (machine : Parts) (days : List Day) (cards lists : List (List Setting)) → IsMachine machine

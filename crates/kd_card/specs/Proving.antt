@@ -11,7 +11,8 @@ use Rattle.kd_state.specs.{Setting.Carries, Machine.model_of, OnKey.columns_in_o
 use Rattle.kd_card.specs.Shortest.{LeadsToTheDay}
 use Rattle.std.specs.Prelude.{◌≡◌, ℕ, ◌+◌, Bool, true, false, List, [], ◌∷◌, pos, IsFalse, count_by}
 
--- The prices are by number, and suit the machine: they are for cables and columns, or for bars and rows.
+-- The prices are by number. A rotor machine has prices for cables and columns, and a Converter has prices for bars and
+-- rows.
 abbrev pub AreModelPrices : Parts → PriceParts → Type 0
 AreModelPrices (Rotor machine) (Cables cables columns) = Unit {0}
 AreModelPrices (Pin machine) (Bars bars rows) = Unit {0}
@@ -28,7 +29,7 @@ is_priced_setting _ = false
 abbrev pub priced_count : List Setting → ℕ
 priced_count settings = count_by is_priced_setting settings
 
--- The setting is needed. It changes a cable or a bar, or the machine carries it out and then has one loose thing less.
+-- The setting is needed: it changes a cable or a bar, or it lowers the number of loose things by one.
 abbrev pub IsSettingNeeded : Parts → Day → Setting → Type 0
 IsSettingNeeded machine day setting = IsFalse (is_priced_setting setting)
     → (after : Parts) × Carries machine setting after × (loose_count machine day ≡ loose_count after day + 1)
@@ -41,8 +42,9 @@ AreSettingsNeeded machine day (setting ∷ rest) = (after : Parts) × Carries ma
 
 -- ---- prices by kind mean prices by number
 
--- The first prices are by kind, and their kinds count all cables and columns, or all bars and rows. The second prices
--- are by number: each cable, column, bar or row has the price of its kind.
+-- The first prices are by kind. The keys and counts of the kinds agree with the machine's cables and the day's columns,
+-- or with the machine's bars and the day's rows. The second prices are by number: each cable, column, bar or row has
+-- the price of its kind.
 abbrev pub AreExpanded : Parts → Day → PriceParts → PriceParts → Type 0
 AreExpanded (Rotor machine) (Rotor day) (CableKinds cable_kinds column_kinds) (Cables cables columns) =
     AreKindsOf cable_format machine.cables cables cable_kinds.items
@@ -51,8 +53,8 @@ AreExpanded (Pin machine) (Pin day) (BarKinds bar_kinds row_kinds) (Bars bars ro
     AreKindsOf bar_format machine.bars bars bar_kinds.items × AreKindsOf row_format day.rows rows row_kinds.items
 AreExpanded _ _ _ _ = ⊥
 
--- If `prices` are by number, the prices `numbered` equal `prices`. Otherwise, `prices` and `numbered` are valid prices,
--- and `numbered` has for each cable, column, bar or row the price of its kind.
+-- `numbered` are the prices `prices`, by number. If `prices` are by kind, both are valid, and `numbered` gives each
+-- cable, column, bar or row the price of its kind.
 pub data Expands (machine : Parts) (day : Day) (prices numbered : PriceParts) : Type 0 where
   Same : version_of prices ≡ ByNumber → prices ≡ numbered → Expands machine day prices numbered
   Expanded : ArePrices prices → ArePrices numbered → AreExpanded machine day prices numbered

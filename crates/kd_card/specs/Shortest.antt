@@ -16,8 +16,9 @@ abbrev pub IsShortest : Parts → Day → List Setting → Type 0
 IsShortest machine day settings =
     (others : List Setting) → LeadsToTheDay machine day others → length settings ≤ length others
 
--- The prices are by kind, and fit. The kinds count exactly the machine's cables and the day's columns, or the machine's
--- bars and the day's rows. The prices of a cable and a column, or of a bar and a row, add up to at most their cost.
+-- The prices are by kind, and fit. The keys and counts of the kinds agree with the machine's cables and the day's
+-- columns, or with the machine's bars and the day's rows. The prices of a cable and a column, or of a bar and a row,
+-- add up to at most their cost.
 abbrev pub KindPricesFit : Parts → Day → PriceParts → Type 0
 KindPricesFit (Rotor machine) (Rotor day) (CableKinds cables columns) =
     IsPermutation machine.cables (flat_map (λ k. replicate k.count k.ends) cables.items)

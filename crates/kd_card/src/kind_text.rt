@@ -48,8 +48,7 @@ fn kind_of_parts<K: Kind>(key: &[u8], count: &[u8], price: &[u8]) -> Option<K>
 /// Reads the next kind of a group from the first line of `text`. Returns this kind, and the text after the line.
 ///
 /// `None` if the group ends: `text` is empty, or its first line has an LF and another first word than `K::word()`. The
-/// fault is `BadLine` if the line has no LF, or isn't a valid kind's line after the kind `last`. This line is line
-/// `line` of the card.
+/// fault is `BadLine(line)` if the line has no LF, or isn't the line of a valid kind that comes after `last`.
 fn next_kind<K: Kind>(
     text: &[u8],
     last: Option<K>,

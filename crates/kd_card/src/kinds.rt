@@ -1,5 +1,5 @@
-//! Kinds: a kind is one entry for equal cables, columns, bars or rows. A kind has the number of these cables, columns,
-//! bars or rows, and the price of each.
+//! Kinds: equal cables are one kind, and so are equal columns, equal bars or equal rows. A kind has a count, and the
+//! price of a single cable, column, bar or row.
 ghost use Rattle.std.specs.Prelude.{◌≡◌, ◌≢◌, ◌↔◌, ℕ, ◌+◌, ◌<◌, ◌≤◌, [], ◌∷◌, ◌++◌, length, replicate, None};
 ghost use Rattle.std.specs.Prelude.{IsTrue, MatchOption};
 ghost use Rattle.arrayvec.specs.ArrayVec.{array_vec_len};

@@ -16,7 +16,7 @@ pub fn no_two_cards_have_one_text()
     ensures one_fault { OneCardFault }
 {}
 
-/// There are as many settings for loose things as there are loose things.
+/// The list of settings for a machine's loose things has one setting for each of these things.
 ///
 /// A thing such as a ring or a pin is loose if it isn't as the day says. Cables and bars are never loose.
 #[tactic(auto, using(crate::proofs::Leading::loose_things_are_counted))]
@@ -42,7 +42,8 @@ pub fn as_few_are_needed()
     ensures { AsFewAreNeeded }
 {}
 
-/// If a card with prices by number proves itself, its length is the prices' sum plus the number of loose things.
+/// If a card with prices by number proves itself, the number of its settings is the prices' sum plus the number of
+/// loose things.
 ///
 /// Prices are *by number* if each cable and each column, or each bar and each row, has its own price.
 #[tactic(auto, using(crate::proofs::Months::proving_cards_are_as_long))]
@@ -76,10 +77,10 @@ pub fn proving_prices_are_tight()
     ensures { ProvingPricesAreTight }
 {}
 
-/// On a rotor machine, cards that prove themselves have the fewest settings in total over several days.
+/// If a rotor machine's cards for several days prove themselves, no other lists have fewer settings in total.
 ///
-/// Each card begins with the machine that the card before it reaches. No other lists that reach these days, in this
-/// order and from the same first machine, have fewer settings.
+/// Each card begins with the machine that the card before it reaches. The other lists reach the same days, in the same
+/// order and from the same first machine.
 #[tactic(auto, using(crate::proofs::Months::cards_are_fewest_in_all))]
 pub fn cards_are_fewest_in_all()
     ensures { CardsAreFewestInAll }

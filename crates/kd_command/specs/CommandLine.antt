@@ -70,7 +70,8 @@ desk_grammar = record {
 -- Code: `Command` has two type parameters: for files that are read whole, and for a file that is streamed.
 -- Test: tests/cases/desk-program.toml
 
--- the task, with `f` applied to its file that is read whole, and with `g` applied to its file that is streamed
+-- the task; the first function is applied to its file that is read whole, the second function to its file that is
+-- streamed
 abbrev pub with_task_files : {F G O P : Type 0} → (F → G) → (O → P) → Task F O → Task G P
 with_task_files f g tasks.Card = tasks.Card
 with_task_files f g (tasks.Check card) = tasks.Check (f card)
@@ -88,7 +89,7 @@ with_files f g command = record { machine = f command.machine; action = with_act
 abbrev pub unborrowed_command : Command (Bor (List ℕ)) (Bor (List ℕ)) → Command (List ℕ) (List ℕ)
 unborrowed_command command = with_files (λ name. name.now) (λ name. name.now) command
 
--- the command, with `g` applied to the file that is streamed
+-- the command, with the function applied to its file that is streamed
 abbrev pub with_command_stream : {F O P : Type 0} → (O → P) → Command F O → Command F P
 with_command_stream g command = with_files (λ file. file) g command
 
@@ -137,7 +138,7 @@ pub record HaveSheetAndDay (rows : List Row) (sheet : List ℕ) (day : ℕ) : Ty
   pub day_word : first_of (codes "DAY") rows ≡ Some (decimal day)
   pub of_month : IsDayNumber day
 
--- The arguments in `rows` give the third file that some tasks need, such as CARD for `check`.
+-- If the task needs a third file, such as CARD for `check`, the arguments in the rows give this file's name.
 abbrev pub HasTaskFile : List Row → NamedTask → Type 0
 HasTaskFile rows tasks.Card = Unit {0}
 HasTaskFile rows (tasks.Check card) = first_of (codes "CARD") rows ≡ Some card

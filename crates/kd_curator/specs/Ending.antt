@@ -25,7 +25,8 @@ day_prefix (Some day) = codes "day " ++ decimal day ++ codes ": "
 abbrev pub refusal_text : Refused → List ℕ
 refusal_text refused = day_prefix refused.day ++ (codes "refused " ++ page_fault_text refused.fault)
 
--- the end of a refusal's line: the remark on a file, if there is one, with the file's name, which is in `names`
+-- the end of a refusal's line: if there is a remark on a file, the remark and the file's name. `names` are the names of
+-- the command's files.
 abbrev pub refusal_end : List (List ℕ) → Option Blame → List ℕ
 refusal_end names None = 10 ∷ []
 refusal_end names (Some blame) = remark_words blame.remark ++ (text_at names blame.place ++ 10 ∷ [])
@@ -40,7 +41,7 @@ error_text names (Ok done) = []
 error_text names (Err (stops.Usage text)) = string_bytes text
 error_text names (Err (stops.Refused refused)) = refusal_line names refused
 
--- the exit status: 0 if all went well, 2 if the words don't mean a command, 1 for a refusal
+-- the exit status: 0 if all went well, 2 if the command line means no command, 1 for a refusal
 abbrev pub status_of : Result (Unit {0}) Stop → ℕ
 status_of (Ok done) = 0
 status_of (Err (stops.Usage text)) = 2
@@ -56,25 +57,25 @@ abbrev pub blame_of : Result (Unit {0}) Stop → Option Blame
 blame_of (Err (stops.Refused refused)) = refused.blame
 blame_of _ = None
 
--- the program's answer after a command that gave this answer
+-- the program's answer, if its command gave this answer; a refusal becomes a `Stop`
 abbrev pub stop_after : Result (Unit {0}) Refused → Result (Unit {0}) Stop
 stop_after (Ok done) = Ok done
 stop_after (Err refused) = Err (stops.Refused refused)
 
--- The program stops because memory ran out before a file was asked for.
+-- the reason to stop if memory ran out before a file was read
 abbrev pub memory_stop : Stop
 memory_stop = stops.Refused (refused_whole (Unread NoMemory))
 
 -- ---- Why the words of the command line can't be read.
 
--- The program stops with the message that a word isn't UTF-8.
+-- The program stops with the message that a word of the command line isn't UTF-8.
 abbrev pub IsWordsText : Stop → Type 0
 IsWordsText (stops.Usage text) =
     string_bytes text ≡ codes "error: a word of the command line isn't UTF-8" ++ 10 ∷ []
 IsWordsText _ = ⊥
 
--- Why the program stops if the words can't be read. The kind of the error says whether memory ran out, or a word isn't
--- UTF-8. If a word isn't UTF-8, memory may also run out for the text that says so.
+-- Why the program stops if it can't read the words of the command line. The kind of the error says whether memory ran
+-- out, or a word isn't UTF-8. In the second case, memory may also run out for the message.
 abbrev pub IsWordsStop : ErrorKind → Stop → Type 0
 IsWordsStop OutOfMemory stop = stop ≡ memory_stop
 IsWordsStop _ stop = (stop ≡ memory_stop) ⊎ IsWordsText stop

@@ -29,7 +29,8 @@ contents_of held (name ∷ names) = do
   rest ← contents_of held names
   Ok (bytes ∷ rest)
 
--- the text at this place of the list, counted from 0: the bytes of a file, or a file's name; empty if there is none
+-- the text at this place of a list, counted from 0; empty if the list has no such place. The texts are the bytes of
+-- files, or the names of files.
 abbrev pub text_at : List (List ℕ) → ℕ → List ℕ
 text_at texts place = get_or texts place []
 
@@ -39,7 +40,7 @@ unborrowed_names names = map (λ name. name.now) names
 
 -- ---- What inner functions read. No public contract cites these definitions.
 
--- the texts `before`, and after them the texts that were read
+-- the texts `before`, and then the texts of the files that were read; or the fault of a file that can't be read
 abbrev pub behind : List (List ℕ) → Result (List (List ℕ)) FileFault → Result (List (List ℕ)) FileFault
 behind before read = result_map_both (λ texts. before ++ texts) (λ fault. fault) read
 

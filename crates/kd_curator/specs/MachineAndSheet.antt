@@ -22,26 +22,28 @@ use Rattle.kd_curator.specs.Refusals.{refused_in, refused_whole}
 abbrev pub refused_memory : Refused
 refused_memory = refused_whole (File NoMemory)
 
--- The answer is that memory ran out. This answer is allowed for all files.
+-- The answer is that memory ran out. This answer is always allowed.
 abbrev pub LacksMemory : {A : Type 0} → Result A Refused → Type 0
 LacksMemory answer = answer ≡ Err refused_memory
 
--- whether a document is a key sheet if a machine file is needed, or a machine file if a key sheet is needed
+-- whether the document is of the wrong sort: a key sheet in place of the needed machine file, or a machine file in
+-- place of the needed key sheet
 abbrev pub is_other_document : Needed → Members → Bool
 is_other_document needs.Machine document = is_some (entries_of document)
 is_other_document needs.Sheet document = is_machine_file document
 
--- whether there is a document, and `test` holds of it
+-- whether a document was read without a fault, and `test` holds of this document
 abbrev pub holds_of : (Members → Bool) → Result Members SheetFault → Bool
 holds_of test (Ok document) = test document
 holds_of test (Err fault) = false
 
--- whether a file is a key sheet if a machine file is needed, or a machine file if a key sheet is needed
+-- whether the file is of the wrong sort: a key sheet in place of the needed machine file, or a machine file in place of
+-- the needed key sheet
 unfoldable pub is_other_file : Needed → List ℕ → Bool
 is_other_file needed bytes = holds_of (is_other_document needed) (document_of bytes)
 
--- The remark on a file with a fault. `needed` says whether a machine file or a key sheet is needed. The second argument
--- says whether the file is the other of the two.
+-- The remark on a file with a fault. The first argument says whether a machine file or a key sheet is needed. The
+-- second argument says whether the file is the wrong one of these two.
 abbrev pub file_remark : Needed → Bool → Remark
 file_remark needs.Machine false = MachineFile
 file_remark needs.Machine true = SheetForMachine
@@ -64,7 +66,7 @@ machine_in bytes = or_refused (refused_file needs.Machine 0 bytes) (machine_of b
 abbrev pub month_in : ℕ → List ℕ → Result (List (Option Day)) Refused
 month_in place bytes = or_refused (refused_file needs.Sheet place bytes) (sheet_of bytes)
 
--- The machine in a machine file, and the month in a key sheet. If one of the two files can't be read, the first fault.
+-- the machine in a machine file, and the month in a key sheet; or the refusal for the first fault of these two files
 unfoldable pub machine_and_month : List ℕ → List ℕ → Result (Parts × List (Option Day)) Refused
 machine_and_month machine sheet = do
   m ← machine_in machine

@@ -67,8 +67,7 @@ pub data EndsWithFile (l : Language) (words : List (List ℕ)) (known : Option (
       → (fault : NewFileFault) → EndsWithLine (unwritten_line name fault) 1 (at_last errors told failed) status
       → EndsWithFile l words known asked before after name names errors status
 
--- The output goes to the sink for one of these reasons: the words name no output file, the words don't mean a command,
--- or memory ran out.
+-- The output goes to the sink. The command line names no output file, or it means no command, or memory ran out.
 abbrev pub GoesToSink : List (List ℕ) → Result (Unit {0}) Stop → Type 0
 GoesToSink words answer =
     (output_of words ≡ None) ⊎ (IsNoCommandLine words ⊎ (answer ≡ Err memory_stop))
@@ -88,13 +87,13 @@ pub data RunsTo (l : Language) (words : List (List ℕ)) (known : Option (List �
 
 -- ---- What inner functions require and answer. No public contract cites these definitions.
 
--- Some command line means the command.
+-- There is a command line that means this command.
 abbrev pub IsMeantBySome : NamedCommand → Type 0
 IsMeantBySome command = (words : List (List ℕ)) × IsCommandLineOf words command
 
--- How a command that wrote `bytes` to a new file changes the files from `before` to `after`. `failed` says whether a
--- write failed. The next argument says whether the whole output was written. If it was written, and there is no fault,
--- there is a new file with the name `name`. Otherwise, the files are as before.
+-- How the files change by a command that wrote `bytes` to a new file. `failed` says whether a write failed. The second
+-- truth value says whether the whole output was written. If it was, and the result is `Ok`, there is a new file with
+-- the name `name`. Otherwise, the files are as before.
 abbrev pub EndsFile : Option FilesByName → Option FilesByName → List ℕ → Option (List ℕ) → Bool → Bool
     → Result (Unit {0}) NewFileFault → Type 0
 EndsFile before after name bytes failed true (Ok done) = AddsFile before after name bytes

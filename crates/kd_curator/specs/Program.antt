@@ -83,7 +83,7 @@ DoesCommand l (commands.Look files) texts sink answer =
 DoesCommand l (commands.EmptySheet model days) texts sink answer =
     WritesText refused_device (empty_month_text model days) sink answer
 
--- Nothing was written to the port, and the port didn't fail in the meantime.
+-- During the call, nothing was written to the port, and the port didn't fail.
 pub record IsLeftAlone (p : Port) : Type 0 where
   pub same : p.has ≡ p.had
   pub failed : p.has_failed ≡ p.had_failed
@@ -97,14 +97,15 @@ is_whole (Ok done) = true
 is_whole (Err (stops.Refused refused)) = is_after_all refused.fault
 is_whole (Err (stops.Usage text)) = false
 
--- The answer after a flush. If no bytes are left, it is `first`. If the sink didn't take the bytes `left`, it is
--- `Device`.
+-- The program's answer after the gathered bytes were passed on to the sink. If the sink took all bytes, the answer is
+-- `first`, as before. If the sink didn't take the bytes `left`, the answer is `Device`.
 abbrev pub IsFlushed : List ℕ → Result (Unit {0}) Stop → Result (Unit {0}) Stop → Type 0
 IsFlushed left first answer =
     ((answer ≡ first) × (left ≡ [])) ⊎ ((answer ≡ Err (stops.Refused refused_device)) × (1 ≤ length left))
 
--- The answer after a command. The first argument says whether there was a flush. If there was, the answer is the answer
--- after the flush; otherwise it is `first`.
+-- The program's answer after a command that gave the answer `first`. The first argument says whether the gathered bytes
+-- were then passed on to the sink. If they were, but the sink didn't take all of them, the answer is `Device`.
+-- Otherwise it is `first`.
 abbrev pub AnswersAfter : Bool → List ℕ → Result (Unit {0}) Stop → Result (Unit {0}) Stop → Type 0
 AnswersAfter true left first answer = IsFlushed left first answer
 AnswersAfter false left first answer = answer ≡ first
@@ -114,14 +115,15 @@ AnswersAfter false left first answer = answer ≡ first
 abbrev pub IsAnswerAfterFlush : List ℕ → Result (Unit {0}) Stop → Result (Unit {0}) Stop → Type 0
 IsAnswerAfterFlush left first answer = AnswersAfter (is_whole first) left first answer
 
--- A command gave the answer `told`, for which `Does` holds. Then the program's answer is `answer`.
+-- `answer` is the program's answer after a command that gave the answer `told`. `Does` holds of `told`. The sink didn't
+-- take the bytes `left`.
 pub record IsTold (Does : Result (Unit {0}) Refused → Type 0) (left : List ℕ) (answer : Result (Unit {0}) Stop)
     : Type 0 where
   pub told : Result (Unit {0}) Refused
   pub does : Does told
   pub answers : IsAnswerAfterFlush left (stop_after told) answer
 
--- whether the answer says that the words don't mean a command
+-- whether the answer says that the command line means no command
 abbrev pub is_usage : Result (Unit {0}) Stop → Bool
 is_usage (Err (stops.Usage text)) = true
 is_usage _ = false
@@ -207,7 +209,7 @@ at_first errors told failed = record errors { has = told; has_failed = failed }
 abbrev pub at_last : Port → Option (List ℕ) → Bool → Port
 at_last errors told failed = record errors { had = told; had_failed = failed }
 
--- `names` are the names of the files of the command that the words mean, or the answer has no remark on a file.
+-- `names` are the names of the files in the command line, or the answer has no remark on a file.
 abbrev pub AreNamesFor : List (List ℕ) → List (List ℕ) → Result (Unit {0}) Stop → Type 0
 AreNamesFor words names answer =
     ((command : NamedCommand) × IsCommandLineOf words command × (names ≡ names_of command)) ⊎ (blame_of answer ≡ None)
@@ -233,7 +235,7 @@ abbrev pub HasMonth : NamedCommand → Type 0
 HasMonth (commands.EmptySheet model days) = days ≤ 31
 HasMonth _ = Unit {0}
 
--- For a form, any notes may have been written to standard error. For an order, nothing was written to it.
+-- What a command for a message wrote to standard error: any notes for a form, and nothing for an order.
 abbrev pub TellsOfMessage : MessageKind → Port → Type 0
 TellsOfMessage kinds.Order errors = IsLeftAlone errors
 TellsOfMessage kinds.Form errors = Tells errors

@@ -50,7 +50,8 @@ refused_whole fault = record { day = None; blame = None; fault = fault }
 abbrev pub refused_in : ℕ → Remark → PageFault → Refused
 refused_in place remark fault = record { day = None; blame = blame_on place remark; fault = fault }
 
--- the refusal for the file at this place, which couldn't be read for the reason `why`
+-- the refusal for a file that couldn't be read for the reason `why`; the number is the file's place among the command's
+-- files
 abbrev pub refused_unread : ℕ → FileFault → WhyUnread → Refused
 refused_unread place fault why = record { day = None; blame = unread_blame place fault why; fault = faults.Unread fault }
 
@@ -62,11 +63,11 @@ message_blame forms.NotReady = blame_on 0 MachineFile
 message_blame forms.NotOnKey = blame_on 0 MachineFile
 message_blame _ = blame_on 2 Order
 
--- the refusal for a fault of an order, or of the machine on which a message is worked
+-- the refusal for a fault of an order, or of the machine that enciphers or deciphers a message
 abbrev pub refused_message : FormFault → Refused
 refused_message fault = record { day = None; blame = message_blame fault; fault = faults.Message fault }
 
--- the fault that a refusal names if a day can't be planned, for the reason why it can't
+-- the fault that a refusal names if a day can't be planned for this reason
 abbrev pub fault_of_plan : NoPlan → PageFault
 fault_of_plan plans.NoSuchDay = faults.NoSuchDay
 fault_of_plan plans.OtherModel = faults.OtherModel

@@ -36,7 +36,7 @@ abbrev pub wanted_days : Option (List ℕ) → Model → List (Option Day) → L
 wanted_days (Some days) model month = days
 wanted_days None model month = filter (has_day_of model month) (range_with_len 1 31)
 
--- `refused` is the refusal that names the first day that can't be planned.
+-- `refused` is the refusal of the first day among `numbers` that can't be planned.
 pub record IsDayRefusal (model : Model) (month : List (Option Day)) (numbers : List ℕ) (refused : Refused)
     : Type 0 where
   pub fault : DayFault

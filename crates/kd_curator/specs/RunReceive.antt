@@ -52,8 +52,8 @@ pub data WritesReceivePage (l : Language) (month : List (Option Day)) (m : Parts
       → IsFormRead m s form parts → TakesPrefix sink.had sink.has (receive_text l s parts)
       → answer ≡ Err refused_device → WritesReceivePage l month m number form sink answer
 
--- `Told` holds of the notes on standard error, which say what is wrong with the form's parts, and what to ask for. If
--- no page is written, there may be no notes.
+-- `Told` holds of the notes on standard error. The notes say what is wrong with the form's parts, and what the sender
+-- should repeat. If no page is written, there may be no notes.
 pub data TellsOfForm (l : Language) (month : List (Option Day)) (m : Parts) (number : ℕ) (form : List ℕ)
     (Told : List ℕ → Type 0) (answer : Result (Unit {0}) Refused) : Type 0 where
   OfParts : (s : Day) → day_of month number ≡ Some s → IsReadyOnKey m s → (parts : List DamagedPart)

@@ -23,6 +23,6 @@ pub data WritesTypingPage (l : Language) (m : Parts) (sink : Port) (answer : Res
 
 -- ---- The answer of an inner function. No public contract cites this definition.
 
--- The answer after a page was written. `failed` says whether the sink has failed.
+-- The answer after the program wrote a page: the refusal `Device` if the sink failed, and otherwise success.
 abbrev pub answer_after : Bool → Result (Unit {0}) Refused
 answer_after failed = if failed then Err refused_device else Ok tt

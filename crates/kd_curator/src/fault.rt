@@ -42,7 +42,7 @@ pub enum PageFault {
 impl PageFault {
     /// The refusal's number and name, and then the fault's values, if it has any, such as a key.
     ///
-    /// A fault that notes or a report explain has no number here.
+    /// If notes or a report explain the fault, the text has words instead, without a number.
     pub fn text(&self) -> Text
         ensures { result.bytes ≡ page_fault_text self.now }
     {
@@ -106,7 +106,7 @@ impl Refused {
         }
     }
 
-    /// The refusal for a fault of an order, or of the machine on which a message is worked.
+    /// The refusal for a fault of an order, or of the machine that enciphers or deciphers a message.
     pub(crate) fn of_message(fault: FormFault) -> Refused
         ensures { result ≡ refused_message fault }
     {

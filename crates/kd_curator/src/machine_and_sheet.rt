@@ -1,4 +1,4 @@
-//! Reads machine files and key sheets. If a file is the other of the two, the refusal says so.
+//! Reads machine files and key sheets. If a command gets one of them in place of the other, the refusal says so.
 ghost use Rattle.std.specs.Prelude.{◌≡◌, ◌⊎◌, false, IfErr, Ok};
 ghost use Rattle.kd_tables.specs.Answers.{AgreesOrNoMemory};
 ghost use Rattle.kd_sheet.specs.declared.fault.SheetFault.{SheetFault};
@@ -86,7 +86,7 @@ fn refused_file(
 }
 
 /// The remark on a file with a fault. `needed` says whether a machine file or a key sheet is needed. `is_other` says
-/// whether the file is the other of the two.
+/// whether the file is the wrong one of these two.
 fn file_remark(needed: Needed, is_other: bool) -> Remark
     ensures { result ≡ file_remark needed is_other }
 {
@@ -98,8 +98,9 @@ fn file_remark(needed: Needed, is_other: bool) -> Remark
     }
 }
 
-/// Whether a file is a key sheet if a machine file is needed, or a machine file if a key sheet is needed. `NoMemory` is
-/// the only fault.
+/// Whether the file is a key sheet in place of the needed machine file, or the other way round.
+///
+/// `NoMemory` is the only fault.
 #[tactic(auto, unfolding(crate::specs::MachineAndSheet::is_other_file))]
 fn is_other_file(alloc: Global, needed: Needed, bytes: &[u8]) -> Result<bool, SheetFault>
     ensures { AgreesOrNoMemory SheetFault.NoMemory (Ok (is_other_file needed bytes.now)) result }
@@ -111,7 +112,7 @@ fn is_other_file(alloc: Global, needed: Needed, bytes: &[u8]) -> Result<bool, Sh
     }
 }
 
-/// Whether a document is a key sheet if a machine file is needed, or a machine file if a key sheet is needed.
+/// Whether `document` is a key sheet in place of the needed machine file, or the other way round.
 fn is_other_document(needed: Needed, document: &Table) -> bool
     ensures { result ≡ is_other_document needed (table_view document.now) }
 {

@@ -118,11 +118,10 @@ fn run_to_file<'n, F: Files<'n>, N: NewFiles, E: Sink>(
     }
 }
 
-/// Publishes the new file `file` as `name`, if `answer` says that the whole output was written. Otherwise removes the
-/// file.
+/// Publishes the new file `file` as `name`, if `answer` says that the whole output was written.
 ///
-/// The file was begun under the name `other`. If the file is removed, the fault `Device` says that a write to it
-/// failed.
+/// Otherwise removes the file, which was begun under the name `other`. Then the fault `Device` says that a write to the
+/// file failed.
 fn end_file<N: NewFiles>(
     answer: &Result<(), Stop>,
     new_files: &mut N,
@@ -207,7 +206,7 @@ fn run_command<'n, F: Files<'n>, N: NewFiles, W: Sink, E: Sink>(
     Stop::of_answer(answer)
 }
 
-/// The refusal for the file at this place among `names`, which couldn't be read. The folders say why.
+/// The refusal for the file at place `place` of `names`, which couldn't be read. `folders` knows why.
 fn refused_unread<N: NewFiles>(
     names: &[&str],
     place: usize,
@@ -227,7 +226,7 @@ fn refused_unread<N: NewFiles>(
     }
 }
 
-/// Answers words that don't mean a command. If the words ask for help or for the version, shows the text. Otherwise
+/// Answers a command line that means no command. If it asks for help or for the version, shows this text. Otherwise
 /// stops for the reason `none`.
 fn answer_other_words<W: Sink>(none: NoCommand, sink: &mut W) -> Result<(), Stop>
     ensures carried { (l : Language) (words : List (List ℕ)) (known : Option (List ℕ → Option (List ℕ)))
@@ -245,7 +244,7 @@ fn answer_other_words<W: Sink>(none: NoCommand, sink: &mut W) -> Result<(), Stop
     }
 }
 
-/// Carries out `command`, if its files have these contents.
+/// Carries out `command`, whose files have the bytes `contents`.
 fn carry_out<W: Sink, E: Sink>(
     alloc: Global,
     language: Language,
@@ -365,7 +364,7 @@ fn work_message<W: Sink, E: Sink>(
     }
 }
 
-/// Writes `text`, the help or the version that the words ask for.
+/// Writes `text`, the help or the version that the command line asks for.
 fn show<W: Sink>(text: &str, sink: &mut W) -> Result<(), Refused>
     ensures written { WritesText refused_device text.now
         (port W.taken W.has_failed sink.old sink.new) result }

@@ -24,7 +24,7 @@ use std::alloc::Global;
 /// Faults are tested in this order: faults of the machine file, faults of the sheet, `NoSuchDay`, `NotReady`,
 /// `NotOnKey`, `TooManyParts`. For all of these faults, nothing is written. For `Device`, only a prefix of the page is
 /// written. For `NotWhole`, the page is written. If a page is written, notes are written to `errors`: what is wrong
-/// with the form, and what to ask for.
+/// with the form, and what the sender should repeat.
 pub fn run_receive<W: Sink, E: Sink>(
     alloc: Global,
     language: Language,

@@ -51,7 +51,7 @@ pub fn write_typing_page<W: Sink>(
     }
 }
 
-/// The answer after a page was written. `failed` says whether the sink has failed.
+/// The answer after the program wrote a page: the refusal `Device` if the sink `failed`, and otherwise `Ok`.
 fn answer_after(failed: bool) -> Result<(), Refused>
     ensures { result ≡ answer_after failed }
 {

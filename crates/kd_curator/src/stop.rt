@@ -110,7 +110,7 @@ impl Stop {
         }
     }
 
-    /// Why the program stops if the words can't be read: memory ran out, or a word isn't UTF-8.
+    /// Why the program stops if it can't read the command line: memory ran out, or a word isn't UTF-8.
     pub fn of_words(alloc: Global, error: &io::Error) -> Stop
         ensures { IsWordsStop (error_kind error.now) result }
     {

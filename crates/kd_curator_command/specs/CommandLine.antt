@@ -168,29 +168,30 @@ abbrev pub task_name : Task → List ℕ
 task_name (tasks.Page days language) = codes "page"
 task_name (tasks.List day) = codes "list"
 
--- The arguments in `rows` ask for this task.
+-- The command's arguments ask for this task. For pages, they name the days and the language; for a list, they name the
+-- day.
 abbrev pub HasArguments : List Row → Task → Type 0
 HasArguments rows (tasks.Page days language) = HasDays rows days × HasLanguage rows language
 HasArguments rows (tasks.List day) = HasDay rows day
 
--- `said` means the task `task`. `said` has the command's name, and the values of the command's arguments.
+-- `said` has the name of a command, and the values of its arguments. They ask for the task `task`.
 pub record IsTaskOf (said : List ℕ × List Row) (task : Task) : Type 0 where
   pub name : said.0 ≡ task_name task
   pub arguments : HasArguments said.1 task
 
--- `said` means the task `its_task` with these files. `said` has the command's name, and the values of the command's
--- arguments.
+-- `said` has the name of a command, and the values of its arguments. They ask for the task `its_task`, with this
+-- machine file and this key sheet.
 pub record IsTaskWith (said : List ℕ × List Row) (machine_file key_sheet : List ℕ) (its_task : Task) : Type 0 where
   pub machine : first_of (codes "MACHINE") said.1 ≡ Some machine_file
   pub sheet : first_of (codes "SHEET") said.1 ≡ Some key_sheet
   pub task : IsTaskOf said its_task
 
--- The arguments in `rows` ask for tables in this form: with the option `--csv` as CSV, without the option as a page.
+-- The arguments ask for tables in this form: with the option `--csv` as CSV, without the option as a page.
 abbrev pub HasForm : List Row → TableForm → Type 0
 HasForm rows forms.Csv = first_of (codes "csv") rows ≡ Some (codes "true")
 HasForm rows forms.Page = first_of (codes "csv") rows ≢ Some (codes "true")
 
--- the name of the command for a kind of message; its argument for the message is named by `message_argument`
+-- the command for a message of this kind: `send` for an order, `receive` for a form
 abbrev pub message_name : MessageKind → List ℕ
 message_name kinds.Order = codes "send"
 message_name kinds.Form = codes "receive"
@@ -199,7 +200,7 @@ abbrev pub message_argument : MessageKind → List ℕ
 message_argument kinds.Order = codes "ORDER"
 message_argument kinds.Form = codes "FORM"
 
--- `said` means the command `send` or `receive`, with these files and this task.
+-- The command's name and arguments in `said` mean the command `send` or `receive`, with these files and this task.
 pub record IsMessageOf (said : List ℕ × List Row) (machine_file key_sheet its_message : List ℕ) (its_task : MessageTask)
     : Type 0 where
   pub name : said.0 ≡ message_name its_task.kind
@@ -209,14 +210,15 @@ pub record IsMessageOf (said : List ℕ × List Row) (machine_file key_sheet its
   pub day : HasDay said.1 its_task.day
   pub language : HasLanguage said.1 its_task.language
 
--- `said` means the command `type`, with this machine file and this language.
+-- The command's name and arguments in `said` mean the command `type`, with this machine file and this language.
 pub record IsTypingPageOf (said : List ℕ × List Row) (machine_file : List ℕ) (its_language : Option Language)
     : Type 0 where
   pub name : said.0 ≡ codes "type"
   pub machine : first_of (codes "MACHINE") said.1 ≡ Some machine_file
   pub language : HasLanguage said.1 its_language
 
--- `said` means the command `table`, with this key sheet, this form and this language.
+-- The command's name and arguments in `said` mean the command `table`, with this key sheet, this form and this
+-- language.
 pub record IsTableOf (said : List ℕ × List Row) (key_sheet : List ℕ) (its_form : TableForm)
     (its_language : Option Language) : Type 0 where
   pub name : said.0 ≡ codes "table"
@@ -228,7 +230,7 @@ pub record IsTableOf (said : List ℕ × List Row) (key_sheet : List ℕ) (its_f
 abbrev pub option_text : List ℕ → List Row → List ℕ
 option_text name rows = unwrap_or (first_of name rows) []
 
--- the values of the options of `sheet`
+-- the values of the options `--model`, `--reflector` and `--window`; empty for an option that isn't used
 abbrev pub option_texts : List Row → OptionTexts
 option_texts rows = record {
   model = option_text (codes "model") rows;
@@ -236,26 +238,27 @@ option_texts rows = record {
   window = option_text (codes "window") rows;
 }
 
--- whether all options are empty
+-- whether the options `--model`, `--reflector` and `--window` are all empty
 abbrev pub are_blank : OptionTexts → Bool
 are_blank options =
     (length options.model == 0) && (length options.reflector == 0) && (length options.window == 0)
 
--- `said` means the command `sheet`, with this table and these options, and without `--empty`.
+-- The command's name and arguments in `said` mean the command `sheet` without `--empty`, with this table and these
+-- options.
 pub record IsSheetOf (said : List ℕ × List Row) (its_table : List ℕ) (its_options : OptionTexts) : Type 0 where
   pub name : said.0 ≡ codes "sheet"
   pub filled : first_of (codes "empty") said.1 ≡ None
   pub table : first_of (codes "TABLE") said.1 ≡ Some its_table
   pub options : its_options ≡ option_texts said.1
 
--- The two words are the name of this model, and this number of days, which is from 1 to 31.
+-- `model_word` is the name of the model. `days_word` is the number of days, from 1 to 31.
 pub record IsMonthNamed (model_word days_word : List ℕ) (model : Model) (days : ℕ) : Type 0 where
   pub named : model_text model ≡ model_word
   pub numbered : decimal days ≡ days_word
   pub within : IsDayNumber days
 
--- `said` means the command `sheet --empty`, with this model and this number of days. The options for blank cells aren't
--- used, or are empty.
+-- The command's name and arguments in `said` mean `sheet --empty`, with this model and this number of days. The options
+-- `--model`, `--reflector` and `--window` aren't used, or are empty.
 pub record IsEmptySheetOf (said : List ℕ × List Row) (model : Model) (days : ℕ) : Type 0 where
   pub name : said.0 ≡ codes "sheet"
   pub model_word : List ℕ
@@ -265,14 +268,14 @@ pub record IsEmptySheetOf (said : List ℕ × List Row) (model : Model) (days : 
   pub month : IsMonthNamed model_word days_word model days
   pub alone : are_blank (option_texts said.1) ≡ true
 
--- `said` means the command `look`, with these files.
+-- The command's name and arguments in `said` mean the command `look`, with these files.
 pub record IsLookOf (said : List ℕ × List Row) (files : UpToThree (List ℕ)) : Type 0 where
   pub name : said.0 ≡ codes "look"
   pub first : first_of (codes "FILE") said.1 ≡ Some files.first
   pub second : first_of (codes "FILE2") said.1 ≡ files.second
   pub third : first_of (codes "FILE3") said.1 ≡ files.third
 
--- `said` means the command `command`. `said` has the command's name, and the values of the command's arguments.
+-- The name and the arguments on the command line mean this command.
 abbrev pub IsCommandOf : List ℕ × List Row → NamedCommand → Type 0
 IsCommandOf said (commands.OnMachine machine sheet task) = IsTaskWith said machine sheet task
 IsCommandOf said (commands.Message machine sheet message task) = IsMessageOf said machine sheet message task
@@ -282,7 +285,7 @@ IsCommandOf said (commands.Sheet table options) = IsSheetOf said table options
 IsCommandOf said (commands.Look files) = IsLookOf said files
 IsCommandOf said (commands.EmptySheet model days) = IsEmptySheetOf said model days
 
--- `said` has a command, which means `command`.
+-- The command line has the name of a command. This name and its arguments mean this command.
 abbrev pub IsMeant : Option (List ℕ × List Row) → NamedCommand → Type 0
 IsMeant said command = IsSomeAnd said (λ x. IsCommandOf x command)
 
@@ -316,7 +319,7 @@ is_help DisplayHelp = true
 is_help DisplayVersion = true
 is_help _ = false
 
--- The words ask for help, or for the version, and have no other fault.
+-- The command line asks for help or for the version, and `clap` finds no other fault in it.
 abbrev pub AsksForHelp : List (List ℕ) → Type 0
 AsksForHelp words = (kind : ErrorKind) × (fault_of curator_grammar words ≡ kind ∷ []) × IsTrue (is_help kind)
 
@@ -360,7 +363,7 @@ pub record IsMessageTask (rows : List Row) (kind : MessageKind) (task : MessageT
   pub day : HasDay rows task.day
   pub language : HasLanguage rows task.language
 
--- If `clap` returns an error of this kind, this may be the reason why there is no command.
+-- If `clap` returns an error of this kind, the program may answer with this reason why there is no command.
 abbrev pub IsToldAs : ErrorKind → NoCommand → Type 0
 IsToldAs kind (Asked text) = IsTrue (is_help kind)
 IsToldAs kind (Usage text) = (is_help kind ≡ false) × (kind ≢ OutOfMemory)

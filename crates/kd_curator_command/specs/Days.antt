@@ -11,11 +11,11 @@ is_comma byte = byte == 44
 abbrev pub is_hyphen : ℕ → Bool
 is_hyphen byte = byte == 45
 
--- the day whose decimal number is `text`
+-- the day, from 1 to 31, whose decimal number is this text
 unfoldable pub day_named : List ℕ → Option ℕ
 day_named text = find (λ day. bytes_eq (decimal day) text) (range_with_len 1 31)
 
--- all days from `first` to `last`
+-- all days from the first argument to the second
 abbrev pub days_from : ℕ → ℕ → List ℕ
 days_from first last = range_with_len first (last + 1 - first)
 
@@ -42,7 +42,7 @@ ranges_named (range ∷ ranges) = both (range_named range) (ranges_named ranges)
 unfoldable pub days_named : List ℕ → Option (List ℕ)
 days_named word = ranges_named (slice_split is_comma word)
 
--- whether a day comes twice
+-- whether the list has a day twice
 abbrev pub has_twice : List ℕ → Bool
 has_twice [] = false
 has_twice (day ∷ days) = list_any (λ other. other == day) days || has_twice days
@@ -53,8 +53,9 @@ pub record AreDays (word : List ℕ) (days : List ℕ) : Type 0 where
   pub few : length days ≤ 31
   pub once : has_twice days ≡ false
 
--- Adding the days `more` to the days `old` gives the days `new`. Adding returns `None` if `more` is `None`, or if there
--- would be more than 31 days.
+-- The new list has the days of the old list, then the added days. The arguments are the added days, the old list, the
+-- new list, and the result. The result is `None` if the added days are `None`, or if the new list would have more than
+-- 31 days.
 abbrev pub AddsDays : Option (List ℕ) → List ℕ → List ℕ → Option (Unit {0}) → Type 0
 AddsDays more old new (Some done) = (option_map (λ days. old ++ days) more ≡ Some new) × (length new ≤ 31)
 AddsDays more old new None = IfSome more (λ days. 31 < length (old ++ days))

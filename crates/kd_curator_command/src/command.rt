@@ -66,7 +66,7 @@ pub enum Command<T> {
     TypingPage {
         /// The machine file.
         machine: T,
-        /// The language of the page; `None` if the words name none.
+        /// The language of the page; `None` if the option `--in` isn't used.
         language: Option<Language>,
     },
     /// Writes a key sheet as printed tables.
@@ -75,7 +75,7 @@ pub enum Command<T> {
         sheet: T,
         /// The form of the tables.
         form: TableForm,
-        /// The language of the tables; `None` if the words name none.
+        /// The language of the tables; `None` if the option `--in` isn't used.
         language: Option<Language>,
     },
     /// Makes a key sheet from a spreadsheet's table.
@@ -104,7 +104,7 @@ pub enum Task {
     Page {
         /// The days; `None` for all days that the sheet has for the machine's model.
         days: Option<Days>,
-        /// The language of the pages; `None` if the words name none.
+        /// The language of the pages; `None` if the option `--in` isn't used.
         language: Option<Language>,
     },
     /// A list of the settings on the page of the day with this number, for `desk apply`.
@@ -117,7 +117,7 @@ pub struct MessageTask {
     pub kind: MessageKind,
     /// The day of the key sheet whose key is used.
     pub day: u8,
-    /// The language of the page; `None` if the words name none.
+    /// The language of the page; `None` if the option `--in` isn't used.
     pub language: Option<Language>,
 }
 
@@ -144,9 +144,9 @@ pub struct CommandLine<'a> {
 /// Why a command line doesn't mean a command.
 #[derive(Drop)]
 pub enum NoCommand {
-    /// The words ask for help, or for the version. This is the text to show.
+    /// The command line asks for help, or for the version. The string is the text to show.
     Asked(String),
-    /// The words don't mean a command. The text says why.
+    /// The words of the command line don't mean a command. The string says why.
     Usage(String),
     /// Memory ran out.
     NoMemory,
@@ -260,7 +260,7 @@ impl From<AllocError> for NoCommand {
     }
 }
 
-/// The command that `matches` mean. `None` if an argument has a wrong value.
+/// The command that the name and the arguments in `matches` mean. `None` if an argument has a wrong value.
 fn meant_command<'a>(matches: &ArgMatches<'a>) -> Option<NamedCommand<'a>>
     ensures said { IfSome result (λ command.
         IsMeant (subcommand_rows_of matches.now) (unborrowed_command command)) }
@@ -318,7 +318,7 @@ fn message_argument(kind: MessageKind) -> &'static str
     }
 }
 
-/// The task for a message of this kind. `None` if an argument has a wrong value.
+/// The kind of the message, with the day and the language in `words`. `None` if an argument has a wrong value.
 fn message_task(words: &ArgMatches<'_>, kind: MessageKind) -> Option<MessageTask>
     ensures said { IfSome result (IsMessageTask (rows_of (found_of words.now)) kind) }
     ensures none { result ≡ None → (task : MessageTask)
@@ -402,7 +402,8 @@ fn look_of<'a>(words: &ArgMatches<'a>) -> Option<NamedCommand<'a>>
     })
 }
 
-/// The command `sheet` with the arguments in `words`. `None` if `--empty` is used, and the other arguments don't fit.
+/// The command `sheet` with the arguments in `words`. `None` if `--empty` is used with a wrong model, a wrong number of
+/// days, or an option for blank cells.
 fn sheet_of<'a>(words: &ArgMatches<'a>) -> Option<NamedCommand<'a>>
     ensures said { IfSome result (λ command.
         IsCommandOf (codes "sheet", rows_of (found_of words.now)) (unborrowed_command command)) }
@@ -438,14 +439,15 @@ fn option_text<'a>(words: &ArgMatches<'a>, name: &str) -> &'a str
     words.get_str(name).unwrap_or("")
 }
 
-/// Whether all options are empty.
+/// Whether the options `--model`, `--reflector` and `--window` are all empty.
 fn are_blank(options: &TableOptions<&str>) -> bool
     ensures { result ≡ are_blank (texts_of options.now) }
 {
     options.model.is_empty() && options.reflector.is_empty() && options.window.is_empty()
 }
 
-/// The model named `model`, and the number of days in `days`. `None` if one of the two words is wrong.
+/// The model named `model`, and the number of days in `days`. `None` if no model has this name, or the number isn't
+/// from 1 to 31.
 fn month_named(model: &str, days: &str) -> Option<(Model, u8)>
     ensures said { IfSome result (λ month. IsMonthNamed model.now days.now month.0 month.1) }
     ensures none { result ≡ None → (month : Model × ℕ)

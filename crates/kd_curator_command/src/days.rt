@@ -79,7 +79,7 @@ pub fn days_of_word(word: &str) -> Option<Days>
     Some(days)
 }
 
-/// Whether a day comes twice.
+/// Whether `days` has a day twice.
 fn has_twice(days: &[u8]) -> bool
     ensures { result ≡ has_twice days.now }
 {

@@ -31,8 +31,9 @@ pub record UsesFirstCablesOnly (number : ℕ) (papers : CardAndFile) : Type 0 wh
   pub card : CardNamesNoneAbove number papers.card
   pub file : FileUsesNoneAbove number papers.file
 
--- The first machine file uses only the first `number` cables, and each day has at most `number` pairs. Then the month
--- uses only these cables. So if only cables 1 to 10 are in use, these cables suffice for ten pairs a day.
+-- Suppose that the first machine file uses only the first `number` cables, and each day has at most `number` pairs.
+-- Then the month's cards and machine files use only these cables. For example, cables 1 to 10 suffice for ten pairs a
+-- day.
 abbrev pub FewCablesServeAMonth : Type 0
 FewCablesServeAMonth =
     (number : ℕ) (file sheet days : List ℕ) (papers : List CardAndFile) → AreWrittenInTurn file sheet days papers

@@ -17,11 +17,11 @@ use Rattle.kd_desk.specs.Stops.{stop_after}
 
 -- ---- Reading and carrying out a part of a command. No public contract cites these definitions.
 
--- the task, with `g` applied to the file that is streamed
+-- the task, with the function applied to its file that is streamed
 abbrev pub with_task_stream : {F O P : Type 0} → (O → P) → Task F O → Task F P
 with_task_stream g task = with_task_files (λ file. file) g task
 
--- the action, with `g` applied to the file that is streamed
+-- the action, with the function applied to its file that is streamed
 abbrev pub with_action_stream : {F O P : Type 0} → (O → P) → Action F O → Action F P
 with_action_stream g action = with_action_files (λ file. file) g action
 
@@ -29,8 +29,9 @@ with_action_stream g action = with_action_files (λ file. file) g action
 abbrev pub HasNoFailedRead : {O : Type 0} → (O → Bool) → Option O → Type 0
 HasNoFailedRead failed file = IfSome file (λ f. failed f ≡ false)
 
--- A task was carried out as `IsCommandDone` says of a command. The task has the machine file `machine`, and day
--- `number` of the key sheet `sheet`.
+-- A task was carried out with the machine file `machine` and day `number` of the key sheet `sheet`. The program's
+-- answer `answer` is made from the answer of the task's call, such as `run_card`. `left` is what is known of the opened
+-- file after the call.
 pub record IsTaskDone (left : KnownFile) (machine sheet : List ℕ) (number : ℕ) (task : KnownTask) (sink : Port)
     (answer : Result (Unit {0}) Stop) : Type 0 where
   pub told : Result (Unit {0}) DeskFault

@@ -33,8 +33,8 @@ use Rattle.kd_desk.specs.RunCard.{IsChosenCard, Prints}
 use Rattle.kd_desk.specs.RunCheck.{Checks}
 use Rattle.kd_desk.specs.CallAnswers.{LacksMemory, AnswersFault, is_refused_before_message, is_device}
 
--- A task whose files have been read or opened. A file that is read whole is given by its bytes, and an opened file is
--- given by a `KnownFile`.
+-- A task whose files have been read or opened. It has the bytes of a file that was read whole, or what is known of a
+-- file that was opened.
 abbrev pub KnownTask : Type 0
 KnownTask = Task (List ℕ) KnownFile
 
@@ -113,8 +113,8 @@ has_file_failed (Some file) left = left.failed
 abbrev pub StopsForMemory : Result (Unit {0}) Stop → Type 0
 StopsForMemory answer = (answer ≡ Err (Refused (File NoMemory))) ⊎ (answer ≡ Err (Unread files.NoMemory))
 
--- A command was carried out. `told` is the answer of the command's call, such as `run_card`, and `answer` is the
--- program's answer. `left` is what is known of the opened file after the program has given it back.
+-- A command was carried out. The program's answer `answer` is made from the answer of the command's call, such as
+-- `run_card`. `left` is what is known of the opened file after the call.
 pub record IsCommandDone (left : KnownFile) (command : KnownCommand) (source sink : Port)
     (answer : Result (Unit {0}) Stop) : Type 0 where
   pub told : Result (Unit {0}) DeskFault
@@ -152,15 +152,18 @@ AsksFor names asked (Err (Unread fault)) = AreAskedFor names [] asked false
 AsksFor names asked (Err (Refused fault)) = AreAskedFor names [] asked true ⊎ ((asked ≡ []) × (fault ≡ File NoMemory))
 AsksFor names asked answer = AreAskedFor names [] asked true
 
--- If `known` says which bytes the files have, `CarriesOut` holds for these bytes.
+-- Suppose that the bytes of the files are known. Then the command is carried out with these bytes, or a file can't be
+-- read or opened, or memory ran out.
 abbrev pub CarriesOutKnown : KnownFile → Option (List ℕ → Option (List ℕ)) → NamedCommand → Port → Port
     → Result (Unit {0}) Stop → Type 0
 CarriesOutKnown left known command source sink answer =
     IfSome known (λ held. CarriesOut left (known_command held command) source sink answer)
 
--- The program's answer to a command line. `left` is the opened file as the program gave it back. `carried`: the command
--- is carried out, if the files' bytes are known. `asks`, `none_asked`: which files are asked for. `usage`,
--- `other_words`: when the answer is `Usage`. `untouched`, `failed`: what happens to the ports.
+-- How the program answers the command line `words`. `left` is what is known of the opened file at the end.
+-- - `carried`: if the files' bytes are known, the command is carried out.
+-- - `asks`, `none_asked`: which files are asked for.
+-- - `usage`, `other_words`: when the answer is `Usage`.
+-- - `untouched`, `failed`: what happens to the ports.
 pub record IsRun (words : List (List ℕ)) (known : Option (List ℕ → Option (List ℕ))) (left : KnownFile)
     (asked : List AskedName) (source sink : Port) (Untouched : Type 0) (answer : Result (Unit {0}) Stop) : Type 0 where
   pub carried : (command : NamedCommand) → IsCommandLineOf words command

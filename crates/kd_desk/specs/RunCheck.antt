@@ -21,8 +21,8 @@ use Rattle.kd_host.specs.Writing.{WritesText}
 abbrev pub verdict_text : ℕ → List ℕ
 verdict_text number = codes "SHORTEST " ++ decimal number ++ 10 ∷ []
 
--- The card proves itself, so no shorter list of settings reaches the day. The line `verdict_text` was written, or a
--- prefix of it if the device failed.
+-- The card proves itself, so no shorter list of settings reaches the day. The line that says SHORTEST was written, or
+-- only a prefix of the line if the device failed.
 pub record IsVerdictWritten (m : Parts) (s : Day) (settings : List Setting) (prices : PriceParts) (sink : Port)
     (answer : Result (Unit {0}) DeskFault)
     : Type 0 where
@@ -30,11 +30,11 @@ pub record IsVerdictWritten (m : Parts) (s : Day) (settings : List Setting) (pri
   pub shortest : IsShortest m s settings
   pub written : WritesText faults.Device (verdict_text (length settings)) sink answer
 
--- The checker's answer is the first of these faults that applies:
+-- If the bytes are a card for the day, and the card proves itself, the checker writes the line that says SHORTEST.
+-- Otherwise the answer is the first of these faults that applies:
 -- - the fault of the card's bytes;
--- - `OtherDay`;
+-- - `OtherDay`, if the card is for another day;
 -- - the first reason why the card doesn't prove itself.
--- If none applies, the checker writes the line that says SHORTEST.
 pub data Checks (m : Parts) (s : Day) (number : ℕ) (bytes : List ℕ) (sink : Port)
     (answer : Result (Unit {0}) DeskFault) : Type 0 where
   NoCard : (fault : CardFault) → IsCardFault bytes fault → answer ≡ Err (faults.Card fault)

@@ -23,7 +23,8 @@ pub data AreSettings (bytes : List ℕ) (settings : List Setting) : Type 0 where
       → AreSettings bytes settings
   OfList : IsFalse (begins_as_card bytes) → IsListText bytes settings → AreSettings bytes settings
 
--- `fault` is why `bytes` aren't a card if they begin with `CARD` and a space, and why they aren't a list otherwise.
+-- If the bytes begin with `CARD` and a space, `fault` is why they aren't a card. Otherwise, `fault` is why they aren't
+-- a list.
 pub data IsSettingsFault (bytes : List ℕ) (fault : DeskFault) : Type 0 where
   InCard : IsTrue (begins_as_card bytes) → (card : CardFault) → IsCardFault bytes card → fault ≡ faults.Card card
       → IsSettingsFault bytes fault

@@ -13,14 +13,14 @@ use Rattle.kd_pins.specs.PinWheel.{is_effective}
 use Rattle.kd_pins.specs.PinWheels.{pin_wheels, pins_on, acting_offset}
 
 -- A key of the Converter. `pins`: which pins of its six wheels are effective. `letters`: the letters that the wheels
--- show. `bars`: for each bar, the numbers of the wheels at its two lugs, in either order. The number is 0 at a place
--- without a wheel.
+-- show. `bars`: for each bar, the number of the wheel at each of its two lugs, in either order; 0 for a lug that is at
+-- no wheel.
 pub record PinKey : Type 0 where
   pub pins : List (List Bool)
   pub letters : List ℕ
   pub bars : List (ℕ × ℕ)
 
--- `key` with other letters shown on the wheels
+-- the key, with its wheels turned so that they show these letters
 abbrev pub pin_key_turned : PinKey → List ℕ → PinKey
 pin_key_turned key letters = record key { letters = letters }
 
@@ -29,11 +29,12 @@ abbrev pub IsEachOnItsWheel : List ℕ → Type 0
 IsEachOnItsWheel letters = (wheel : ℕ) → 1 ≤ wheel → wheel ≤ 6
     → Contains (ring_of wheel) (slice_index letters (wheel - 1))
 
--- the place of the letter of `letters` that wheel `wheel` shows; 0 if the wheel lacks this letter
+-- the place, counted from 0, at which wheel `wheel` has its letter from `letters`; 0 if the wheel lacks this letter
 abbrev pub shown_place : List ℕ → ℕ → ℕ
 shown_place letters wheel = unwrap_or (place_on (ring_of wheel) (slice_index letters (wheel - 1))) 0
 
--- whether wheel `wheel` has an effective acting pin after `count` letters, if the wheels showed `letters` before
+-- whether wheel `wheel` has an effective acting pin after `count` letters are enciphered; the wheels show `letters` at
+-- the start
 abbrev pub is_acting_after : List (List Bool) → List ℕ → ℕ → ℕ → Bool
 is_acting_after pins letters count wheel =
     (nat_le 1 wheel && nat_le wheel 6) && is_effective (pins_on pins wheel)

@@ -52,7 +52,7 @@ pub record ArePairs (pairs : List (ℕ × ℕ)) : Type 0 where
 abbrev pub key_with_pairs : RotorKey → List (ℕ × ℕ) → RotorKey
 key_with_pairs key pairs = record key { plugs = exchange pairs }
 
--- The current's path through a plugboard with these pairs is its own inverse, and takes no letter to itself.
+-- If the plugboard is made from pairs of letters, the current's path is its own inverse, and takes no letter to itself.
 abbrev pub PairedPathsLeadBack : Type 0
 PairedPathsLeadBack =
     (key : RotorKey) (pairs : List (ℕ × ℕ)) (window : List ℕ) → ArePairs pairs

@@ -51,7 +51,7 @@ impl Map {
         }
     }
 
-    /// The permutation that moves each letter on in the alphabet, with A after Z; `by` is the number of places.
+    /// The permutation that moves each letter `by` places forward in the alphabet, with A after Z.
     pub(crate) fn shift(by: u8) -> Self
         requires { by ≤ 26 }
         ensures { result ≡ shift by }
@@ -77,7 +77,7 @@ impl Map {
     }
 }
 
-/// The table that moves each letter on in the alphabet, with A after Z; `by` is the number of places.
+/// The table that moves each letter `by` places forward in the alphabet, with A after Z.
 pub(crate) fn shift_table(by: u8) -> [Letter; 26]
     requires { by ≤ 26 }
     ensures { result ≡ shift by }

@@ -16,7 +16,7 @@ use thiserror::Error;
 pub struct LetterTwice;
 
 impl LetterTwice {
-    /// The refusal's number and name.
+    /// The text of the refusal: `1 LetterTwice`.
     pub fn text(&self) -> Text
         ensures { result.bytes ≡ refusal_name Refusal.LetterTwice }
     {

@@ -1,5 +1,5 @@
--- The faults of a machine file. The keys come in the order of testing. If the desk refuses the value of a key, the key
--- has this fault. The desk stops at a file's first fault; here, each key is judged separately.
+-- The faults of a machine file: one for each key whose value the desk refuses. The keys come in the order in which the
+-- desk tests them. The desk stops at a file's first fault; here, each key is judged separately.
 -- Test: tests/cases/curator-look.toml
 use Rattle.std.specs.Prelude.{ℕ, nat_le, true, List, [], ◌∷◌, ◌++◌, length, map, slice_get, Option, None, Result, Ok, Err}
 use Rattle.std.specs.Prelude.{if◌then◌else◌}
@@ -32,7 +32,7 @@ use Rattle.kd_findings.specs.declared.place.Place.{Place}
 abbrev pub in_file : Key → Place
 in_file key = record { entry = None; day = None; key = key }
 
--- the place of key `key`, in the same entry as `place` or at the top of the same file
+-- the place of a key in the same entry as another place, or at the top of the same file
 abbrev pub at_key : Place → Key → Place
 at_key place key = record place { key = key }
 
@@ -44,12 +44,12 @@ at_place place fault = option_to_list (option_map (λ one. (place, one)) fault)
 abbrev pub fault_at : {A : Type 0} → Place → Result A SheetFault → List (Place × SheetFault)
 fault_at place reading = at_place place (result_err reading)
 
--- The fault of the model. If the model can be read, the faults of the keys that this model needs.
+-- the fault at the key `model`; if there is none, the faults at the keys that this model needs
 abbrev pub after_model : Place → (Model → List (Place × SheetFault)) → Result Model SheetFault → List (Place × SheetFault)
 after_model place faults (Ok model) = faults model
 after_model place faults (Err fault) = (place, fault) ∷ []
 
--- the faults of a rotor machine's keys, which are tested after `model`
+-- the faults of a rotor machine's file, at the keys that are tested after `model`
 unfoldable pub rotor_file_faults : Model → Members → List (Place × SheetFault)
 rotor_file_faults model table =
     fault_at (in_file keys.Reflector) (reflector_in model table)
@@ -58,7 +58,7 @@ rotor_file_faults model table =
     ++ (fault_at (in_file keys.Letters) (letters_at keys.Letters (length (box_of model)) table)
     ++ fault_at (in_file keys.Cables) (cables_in table))))
 
--- the faults of a Converter's keys, which are tested after `model`
+-- the faults of a Converter's file, at the keys that are tested after `model`
 unfoldable pub pin_file_faults : Members → List (Place × SheetFault)
 pin_file_faults table =
     fault_at (in_file keys.Letters) (shown_letters_in keys.Letters table)
@@ -71,8 +71,8 @@ model_file_faults table model = rotor_file_faults model table
 abbrev pub version_in : Members → Result ℕ SheetFault
 version_in table = read_at keys.Version (number_up_to 2) table
 
--- The model in a machine file. Files of the file's version have to allow this model; if the version can't be read, any
--- model is allowed.
+-- The model in a machine file, or the fault of the key `model`. The file's version has to allow the model. If the
+-- version can't be read, any model is allowed.
 unfoldable pub file_model : Members → Result Model SheetFault
 file_model table = do
   model ← model_in table
@@ -95,8 +95,7 @@ first_fault faults = option_map (λ fault. fault.1) (slice_get faults 0)
 
 -- ---- What inner functions answer. No public contract cites this definition.
 
--- The number of the item that is meant by the words for `fault`. If the slip in `checked` has this fault, it is the
--- slip's item; otherwise `None`.
+-- the number of the wrong list item that a check of the value found; `None` if the check didn't find this fault
 abbrev pub told_item : SheetFault → Result (Unit {0}) Slip → Option ℕ
 told_item fault (Err (slips.Fault found item words)) = if (fault_eq.ghosts).eq found fault then item else None
 told_item fault checked = None

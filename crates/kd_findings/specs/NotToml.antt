@@ -23,7 +23,7 @@ characters_to_feed (byte ∷ rest) = if byte == 10 then 0
 abbrev pub column_at : List ℕ → ℕ → ℕ
 column_at text index = characters_to_feed (reverse (take index text)) + 1
 
--- the words for a place: the line, the column, and `reason`, which says what is wrong at the place
+-- the words for a place in a file: the line, the column, and a text that says what is wrong there
 unfoldable pub place_words : ℕ → ℕ → List ℕ → List ℕ
 place_words line column reason = titled (codes ", line ") line ++ titled (codes ", column ") column ++ codes ": " ++ reason
 
@@ -33,7 +33,8 @@ pub record NamesPlace (text : List ℕ) (start : ℕ) (words : List ℕ) : Type 
   pub plain : IsInOneLine reason
   pub whole : words ≡ place_words (line_at text start) (column_at text start) reason
 
--- The words name some place in the text, or the end of the text, and give a reason.
+-- The words have the line and the column of some byte of the text, or of the text's end. Then they have a reason in one
+-- line.
 pub record SaysNotToml (text words : List ℕ) : Type 0 where
   pub start : ℕ
   pub within : start ≤ length text

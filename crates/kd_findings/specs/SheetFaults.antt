@@ -1,6 +1,6 @@
--- The faults of a key sheet. The entries come in the order of the file, and the keys of each entry in the order of
--- testing. If the desk refuses the value of a key, the key has this fault. The desk stops at a sheet's first fault;
--- here, the later entries are judged, too.
+-- The faults of a key sheet: one for each key whose value the desk refuses. The entries come in the order of the file.
+-- The keys of an entry come in the order in which the desk tests them. The desk stops at a sheet's first fault; here,
+-- the later entries are judged, too.
 -- Test: tests/cases/curator-look.toml
 use Rattle.std.specs.Prelude.{◌≡◌, ◌⊎◌, ℕ, ◌+◌, ◌≤◌, ◌==◌, Bool, false, not, List, [], ◌∷◌, ◌++◌, length, take}
 use Rattle.std.specs.Prelude.{Option, Some, None, Result, Ok, true, if◌then◌else◌}
@@ -28,11 +28,12 @@ use Rattle.kd_findings.specs.Faults.{after_model, at_key, fault_at, in_file, mac
 use Rattle.kd_findings.specs.Kind.{entries_of, is_given, is_machine_file}
 use Rattle.kd_findings.specs.declared.place.Place.{Place}
 
--- The place of a key in entry `entry`. Entries are counted from 1. `day` is the entry's day, if it can be read.
+-- The place of a key in a key sheet. The first argument is the number of the entry, counted from 1. The second argument
+-- is the entry's day, if it can be read.
 abbrev pub in_entry : ℕ → Option ℕ → Key → Place
 in_entry entry day key = record { entry = Some entry; day = day; key = key }
 
--- the day in an entry
+-- the day of an entry, or the fault of the key `day`
 abbrev pub number_in : Members → Result ℕ SheetFault
 number_in table = read_at keys.Day (number_up_to 31) table
 
@@ -41,7 +42,7 @@ abbrev pub has_number : ℕ → Data → Bool
 has_number number item =
     option_map_or (λ day. day == number) (option_and_then (λ table. result_ok (number_in table)) (as_table item)) false
 
--- The day of an entry, or the fault of this day. It is also a fault if an earlier entry has the same day.
+-- The day of an entry, or the fault of the key `day`. A day that an earlier entry already has is a fault, too.
 unfoldable pub new_day : List Data → Members → Result ℕ SheetFault
 new_day earlier table = do
   number ← number_in table
@@ -69,7 +70,7 @@ abbrev pub model_day_faults : Place → Members → Model → List (Place × She
 model_day_faults place table M209 = pin_day_faults place table
 model_day_faults place table model = rotor_day_faults place model table
 
--- the place of the key `day` in an entry that is a table
+-- the place of the key `day` in an entry; the list has the items before the entry
 abbrev pub day_place : List Data → Members → Place
 day_place earlier table = in_entry (length earlier + 1) (result_ok (number_in table)) keys.Day
 
@@ -80,18 +81,18 @@ table_faults earlier table =
     ++ after_model (at_key (day_place earlier table) keys.Model) (model_day_faults (day_place earlier table) table)
     (model_in table)
 
--- the faults of the entry `item`, which stands after the items `earlier`
+-- the faults of an entry; the list has the items before the entry
 abbrev pub entry_faults : List Data → Data → List (Place × SheetFault)
 entry_faults earlier item = option_map_or (table_faults earlier) (as_table item)
     ((in_entry (length earlier + 1) None keys.Day, BadValue keys.Day) ∷ [])
 
--- the faults of entries that stand after the items `earlier`
+-- the faults of the entries in the second list; the first list has the items before these entries
 abbrev pub faults_after : List Data → List Data → List (Place × SheetFault)
 faults_after earlier [] = []
 faults_after earlier (item ∷ rest) = entry_faults earlier item ++ faults_after (earlier ++ item ∷ []) rest
 
--- `faults` are the faults of the first `count` entries. If there are fewer than 300 faults, these are all entries. A
--- month of 31 days, with at most 8 keys for each day, has fewer faults.
+-- `faults` are the faults of the first entries in `items`. If there are fewer than 300 faults, all entries are judged.
+-- A month of 31 days, with at most 8 keys for each day, has fewer faults.
 pub record AreSheetFaults (items : List Data) (faults : List (Place × SheetFault)) : Type 0 where
   pub count : ℕ
   pub within : count ≤ length items

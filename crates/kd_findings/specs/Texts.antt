@@ -23,7 +23,7 @@ IsInOneLine text = EachIndex text (λ index. slice_index text index ≢ 10)
 abbrev pub EndsAtFeed : List ℕ → List ℕ → Type 0
 EndsAtFeed text line = (text ≡ line) ⊎ ((rest : List ℕ) × (text ≡ line ++ 10 ∷ rest))
 
--- `title`, then a number
+-- a title, then a number in decimal digits
 unfoldable pub titled : List ℕ → ℕ → List ℕ
 titled title number = title ++ decimal number
 
@@ -39,7 +39,7 @@ entry_words None None = []
 
 -- ---- Texts that grow. No public contract cites this definition.
 
--- A text that satisfies `P` was appended.
+-- `new` is `old`, followed by a text that satisfies `P`.
 pub record AppendsText (P : List ℕ → Type 0) (old new : List ℕ) : Type 0 where
   pub text : List ℕ
   pub fits : P text

@@ -17,8 +17,8 @@ use Rattle.kd_findings.specs.Kind.{entries_of, is_machine_file}
 use Rattle.kd_findings.specs.SheetFaults.{number_in}
 use Rattle.kd_findings.specs.declared.unread.Unread.{Unread}
 
--- An unread key. `name` is the key's name. `entry` is the number of the key sheet's entry in which the key stands,
--- counted from 1; it is `None` for a key at the top of the file. `day` is the entry's day, if it is known.
+-- An unread key. `name` is the key's name. `entry` is the number of the key sheet's entry that has the key, counted
+-- from 1. It is `None` for a key at the top of the file. `day` is the entry's day, if it is known.
 pub record UnreadKey : Type 0 where
   pub entry : Option ℕ
   pub day : Option ℕ
@@ -63,7 +63,7 @@ abbrev pub names_in : Members → List (List ℕ)
 names_in no_members = []
 names_in (member name value rest) = name ∷ names_in rest
 
--- the keys of a table that aren't in `known`, each with the number and the day of the table's entry
+-- the keys of a table that aren't among the known keys, each with the number and the day of the table's entry
 unfoldable pub unread_in : Option ℕ → Option ℕ → List Key → Members → List UnreadKey
 unread_in entry day known table = map (λ name. record { entry = entry; day = day; name = name })
     (filter (λ name. not (is_name_of known name)) (names_in table))
@@ -78,9 +78,8 @@ abbrev pub unread_in_entries : List Data → List UnreadKey
 unread_in_entries items = flat_map (λ number. option_map_or (unread_in_entry number) (numbered_item items number) [])
     (range_with_len 1 (length items))
 
--- The known keys of a document without the array `day`. In a machine file, these are the keys of the file's model. In
--- any other document, these are all keys: if a key sheet lacks its first line `[[day]]`, the keys of a day stand at the
--- top.
+-- The known keys of a document without the array `day`. A machine file has the keys of its model. In any other
+-- document, all keys are known: a key sheet that lacks its first line `[[day]]` has the keys of a day at the top.
 abbrev pub top_keys : Members → List Key
 top_keys document = if is_machine_file document then file_keys (result_ok (model_in document))
     else rotor_file_keys ++ pin_file_keys ++ rotor_day_keys ++ pin_day_keys

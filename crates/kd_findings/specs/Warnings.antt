@@ -1,5 +1,5 @@
--- The warnings about a machine file or a key sheet. There is a line for each unread key, and a line for each cable
--- whose two letters the desk writes in the other order.
+-- The warnings about a machine file or a key sheet. There is a line for each unread key. There is also a line for each
+-- cable with two capital letters in falling order, such as `BA`. The desk writes this cable as `AB`.
 -- Test: tests/cases/curator-look.toml
 use Rattle.std.specs.Prelude.{codes, ◌≡◌, ℕ, ◌++◌, ◌&&◌, nat_le, nat_lt, Bool, List, [], ◌∷◌, Option}
 use Rattle.std.specs.Prelude.{if◌then◌else◌}
@@ -22,7 +22,7 @@ use Rattle.kd_findings.specs.Unread.{UnreadKey, unread_keys}
 unfoldable pub warning_start : List ℕ → Option ℕ → Option ℕ → List ℕ
 warning_start name day entry = name ++ entry_words day entry ++ codes ": warning: "
 
--- the warning about an unread key of the file `name`, with advice
+-- the warning about an unread key: the file's name, the key, and advice
 unfoldable pub unread_line : List ℕ → UnreadKey → List ℕ → List ℕ
 unread_line name key advice =
     warning_start name key.day key.entry ++ codes "nobody reads the key " ++ shown_text key.name ++ advice ++ codes "\n"
@@ -67,8 +67,8 @@ unfoldable pub order_lines : List ℕ → Members → List ℕ
 order_lines name document = if is_machine_file document
     then option_map_or (model_lines name document) (result_ok (model_in document)) [] else []
 
--- `text` has exactly one warning for each unread key of the document. Then it has a warning for each cable whose two
--- letters the desk writes in the other order.
+-- `text` has exactly one warning for each unread key of the document. Then it has a warning for each cable with two
+-- capital letters in falling order, such as `BA`.
 pub record AreWarnings (name : List ℕ) (document : Members) (text : List ℕ) : Type 0 where
   pub unread : List ℕ
   pub told : ArePieces (TellsUnread name) (unread_keys document) unread

@@ -25,8 +25,8 @@ pub struct Explanation {
     pub words: String,
 }
 
-/// The words that explain `fault`. They come from `checked`, if it has words for this fault; otherwise they are
-/// general.
+/// The words that explain `fault`, from `checked`. If `checked` has another fault or none, the words only say that the
+/// desk refuses the value.
 fn explain(
     alloc: Global,
     fault: SheetFault,
@@ -64,8 +64,7 @@ fn push_fault(
     Ok(())
 }
 
-/// Appends the fault with which the desk refuses the value at `place`, if there is one, with the words that `checked`
-/// has for this fault.
+/// Appends the fault of the value at `place`, if there is one. The words that explain the fault come from `checked`.
 pub fn note(
     list: &mut Vec<Finding>,
     alloc: Global,

@@ -5,7 +5,8 @@ ghost use Rattle.kd_findings.specs.Unread.{is_name_of};
 use kd_sheet::Key;
 use kd_slips::near_names::is_near;
 
-/// Other names for keys, each with the key. Other files have these names, or they are in common use.
+/// Wrong names that may be written for a key, each with the right key. They are names of keys in other files, or in
+/// common use.
 const OTHER_NAMES: [(&str, Key); 12] = [
     ("plugs", Key::Cables),
     ("plugboard", Key::Cables),
@@ -28,7 +29,7 @@ pub fn is_known(keys: &[Key], name: &str) -> bool
     keys.iter().any(|key| key.name() == name)
 }
 
-/// The key in `keys` that has `name` as another name.
+/// The key in `keys` for which the table `OTHER_NAMES` has the name `name`.
 fn named_elsewhere(keys: &[Key], name: &str) -> Option<Key> {
     for (other, key) in &OTHER_NAMES {
         if *other == name && keys.contains(key) {
@@ -38,7 +39,8 @@ fn named_elsewhere(keys: &[Key], name: &str) -> Option<Key> {
     None
 }
 
-/// The key in `keys` whose name is nearly `name` or, if there is none, the key that has `name` as another name.
+/// The key in `keys` that `name` may mean. A key whose own name is nearly `name` comes before a key for which `name` is
+/// another name.
 pub fn meant_key(keys: &[Key], name: &str) -> Option<Key> {
     match keys
         .iter()

@@ -80,7 +80,7 @@ fn each_wheel(model: Model) -> &'static str {
     }
 }
 
-/// Appends the fault at a key whose text has a letter for each wheel of the box.
+/// Appends the fault at `key`, if there is one. The key's value needs a letter for each wheel of the box.
 fn judge_box_letters(
     list: &mut Vec<Finding>,
     alloc: Global,

@@ -129,11 +129,11 @@ pub struct Unread<'t> {
 /// The thing that may have been meant by an unread key.
 #[derive(Clone, Copy)]
 pub enum Meant {
-    /// Another key.
+    /// A key that the desk knows.
     Key(Key),
-    /// The entries of a key sheet.
+    /// The array `day`, which has the entries of a key sheet.
     Entries,
-    /// Nothing known to this crate.
+    /// Nothing that this crate can guess.
     Unknown,
 }
 

@@ -100,7 +100,7 @@ fn is_capital(byte: u8) -> bool
     65 <= byte && byte <= 90
 }
 
-/// Appends the warning about a cable, if the desk writes the cable's two letters in the other order.
+/// Appends a warning if `cable` has two capital letters in falling order, such as `BA`. The desk writes `AB`.
 #[tactic(auto, using(std::proofs::Common::append_assoc), unfolding(crate::specs::Warnings::order_line))]
 fn push_order(lines: &mut String, name: &str, cable: &str) -> Result<(), AllocError>
     ensures { OnOk result (string_bytes lines.new
@@ -121,8 +121,7 @@ fn push_order(lines: &mut String, name: &str, cable: &str) -> Result<(), AllocEr
     }
 }
 
-/// Appends the warning about the cable `item`, if `item` is a text, and the desk writes its two letters in the other
-/// order.
+/// Appends a warning if the cable `item` is a text of two capital letters in falling order, such as `BA`.
 fn push_cable(lines: &mut String, name: &str, item: &Value) -> Result<(), AllocError>
     ensures { OnOk result (string_bytes lines.new
         ≡ string_bytes lines.old ++ cable_line name.now (view item.now)) }
@@ -133,7 +132,7 @@ fn push_cable(lines: &mut String, name: &str, item: &Value) -> Result<(), AllocE
     }
 }
 
-/// Appends a warning about each of these cables whose letters the desk writes in the other order.
+/// Appends a warning about each cable in `items` that is two capital letters in falling order, such as `BA`.
 fn push_cables(lines: &mut String, name: &str, items: &[Value]) -> Result<(), AllocError>
     ensures { OnOk result (string_bytes lines.new
         ≡ string_bytes lines.old ++ flat_map (cable_line name.now) (map view items.now)) }
@@ -144,7 +143,7 @@ fn push_cables(lines: &mut String, name: &str, items: &[Value]) -> Result<(), Al
     Ok(())
 }
 
-/// Appends a warning about each cable of a rotor machine's file whose letters the desk writes in the other order.
+/// Appends a warning about each cable in the array `cables` with letters in falling order, such as `BA`.
 #[tactic(auto, unfolding(crate::specs::Warnings::cable_lines))]
 fn push_file_cables(lines: &mut String, name: &str, document: &Table) -> Result<(), AllocError>
     ensures { OnOk result (string_bytes lines.new
@@ -156,8 +155,8 @@ fn push_file_cables(lines: &mut String, name: &str, document: &Table) -> Result<
     }
 }
 
-/// Appends a warning about each cable whose letters the desk writes in the other order. If the document isn't a machine
-/// file, appends nothing.
+/// Appends a warning about each cable with letters in falling order, such as `BA`. If the document isn't a rotor
+/// machine's file, appends nothing.
 #[tactic(auto, unfolding(crate::specs::Warnings::order_lines))]
 fn push_orders(lines: &mut String, name: &str, document: &Table) -> Result<(), AllocError>
     ensures { OnOk result (string_bytes lines.new
@@ -172,8 +171,8 @@ fn push_orders(lines: &mut String, name: &str, document: &Table) -> Result<(), A
     }
 }
 
-/// The warnings about a document. There is a line for each unread key, and a line for each cable whose two letters the
-/// desk writes in the other order.
+/// The warnings about a document. There is a line for each unread key. There is also a line for each cable with two
+/// capital letters in falling order, such as `BA`. The desk writes this cable as `AB`.
 pub fn warning_lines(alloc: Global, name: &str, document: &Table) -> Result<String, AllocError>
     ensures { IfOk result (λ lines. AreWarnings name.now (table_view document.now) (string_bytes lines)) }
 {

@@ -27,8 +27,8 @@ group_of_body letters = slice_range letters 2 5
 abbrev pub deciphered_key : Day → Indicator → List ℕ
 deciphered_key s indicator = cipher_from s indicator.ground_setting indicator.enciphered_key
 
--- The answer is `WrongGroup` if the body's group is none of the day's groups. Otherwise it is the text, deciphered with
--- the message key in the windows.
+-- The result of deciphering a rotor machine's body. The fault is `WrongGroup` if the body's group is none of the day's
+-- groups. Otherwise the result is the text, deciphered with the message key in the windows.
 abbrev pub IsRotorAnswer : Day → ℕ → Indicator → List ℕ → AnswerRule FormFault (List ℕ)
 IsRotorAnswer s part indicator letters = do
   _ ← Demands (AreADaysGroup s (group_of_body letters)) (WrongGroup part)
@@ -55,12 +55,12 @@ list_of_body letters = slice_range letters 8 10
 abbrev pub text_of_body : List ℕ → List ℕ
 text_of_body letters = slice_range letters 10 (length letters - 10)
 
--- The answer is the text, deciphered with the internal key in the windows at the start. Four tests come first, and the
--- first that fails gives the fault:
--- - `HasIndicatorsAround` holds for the indicators before and after the text.
+-- The result of deciphering a body on the Converter M-209: the text, deciphered with the internal key in the windows at
+-- the start. Four tests come first, and the first that fails gives the fault:
+-- - The last ten letters repeat the first ten, and the first two letters are equal (`HasIndicatorsAround`).
 -- - Each external letter is on its wheel.
 -- - The list letters are the day's list letters.
--- - There is an internal key.
+-- - An internal key can be picked.
 abbrev pub IsPinAnswer : Day → ℕ → List ℕ → AnswerRule FormFault (List ℕ)
 IsPinAnswer s part letters = do
   _ ← Demands (HasIndicatorsAround letters) (IndicatorsDiffer part)
@@ -81,8 +81,8 @@ HasIndicator (Pin s) None = Unit {0}
 HasIndicator (Rotor s) None = ⊥
 HasIndicator (Pin s) (Some i) = ⊥
 
--- The answer for the letters of a body. If the heading has an indicator, it is the answer for a rotor machine,
--- otherwise for a Converter M-209.
+-- The result of deciphering the letters of a body. If the heading has an indicator, the result must satisfy
+-- `IsRotorAnswer`, otherwise `IsPinAnswer`.
 abbrev pub IsLettersAnswer : Day → ℕ → Option Indicator → List ℕ → AnswerRule FormFault (List ℕ)
 IsLettersAnswer s part (Some i) letters = IsRotorAnswer s part i letters
 IsLettersAnswer s part None letters = IsPinAnswer s part letters

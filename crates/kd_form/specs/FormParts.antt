@@ -14,7 +14,7 @@ unfoldable pub begins_heading : List ℕ → Bool
 begins_heading bytes =
     bytes_eq (take 5 bytes) (codes "PART ") && (nat_le 48 (slice_index bytes 5) && nat_le (slice_index bytes 5) 57)
 
--- `bytes` begin as a heading line does.
+-- `bytes` begin with `PART ` and a digit, as a heading line does.
 abbrev pub BeginsHeading : List ℕ → Type 0
 BeginsHeading bytes = IsTrue (begins_heading bytes)
 
@@ -32,13 +32,13 @@ parts_of form = (cut_at_headings form).0 ∷ (cut_at_headings form).1
 
 -- ---- Which headings are valid on a day, and the first line of a part.
 
--- The number of letters that a body may have. On rotor machines: two fillers, a group of three, and 1 to 245 letters of
+-- A body may have this number of letters. On rotor machines: two fillers, a group of three, and 1 to 245 letters of
 -- text. On the Converter M-209: ten letters of indicators at each end, and 1 to 100 groups of five letters.
 abbrev pub IsLetterCount : Day → ℕ → Type 0
 IsLetterCount (Rotor s) count = (6 ≤ count) × (count ≤ 250)
 IsLetterCount (Pin s) count = (25 ≤ count) × (count ≤ 520) × (count % 5 ≡ 0)
 
--- The part's number `part` is from 1 to `parts`, the number of all parts, which is at most 99.
+-- `part` is a part's number, from 1 to `parts`. `parts` is the number of all parts, at most 99.
 pub record IsFraction (part parts : ℕ) : Type 0 where
   pub first : 1 ≤ part
   pub in_order : part ≤ parts
@@ -50,7 +50,7 @@ pub record IsHeading (s : Day) (h : Heading) : Type 0 where
   pub letters : IsLetterCount s h.letters
   pub indicator : HasIndicator s h.indicator
 
--- `text` is `line`, without its last byte if this byte is CR.
+-- `text` is `line`, without the CR at the end of `line` if there is one.
 pub data IsLineText (line text : List ℕ) : Type 0 where
   WithReturn : line ≡ text ++ 13 ∷ [] → IsLineText line text
   WithoutReturn : text ≡ line → ((front : List ℕ) → line ≢ front ++ 13 ∷ []) → IsLineText line text

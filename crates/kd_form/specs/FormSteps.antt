@@ -33,7 +33,7 @@ pub record AreFewLetters (letters : List ℕ) : Type 0 where
 
 -- ---- the last part
 
--- `byte` may be at `place`, counted from 0, in a line that begins with `PART ` and a digit.
+-- A heading line can have this byte at this place, counted from 0: the line begins with `PART ` and a digit.
 abbrev pub FitsHeadingAt : ℕ → ℕ → Type 0
 FitsHeadingAt place byte = (place < 5 → byte ≡ slice_index (codes "PART ") place)
     × (place ≡ 5 → (48 ≤ byte) × (byte ≤ 57))
@@ -82,13 +82,13 @@ abbrev pub HoldsFormStage : Day → FormStage → ℕ → Option ℕ → List �
 HoldsFormStage s (stages.Heading line) number expected part = HoldsLine line.items part × (length part < 6 → number ≡ 1)
 HoldsFormStage s (stages.Body b) number expected part = HoldsPart s b number expected part
 
--- The letters of a body after the heading `h` are deciphered to a text, and the bytes `made` are this text.
+-- A body follows the heading `h`. The bytes `made` are the text to which the letters of this body are deciphered.
 abbrev pub IsBodyPlaintext : Day → Heading → List ℕ → List ℕ → Type 0
 IsBodyPlaintext s h letters made = (text : List ℕ) × IsBodyAnswer s h.part h letters (Ok text)
     × (made ≡ plaintext_bytes s text)
 
--- The body that `b` holds is deciphered to `output`, or refused. The body's last letters are left out; `others` is
--- their number.
+-- The letters that `b` holds are deciphered to `output`, or refused. The last `others` letters are left out, because
+-- they belong to the next heading.
 abbrev pub IsDecipherAnswer : Day → PartBody → ℕ → List ℕ → Result (Unit {0}) FormFault → Type 0
 IsDecipherAnswer s b others output answer =
     (letters more : List ℕ) → length more ≡ others → b.letters.items ≡ take 525 (letters ++ more)
@@ -102,8 +102,8 @@ abbrev pub IsOpenHeading : Day → List ℕ → Option Heading → Type 0
 IsOpenHeading s part found =
     MatchOption found ((h : Heading) (body : List ℕ) → ¬ (HasHeading s part h body)) (λ h. HasHeading s part h [])
 
--- The result of testing the heading `found`: the heading or a fault. The fault is `BadHeading` if there is no heading,
--- and `PartOrder` if the heading's numbers are wrong.
+-- The result of testing the heading `found`: the heading or a fault. The fault is `BadHeading` if `found` is `None`. It
+-- is `PartOrder` if the heading has another part number, or another number of parts, than expected.
 abbrev pub IsHeadingAnswer : ℕ → Option ℕ → Option Heading → AnswerRule FormFault Heading
 IsHeadingAnswer number expected found = do
   heading ← Finds (λ heading. found ≡ Some heading) (BadHeading number)

@@ -25,7 +25,7 @@ abbrev pub next_part_start : PartStart → ℕ → List ℕ → PartStart
 next_part_start p count part = record
     { number = p.number + 1; expected = Some count; bytes_before = p.bytes_before + length part }
 
--- A statement about a part's start and the list of parts from there on, such as `IsAnswerAt`.
+-- The type of statements about the unread parts of a form and the place where they start, such as `IsAnswerAt`.
 abbrev pub PartsProperty : Type 1
 PartsProperty = PartStart → List (List ℕ) → Type 0
 
@@ -63,18 +63,19 @@ IsFormReadTo s Holds form text =
 -- ---- The result of reading a form: its text, or its first fault.
 -- Test: tests/cases/desk-messages.toml, tests/refusals
 
--- The answer for a form whose parts before `p` are read. If a part is left, the answer is the fault of the next part.
--- If no part is left, the answer is success, or `PartOrder` if the headings say another number of parts.
+-- All parts before `p` have been read without a fault, and `answer` is the answer for the whole form. If parts are
+-- left, the answer is the fault of the next part. After the last part, the answer is success if the headings say the
+-- right number of parts, otherwise `PartOrder`.
 abbrev pub IsAnswerAt : Day → Result (Unit {0}) FormFault → PartsProperty
 IsAnswerAt s answer p [] = (count : ℕ) × (p.expected ≡ Some count) × Demands (p.number ≡ count + 1) PartOrder answer
 IsAnswerAt s answer p (part ∷ parts) = (fault : FormFault) × IsPartAnswer s p part (Err fault) × (answer ≡ Err fault)
 
--- `answer` is the answer for a whole form. `text` is the text of the parts before the first fault, or of all parts if
--- there is no fault.
+-- `answer` is the result of reading a whole form: success, or the first fault. `text` is the text of the parts before
+-- this fault, or of all parts if there is no fault.
 abbrev pub IsAnswerAfter : Day → List ℕ → List ℕ → Result (Unit {0}) FormFault → Type 0
 IsAnswerAfter s form text answer = IsFormReadTo s (IsAnswerAt s answer) form text
 
--- The answer for a whole form: the text of its parts and then LF, or its first fault.
+-- The result of reading a whole form: the text of all parts with LF at the end, or the form's first fault.
 abbrev pub IsFormAnswer : Day → List ℕ → AnswerRule FormFault (List ℕ)
 IsFormAnswer s form (Ok text) = (parts : List ℕ) × IsAnswerAfter s form parts (Ok tt) × (text ≡ parts ++ 10 ∷ [])
 IsFormAnswer s form (Err fault) = (text : List ℕ) × IsAnswerAfter s form text (Err fault)
@@ -90,27 +91,27 @@ IsReceiveFault s form fault = IsFormAnswer s form (Err fault)
 -- ---- Which faults no further bytes can change, and what is written before a fault.
 -- Test: tests/cases/desk-messages.toml, tests/refusals
 
--- The first unread part, which begins at `p`, has `fault` whatever bytes follow. Either another part follows this part,
--- or this part's heading line has ended and `IsContentAnswer` gives the fault.
+-- The first unread part, which begins at `p`, has `fault`, and no further bytes can change this. Either another part
+-- follows. Or the part's heading line is complete, and the fault is in this line or in a byte of the body.
 abbrev pub IsPartFaultForGood : Day → FormFault → PartsProperty
 IsPartFaultForGood s fault p [] = ⊥
 IsPartFaultForGood s fault p (part ∷ []) =
     ((line body : List ℕ) × IsFirstPart 10 part line body) × IsContentAnswer s p part (Err fault)
 IsPartFaultForGood s fault p (part ∷ next ∷ others) = IsPartAnswer s p part (Err fault)
 
--- The form has `fault` whatever bytes follow, and `text` is the text of the parts before the fault. Either the form
--- begins with no heading line, whatever bytes follow, or one of its parts has the fault.
+-- The form has `fault`, and no further bytes can change this. `text` is the text of the parts before the fault.
+-- `NoHeading`: the form can't begin with a heading line. `AtPart`: the fault is in one of the form's parts.
 pub data IsRefusedForGood (s : Day) (form text : List ℕ) (fault : FormFault) : Type 0 where
   NoHeading : ((more : List ℕ) → ¬ (BeginsHeading (form ++ more))) → text ≡ [] → fault ≡ BadHeading 1
       → IsRefusedForGood s form text fault
   AtPart : IsFormReadTo s (IsPartFaultForGood s fault) form text → IsRefusedForGood s form text fault
 
--- Only the last part is left.
+-- Exactly one part is still unread: the form's last part.
 abbrev pub IsLastPart : PartsProperty
 IsLastPart p parts = (part : List ℕ) × (parts ≡ part ∷ [])
 
--- `text` is written so far: the text of the parts before the fault. If there is no fault, `text` is the text of all
--- parts but the last.
+-- `text` is what has been written of the form's text. If there is a fault, it is the text of the parts before the
+-- fault. If there is no fault yet, it is the text of all parts but the last.
 abbrev pub IsTextBefore : Day → Option FormFault → List ℕ → List ℕ → Type 0
 IsTextBefore s None form text = IsFormReadTo s IsLastPart form text
 IsTextBefore s (Some fault) form text = IsAnswerAfter s form text (Err fault)

@@ -26,14 +26,14 @@ pub record ArePicked (letters places picked : List ℕ) : Type 0 where
   pub taken : picked ≡ map (λ place. slice_index letters place) places
   pub on_wheels : AreOnWheels picked
 
--- `key` consists of six of `letters`, at the lexicographically first places that `ArePicked` allows. So each wheel in
--- turn takes the next letter that is on the wheel.
+-- `key` is the internal key, picked from `letters`: each wheel in turn takes the next letter that is on the wheel. So
+-- the six places of the picked letters are the lexicographically first that `ArePicked` allows.
 pub record IsInternalKey (letters key : List ℕ) : Type 0 where
   pub places : List ℕ
   pub picked : ArePicked letters places key
   pub first : (others other : List ℕ) → ArePicked letters others other → PrecedesOrEquals places others
 
--- There is no internal key: no places in `letters` satisfy `ArePicked`.
+-- No internal key can be picked from these letters: no six places in the list satisfy `ArePicked`.
 abbrev pub HaveNoInternalKey : List ℕ → Type 0
 HaveNoInternalKey letters = (places picked : List ℕ) → ¬ (ArePicked letters places picked)
 

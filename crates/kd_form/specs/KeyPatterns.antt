@@ -1,4 +1,4 @@
--- The pattern of a line of keys, the letters that fill the pattern, and which models days are for.
+-- The pattern of a line of keys, the letters that fill the pattern, and the model that a day is for.
 use Rattle.std.specs.Prelude.{codes, ◌≡◌, ◌⊎◌, ℕ, List, [], ◌∷◌, ◌++◌, length, replicate}
 use Rattle.kd_state.specs.LineWords.{line_of}
 use Rattle.kd_state.specs.SheetDay.{Day, RotorDay, PinDay, Rotor, Pin}
@@ -18,7 +18,7 @@ abbrev pub rotor_pattern : ℕ → List ℕ
 rotor_pattern slots = line_of (codes "PART" ∷ blank_places slots ∷ blank_places slots ∷ blank_places 2
     ∷ blank_places 3 ∷ [])
 
--- the pattern of a line in an order that gives a part's keys on the Converter M-209
+-- the pattern of a line of keys for the Converter M-209
 abbrev pub pin_pattern : List ℕ
 pin_pattern = line_of (codes "PART" ∷ blank_places 1 ∷ blank_places 6 ∷ [])
 

@@ -39,14 +39,15 @@ pub record IsOrder (s : Day) (order : List ℕ) (keys : List Keys) (head text : 
   pub joined : order ≡ head ++ text
   pub is_head : IsOrderHead s keys head
 
--- `Incomplete` means that `Is` holds for `bytes` followed by some more bytes. `Mismatch` means that `Is` doesn't hold,
--- whatever bytes follow `bytes`.
+-- What is wrong with `bytes`, which should satisfy `Is`. `Incomplete`: they satisfy `Is` once some more bytes are
+-- appended. `Mismatch`: they don't satisfy `Is`, whatever bytes are appended.
 abbrev pub IsPatternFault : (List ℕ → Type 0) → List ℕ → PatternFault → Type 0
 IsPatternFault Is bytes Incomplete = (more : List ℕ) × (more ≢ []) × Is (bytes ++ more)
 IsPatternFault Is bytes Mismatch = (more : List ℕ) → ¬ (Is (bytes ++ more))
 
--- `position` is counted from 1. The bytes before `position` can begin a head. No head begins with these bytes and the
--- byte at `position`. If the order ends within its head, `position` is one past the order's last byte.
+-- `position` is the position of the first wrong byte in the order's head, counted from 1. A head can begin with the
+-- bytes before `position`, but not with these bytes and the wrong byte. If the order ends within its head, `position`
+-- is one past the order's last byte.
 pub record IsOrderHeadFault (s : Day) (order : List ℕ) (position : ℕ) : Type 0 where
   pub before : List ℕ
   pub rest : List ℕ

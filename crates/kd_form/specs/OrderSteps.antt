@@ -47,8 +47,8 @@ pub record AreSuitedKeys (s : Day) (keys : List Keys) : Type 0 where
   pub suited : InTurn (IsKeysAnswer s) 1 keys (Ok tt)
   pub few : length keys ≤ 99
 
--- The keys suit the day. The writer `w` has taken `letters`, and has written all parts that can be written. The writer
--- keeps the letters after these parts, at most as many as a part can have.
+-- The keys suit the day. The writer `w` has received `letters`, and has written `sent`: all parts that can be written
+-- so far. The writer still holds the letters after these parts, at most as many as a part can have.
 pub record AreLettersTaken (s : Day) (keys : List Keys) (w : PartWriter) (letters sent : List ℕ) : Type 0 where
   pub suited : AreSuitedKeys s keys
   pub counted : w.count ≡ length letters
@@ -62,13 +62,14 @@ abbrev pub IsTextEndAnswer : Day → List Keys → List ℕ → List ℕ → Lis
 IsTextEndAnswer s keys letters sent made (Ok _) = IsMadeAnswer s keys letters (Ok (sent ++ made))
 IsTextEndAnswer s keys letters sent made (Err fault) = IsMadeAnswer s keys letters (Err fault) × (made ≡ [])
 
--- The writer has taken no letter yet.
+-- The writer `w` has received no letter and written no part yet.
 pub record IsFreshWriter (w : PartWriter) : Type 0 where
   pub none : w.count ≡ 0
   pub unwritten : w.written ≡ 0
   pub empty : w.letters.items ≡ []
 
--- The order is read up to a place in its text, and `w` has taken the letters before this place.
+-- The bytes `order` are the head of an order and the beginning of its text. The writer `w` has received all letters of
+-- this text.
 pub record HoldsOrderText (s : Day) (keys : List Keys) (w : PartWriter) (order sent : List ℕ) : Type 0 where
   pub head : List ℕ
   pub text : List ℕ
@@ -76,7 +77,8 @@ pub record HoldsOrderText (s : Day) (keys : List Keys) (w : PartWriter) (order s
   pub allowed : All (λ b. IsTrue (is_text_byte b)) text
   pub taken : AreLettersTaken s keys w (text_letters s text) sent
 
--- The reader holds what it has read of the order, up to a place in the head or in the text.
+-- The state of a reader after it has read the first bytes of an order: the reader is still in the head, or already in
+-- the text.
 abbrev pub HoldsOrderStage : Day → OrderStage → HeadReader → PartWriter → List ℕ → List ℕ → Type 0
 HoldsOrderStage s stages.Head h w order sent = IsHeadBegun s h.keys.items h.line.items order × (sent ≡ [])
     × IsFreshWriter w

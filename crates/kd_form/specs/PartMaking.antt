@@ -96,7 +96,7 @@ IsPartMade s part parts (Pin k) text made =
     (internal : List ℕ) × IsInternalKey (enciphered_choice s k) internal
     × (made ≡ part_of part parts None (pin_letters s k internal text))
 
--- `bytes` are part `part` of `parts` as a form has it: the heading line, and `text` enciphered with the keys.
+-- `bytes` are the lines of part number `part` of `parts`: the heading line, and `text` enciphered with the keys.
 abbrev pub IsPartTextMade : Day → ℕ → ℕ → Keys → List ℕ → List ℕ → Type 0
 IsPartTextMade s part parts keys text bytes = (made : Part) × IsPartMade s part parts keys text made
     × (bytes ≡ part_text made)

@@ -47,8 +47,8 @@ pub record PartContent : Type 0 where
   pub heading : Heading
   pub body : List ℕ
 
--- The result of reading the bytes of a part that starts at `p`. The bytes must begin with a heading line whose numbers
--- are right, and each byte of the body must be allowed.
+-- The result of cutting a part that starts at `p` into heading and body. The heading must be valid, with the right part
+-- number and the expected number of parts. Each byte of the body must be allowed.
 abbrev pub IsContentAnswer : Day → PartStart → List ℕ → AnswerRule FormFault PartContent
 IsContentAnswer s p part = do
   content ← Finds (λ content. HasHeading s part content.heading content.body) (BadHeading p.number)
@@ -56,8 +56,8 @@ IsContentAnswer s p part = do
   _ ← IsBytesAnswer (p.bytes_before + (length part - length content.body) + 1) content.body
   Yields content
 
--- The answer is `CountWrong` if the body has more or fewer letters than its heading says. Otherwise `IsLettersAnswer`
--- says which answer is right.
+-- The result of deciphering a body. The fault is `CountWrong` if the body has more or fewer letters than its heading
+-- says. Otherwise the result must satisfy `IsLettersAnswer`.
 abbrev pub IsBodyAnswer : Day → ℕ → Heading → List ℕ → AnswerRule FormFault (List ℕ)
 IsBodyAnswer s number h letters = do
   _ ← Demands (length letters ≡ h.letters) (CountWrong number)
@@ -68,7 +68,7 @@ pub record ReadPart : Type 0 where
   pub parts : ℕ
   pub letters : List ℕ
 
--- The answer for a whole part that starts at `p`.
+-- The result of reading a whole part that starts at `p`: a `ReadPart`, or the part's first fault.
 abbrev pub IsPartAnswer : Day → PartStart → List ℕ → AnswerRule FormFault ReadPart
 IsPartAnswer s p part = do
   content ← IsContentAnswer s p part

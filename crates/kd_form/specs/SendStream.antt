@@ -18,15 +18,14 @@ pub record IsAllowedPrefix (text front : List ℕ) : Type 0 where
   pub allowed : All (λ b. IsTrue (is_text_byte b)) front
   pub ends : (byte : ℕ) (more : List ℕ) → rest ≡ byte ∷ more → IsFalse (is_text_byte byte)
 
--- Some letters of the text have been read, and some parts can be written: `letters` and `written` are their numbers.
--- `parts` is the number of all parts. A part has at most `size` letters. A part can be written once a letter of the
--- next part has been read.
+-- After `letters` letters of the text have been read, `written` parts can be written. There are `parts` parts, and each
+-- has at most `size` letters. A part can be written once a letter of the next part has been read.
 pub record IsWritableCount (size parts letters written : ℕ) : Type 0 where
   pub writable : (written ≡ 0) ⊎ ((written < parts) × (size * written < letters))
   pub most : (other : ℕ) → other < parts → size * other < letters → other ≤ written
 
 -- The bytes `sent` are written before the end of the order is read. If the head isn't complete, or the keys don't suit
--- the day, nothing is written. Otherwise `sent` are the parts that `IsWritableCount` counts.
+-- the day, nothing is written. Otherwise `sent` are the form's first parts; `IsWritableCount` says how many.
 pub data IsSentBeforeEnd (s : Day) (order sent : List ℕ) : Type 0 where
   NothingSent : (fault : FormFault) → IsHeadAnswer s order (Err fault) → sent ≡ [] → IsSentBeforeEnd s order sent
   TextBegun : (parts : OrderParts) (front : List ℕ) (written : ℕ) → IsHeadAnswer s order (Ok parts)

@@ -34,11 +34,11 @@ letters_from for_space text = filter_map (letter_of_byte for_space) text
 abbrev pub text_letters : Day → List ℕ → List ℕ
 text_letters s text = letters_from (space_letter s) text
 
--- The result of testing whether a text may have the byte at `position`.
+-- The result of testing whether the byte at `position` is allowed in a text.
 abbrev pub IsByteAnswer : ℕ → ℕ → AnswerRule FormFault (Unit {0})
 IsByteAnswer position byte = Demands (IsTrue (is_text_byte byte)) (BadByte position)
 
--- The result of testing whether a text may have each byte of `text`; the first byte is at `position`.
+-- The result of testing whether all bytes of `text` are allowed in a text. The first of these bytes is at `position`.
 abbrev pub IsBytesAnswer : ℕ → List ℕ → AnswerRule FormFault (Unit {0})
 IsBytesAnswer position text = InTurn IsByteAnswer position text
 
@@ -49,8 +49,8 @@ parts_needed s letters = div_ceil letters (part_size s)
 -- ---- The form that a text becomes.
 -- Test: long_texts_are_sent_and_received
 
--- The bytes are the last parts of a form that has `parts` parts, from part number `part` on. Each part is made from its
--- own piece of the text, with its own keys.
+-- The bytes are successive parts of a form that has `parts` parts; the first of them is part number `part`. Each part
+-- is made from its own piece of the text, with its own keys.
 abbrev pub ArePartTextsMade : Day → ℕ → ℕ → List Keys → List (List ℕ) → List ℕ → Type 0
 ArePartTextsMade s part parts [] [] bytes = bytes ≡ []
 ArePartTextsMade s part parts (k ∷ keys) (piece ∷ pieces) bytes =
@@ -59,8 +59,8 @@ ArePartTextsMade s part parts (k ∷ keys) (piece ∷ pieces) bytes =
 ArePartTextsMade s part parts [] (piece ∷ pieces) bytes = ⊥
 ArePartTextsMade s part parts (k ∷ keys) [] bytes = ⊥
 
--- The answer for an order with the keys `keys` and the text's letters `letters`: its form, or a fault. In the form, all
--- parts but the last are full. The text must have a letter, and must need as many parts as there are lines of keys.
+-- The result of making a form from an order's keys and its text's letters: the form, or a fault. The text must have a
+-- letter, and must need as many parts as there are lines of keys. In the form, all parts but the last are full.
 abbrev pub IsMadeAnswer : Day → List Keys → List ℕ → AnswerRule FormFault (List ℕ)
 IsMadeAnswer s keys letters = do
   _ ← Demands (letters ≢ []) EmptyText
@@ -98,7 +98,7 @@ IsReadAnswer s order = do
   _ ← IsBytesAnswer (length parts.head + 1) parts.text
   Yields parts
 
--- The answer for a whole order: its form, or its first fault.
+-- The result of enciphering a whole order: its form, or its first fault.
 abbrev pub IsOrderAnswer : Day → List ℕ → AnswerRule FormFault (List ℕ)
 IsOrderAnswer s order = do
   parts ← IsReadAnswer s order
@@ -112,8 +112,8 @@ IsFormOf s order form = IsOrderAnswer s order (Ok form)
 abbrev pub IsSendFault : Day → List ℕ → FormFault → Type 0
 IsSendFault s order fault = IsOrderAnswer s order (Err fault)
 
--- The order has `fault`, and no further bytes can change this: the fault is found while the bytes are read. If it is
--- `BadByte`, it is for one of the order's bytes, not for a byte missing at the order's end.
+-- The order has `fault`, which is found while the order's bytes are read. So no further bytes can change the fault.
+-- `BadByte` must be for one of the order's bytes, not for a byte that is missing at the order's end.
 pub record IsOrderFaultForGood (s : Day) (order : List ℕ) (fault : FormFault) : Type 0 where
   pub found : IsReadAnswer s order (Err fault)
   pub inside : (position : ℕ) → fault ≡ BadByte position → position ≤ length order

@@ -29,8 +29,8 @@ pub record HasFaultForGood (m : Message) (bytes text : List ℕ) (fault : FormFa
   pub refused : (more : List ℕ) → m.refused (bytes ++ more) fault
   pub written : (more : List ℕ) → m.written_before (Some fault) (bytes ++ more) text
 
--- The reader reads `byte`. If `byte` causes no fault, the reader outputs `made`, and the reader's state changes from
--- `old` to `new`. Otherwise the message is refused, whatever bytes follow.
+-- The reader's state satisfies the condition `old`, and the reader reads `byte`. If `byte` causes no fault, the reader
+-- outputs `made`, and the reader's state then satisfies `new`. Otherwise the message is refused, whatever bytes follow.
 abbrev pub IsFeedAnswer : Message → (List ℕ → List ℕ → Type 0) → (List ℕ → List ℕ → Type 0) → ℕ → List ℕ
     → Result (Unit {0}) FormFault → Type 0
 IsFeedAnswer m old new byte made answer =
@@ -38,8 +38,8 @@ IsFeedAnswer m old new byte made answer =
     → MatchResult answer (λ _. HasReadSoFar m new (bytes ++ byte ∷ []) (text ++ made))
     (HasFaultForGood m (bytes ++ byte ∷ []) text)
 
--- At the end of the message, the reader outputs `made`: the rest of the result. If the message has a fault, `made` is the
--- rest of the text before the fault.
+-- At the end of the message, the reader outputs `made`, which completes the message's result. If the message has a
+-- fault, `made` completes the text that is written before the fault is returned.
 abbrev pub IsEndAnswer : Message → (List ℕ → List ℕ → Type 0) → List ℕ → Result (Unit {0}) FormFault → Type 0
 IsEndAnswer m old made answer = (bytes text : List ℕ) → HasReadSoFar m old bytes text
     → IsMessageAnswer m bytes (text ++ made) answer
@@ -49,14 +49,14 @@ abbrev pub fault_of_interruption : Interruption → FormFault
 fault_of_interruption Device = faults.Device
 fault_of_interruption (Refused fault) = fault
 
--- whether the answer is that a device failed
+-- whether the answer is the error `Device`: a read or a write failed
 abbrev pub is_device_interruption : {T : Type 0} → Result T Interruption → Bool
 is_device_interruption (Err Device) = true
 is_device_interruption _ = false
 
 -- ---- bytes, one after another
 
--- `text` is a proper prefix of a text that was due once some prefix of `bytes` had been read.
+-- `text` is incomplete: a proper prefix of what had to be written after some prefix of `bytes` was read.
 pub record IsPrefixOfDue (m : Message) (bytes text : List ℕ) : Type 0 where
   pub front : List ℕ
   pub due : List ℕ
@@ -70,7 +70,8 @@ HasBeenFed m new bytes text (Ok _) = HasReadSoFar m new bytes text
 HasBeenFed m new bytes text (Err (Refused fault)) = HasFaultForGood m bytes text fault
 HasBeenFed m new bytes text (Err Device) = IsPrefixOfDue m bytes text
 
--- The reader has read more bytes, and the reader's output for these bytes was written.
+-- A call fed the reader the last of `bytes`. `text` had been written before the call. The call wrote the reader's
+-- further output to `sink`.
 pub record IsFed (m : Message) (new : List ℕ → List ℕ → Type 0) (bytes text : List ℕ) (sink : Port)
     (answer : Result (Unit {0}) Interruption) : Type 0 where
   pub made : List ℕ
@@ -86,7 +87,8 @@ IsFeedAllAnswer m old new more sink answer =
 
 -- ---- the end
 
--- Either all text due at the end of the message was written, or the sink failed and only a proper prefix was written.
+-- The message has ended. Either all text that had to be written by then was written, or the sink failed and only a
+-- proper prefix of this text was written.
 abbrev pub HasBeenEnded : Message → List ℕ → List ℕ → Result (Unit {0}) Interruption → Type 0
 HasBeenEnded m bytes text (Ok _) = IsMessageAnswer m bytes text (Ok tt)
 HasBeenEnded m bytes text (Err (Refused fault)) = IsMessageAnswer m bytes text (Err fault)
@@ -100,7 +102,8 @@ pub record IsClosed (m : Message) (bytes text : List ℕ) (sink : Port) (answer 
   pub written : Appends sink.had sink.has made
   pub ended : HasBeenEnded m bytes (text ++ made) answer
 
--- The reader's state satisfies the condition `old`. The reader ends the message.
+-- The reader's state satisfies the condition `old`. The reader ends the message, and writes the rest of its output to
+-- the sink.
 abbrev pub IsFinishAnswer : Message → (List ℕ → List ℕ → Type 0) → Port → Result (Unit {0}) Interruption → Type 0
 IsFinishAnswer m old sink answer = (bytes text : List ℕ) → HasReadSoFar m old bytes text
     → IsClosed m bytes text sink answer
@@ -110,7 +113,7 @@ abbrev pub answer_with_fault : Result (Unit {0}) Interruption → Result (Unit {
 answer_with_fault (Ok _) = Ok tt
 answer_with_fault (Err stop) = Err (fault_of_interruption stop)
 
--- A call ends the message and returns its fault, or `Device` if the sink failed.
+-- A call ends the message. It returns `Device` if the sink failed, and otherwise the message's fault, if there is one.
 pub record IsCloseAnswer (m : Message) (old : List ℕ → List ℕ → Type 0) (sink : Port)
     (answer : Result (Unit {0}) FormFault) : Type 0 where
   pub finished : Result (Unit {0}) Interruption
@@ -151,7 +154,8 @@ pub record IsChunkRead (m : Message) (new : List ℕ → List ℕ → Type 0) (b
   pub written : Appends sink.had sink.has made
   pub read : HasBeenRead m new source sink bytes more (text ++ made) answer
 
--- The reader's state satisfies the condition `old`. The reader reads the next bytes of the source.
+-- The reader's state satisfies the condition `old`. The reader reads the source's next bytes, at most `room`, and the
+-- reader's output is written to the sink.
 abbrev pub IsReadNextAnswer : Message → (List ℕ → List ℕ → Type 0) → (List ℕ → List ℕ → Type 0) → ℕ → Port → Port
     → Result ℕ Interruption → Type 0
 IsReadNextAnswer m old new room source sink answer =

@@ -10,9 +10,12 @@ use Rattle.kd_form.specs.declared.fault.FormFault.{FormFault}
 use Rattle.kd_form.specs.declared.fault.FormFault.TheVariants.{NotReady, Device, NotOnKey, ReadTooLong}
 use Rattle.kd_form.specs.OnTheKey.{IsReadyOnKey, IsKeyFault}
 
--- A kind of message, such as orders. `stands`: the first bytes of a message have a fault that no further bytes can
--- change. `refused`: a whole message has a fault. `becomes`: a whole message has a result. `written_before`: the text
--- that is written before the fault is returned or, if there is no fault, before more bytes are read.
+-- A kind of message, such as orders:
+-- - `stands`: the first bytes of a message have a fault that no further bytes can change.
+-- - `refused`: a whole message has a fault.
+-- - `becomes`: a whole message has a result.
+-- - `written_before`: a text is written before the fault is returned. Without a fault, the text is written before more
+--   bytes are read.
 pub record Message : Type 1 where
   pub stands : List ℕ → FormFault → Type 0
   pub refused : List ℕ → FormFault → Type 0
@@ -35,8 +38,8 @@ IsMessageAnswer m bytes text answer =
 -- Code: `stream_message` reads a message chunk by chunk. The readers of orders and forms take the chunks byte by byte.
 -- Test: tests/cases/desk-messages.toml
 
--- Either some prefix of `read` has no fault, and `text` is all text that is due after this prefix. Or the source ends
--- after `read`, and `text` is all text that is due then.
+-- `text` is all that has to be written at some moment of the call. `ByThen`: this moment is after some prefix of
+-- `read`, which has no fault. `ByTheEnd`: this moment is the end of the message, because the source ends after `read`.
 pub data IsDue (m : Message) (source : Port) (read text : List ℕ) : Type 0 where
   ByThen : (front : List ℕ) → StartsWith read front → IsOpen m front text → IsDue m source read text
   ByTheEnd : (answer : Result (Unit {0}) FormFault) → IsAtEnd source.has → IsMessageAnswer m read text answer
@@ -52,10 +55,13 @@ pub record FallsShort (due text : List ℕ) : Type 0 where
   pub some : missing ≢ []
   pub joined : due ≡ text ++ missing
 
--- How a call that streams a message ends. `MessageComplete`: the message has ended without a fault. `FaultForGood`: the
--- bytes have a fault, and no further bytes can change it. `FaultAtEnd`: the bytes have a fault because the message ends
--- there. `TooLong`: one byte more than the limit was read. `SourceFails`: all text that was due for the bytes read is
--- written. `SinkFails`: only a proper prefix of the text that was due is written.
+-- How a call that streams a message ends:
+-- - `MessageComplete`: the message has ended without a fault.
+-- - `FaultForGood`: the bytes have a fault, and no further bytes can change it.
+-- - `FaultAtEnd`: the bytes have a fault only because the message ends after them.
+-- - `TooLong`: one byte more than the limit was read.
+-- - `SourceFails`: the source failed, and all text for the bytes read was written.
+-- - `SinkFails`: the sink failed, and only a proper prefix of what had to be written was written.
 pub data IsStreamAnswer (m : Message) (source sink : Port) (read text : List ℕ)
     (answer : Result (Unit {0}) FormFault) : Type 0 where
   MessageComplete : length read ≤ read_limit → IsAtEnd source.has → m.becomes read text → KeepFailureFlags source sink
@@ -85,7 +91,7 @@ pub record IsStreamed (m : Message) (source sink : Port) (answer : Result (Unit 
   pub written : Appends sink.had sink.has text
   pub answers : IsStreamAnswer m source sink read text answer
 
--- whether the answer is that a device failed
+-- whether the answer is the fault `Device`: a read or a write failed
 abbrev pub is_device : Result (Unit {0}) FormFault → Bool
 is_device (Err Device) = true
 is_device _ = false
@@ -93,7 +99,7 @@ is_device _ = false
 -- ---- What a call does only for a machine on the day's key.
 -- Test: tests/cases/desk-messages.toml
 
--- whether the answer is that the machine isn't ready, or isn't on the key
+-- whether the answer is the fault `NotReady` or `NotOnKey`
 abbrev pub is_off_key : Result (Unit {0}) FormFault → Bool
 is_off_key (Err NotReady) = true
 is_off_key (Err NotOnKey) = true
@@ -104,8 +110,8 @@ pub record IsUntouched (p : Port) : Type 0 where
   pub has : p.has ≡ p.had
   pub well : KeepsFailureFlag p
 
--- Either the answer is a fault that satisfies `is_fault`, and both ports are left as they were. Or the statement `may`
--- holds, and the call reads and writes as `IsStreamed` says.
+-- `FaultBefore`: the answer is a fault that satisfies `is_fault`, and source and sink are left as they were.
+-- `NoFaultBefore`: the statement `may` holds, and the call streams the message as `IsStreamed` says.
 pub data StreamsUnlessFault (is_fault : FormFault → Type 0) (may : Type 0) (message : Message) (source sink : Port)
     (answer : Result (Unit {0}) FormFault) : Type 0 where
   FaultBefore : (fault : FormFault) → is_fault fault → answer ≡ Err fault → IsUntouched source → IsUntouched sink
@@ -113,7 +119,8 @@ pub data StreamsUnlessFault (is_fault : FormFault → Type 0) (may : Type 0) (me
   NoFaultBefore : may → IsStreamed message source sink answer
       → StreamsUnlessFault is_fault may message source sink answer
 
--- The message is streamed, unless the machine isn't ready or isn't on the key.
+-- If the machine is ready and on the day's key, the message is streamed. Otherwise the answer is `NotReady` or
+-- `NotOnKey`.
 abbrev pub StreamsOnKey : Parts → Day → Message → Port → Port → Result (Unit {0}) FormFault → Type 0
 StreamsOnKey m s message source sink answer = StreamsUnlessFault (IsKeyFault m s) (IsReadyOnKey m s) message source
     sink answer

@@ -51,7 +51,7 @@ pub record IsTypedChunk (key left : EngineKey) (bytes lamps : List ℕ) : Type 0
   pub cipher : lamps ≡ cipher_text (cipher key) bytes
   pub after : left ≡ engine_key_after key (length (typed_letters bytes))
 
--- The first bytes are allowed; `front` is their number. The next byte, if there is one, isn't allowed.
+-- The first `front` of `bytes` are allowed in a text. The byte after them, if there is one, isn't allowed.
 pub record IsAllowedUpTo (bytes : List ℕ) (front : ℕ) : Type 0 where
   pub within : front ≤ length bytes
   pub allowed : All (λ b. IsTrue (is_text_byte b)) (take front bytes)

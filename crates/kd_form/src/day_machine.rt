@@ -59,7 +59,7 @@ impl<'day> DayMachine<'day> {
         turned
     }
 
-    /// Whether `window` has one letter for each slot or each pin wheel, and each letter is on its wheel.
+    /// Whether the machine can show `window`: one letter for each slot, or one letter of each pin wheel.
     pub fn can_show(&mut self, window: &[Letter]) -> bool
         ensures day { self.new ≡ self.old }
         ensures window { IsTrue result ↔ IsWindow (sheet_key self.old) window.now }

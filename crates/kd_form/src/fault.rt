@@ -24,7 +24,7 @@ pub enum FormFault {
     EmptyText,
     /// The text needs `needed` parts, but the order has `given` lines of keys.
     PartKeys { needed: usize, given: usize },
-    /// A letter that the message gives for a wheel (an external letter) isn't on this wheel.
+    /// One of the external letters isn't on its pin wheel.
     KeyNotOnWheel,
     /// This part's group is none of the day's groups; or, on the Converter M-209, its list letters aren't the day's.
     WrongGroup(u8),

@@ -12,7 +12,7 @@ pub fn orders_have_one_answer()
     ensures { OrdersHaveOneAnswer }
 {}
 
-/// Every order has a form or a fault: the body of this function reads `order` and finds which of the two it has.
+/// Every order has a form or a fault. The body of this function reads `order`, and finds its form or its fault.
 pub fn orders_have_an_answer(day: &SheetDay, order: &[u8])
     ensures { OrderIsAnswered day.now order.now }
 {
@@ -34,7 +34,7 @@ pub fn forms_stay_refused()
     ensures { FormsStayRefused }
 {}
 
-/// Every form has a text or a fault: the body of this function reads `form` and finds which of the two it has.
+/// Every form has a text or a fault. The body of this function reads `form`, and finds its text or its fault.
 pub fn forms_have_an_answer(day: &SheetDay, form: &[u8])
     ensures { FormIsAnswered day.now form.now }
 {

@@ -15,12 +15,12 @@ use chunk_letters::type_chunk;
 use kd_state::{Engine, Machine};
 use kd_tables::{Letter, Sink, Source, put_all};
 
-/// Types the text from `source` on `machine`, and writes the lamps as capital letters, then LF.
+/// Types the text from `source` on `machine`, and writes the ciphertext to `sink`, then LF.
 ///
 /// `NotReady` is returned before anything is read or written. The first byte that isn't allowed is refused once it is
-/// found, before further chunks are read. Before the refusal, the lamps of all letters before this byte are written. If
-/// the sink fails to take them, the fault is `Device`. At most 1,048,576 bytes are read, and then one more, which shows
-/// whether the source has ended.
+/// found, before further chunks are read. Before the refusal, the ciphertext of all letters before this byte is
+/// written. If the sink fails to take this ciphertext, the fault is `Device`. At most 1,048,576 bytes are read, and
+/// then one more, which shows whether the source has ended.
 pub fn type_stream<R: Source, W: Sink>(
     machine: &Machine,
     source: &mut R,

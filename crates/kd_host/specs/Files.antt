@@ -33,7 +33,8 @@ opening_of (Some bytes) = Ok (record { bytes = Some bytes; failed = false })
 abbrev pub bytes_in_files : List (Bor (List ℕ) × Bor (List ℕ)) → List ℕ → Option (List ℕ)
 bytes_in_files files name = option_map (λ file. file.1.now) (find (λ file. bytes_eq file.0.now name) files)
 
--- Either `answer` and `meant` are the same fault, or `answer` is an opened file that `known` maps to `meant`.
+-- Opening a file gave the expected answer: the expected fault, or an opened file with the expected unread bytes and
+-- failure flag.
 abbrev pub IsOpenAnswer : {O : Type 0} → Result KnownFile FileFault → (O → KnownFile) → Result O FileFault → Type 0
 IsOpenAnswer meant known answer = result_map_both known (λ fault. fault) answer ≡ meant
 
@@ -75,14 +76,15 @@ pub record MissesOne (names : List (List ℕ)) (old new : List AskedName) : Type
   pub names_are : names ≡ before ++ name ∷ after
   pub asked : new ≡ old ++ (map asked_and_had before ++ asked_and_missed name ∷ [])
 
--- The list `new` is the list `old`, followed by the names asked for. If the flag is `true`, these are all of `names`.
--- If it is `false`, the last of them is the first name whose file couldn't be read or opened.
+-- The list `new` is the list `old`, followed by the file names that were asked for. With the flag `true`, these are all
+-- of `names`. With `false`, they end with the first name whose file couldn't be read or opened.
 abbrev pub AreAskedFor : List (List ℕ) → List AskedName → List AskedName → Bool → Type 0
 AreAskedFor names old new true = new ≡ old ++ map asked_and_had names
 AreAskedFor names old new false = MissesOne names old new
 
 -- ---- What an inner function answers that reads or opens several files. No public contract cites this definition.
 
--- `answer` and `meant` are the same fault, or `known` maps `answer` to `meant`, or `answer` is `NoMemory`.
+-- Either the answer is `NoMemory`, or it agrees with the expected answer: both are the same fault, or the function maps
+-- the value read to the expected value.
 abbrev pub IsReadAnswer : {X Y : Type 0} → Result Y FileFault → (X → Y) → Result X FileFault → Type 0
 IsReadAnswer meant known answer = AgreesOrNoMemory NoMemory meant (result_map_both known (λ fault. fault) answer)

@@ -4,9 +4,9 @@ ghost use Rattle.std.specs.Prelude.{◌≡◌, ◌<◌, [], ◌∷◌, ◌++◌,
 use arrayvec::ArrayVec;
 use std::marker::Model;
 
-/// The names asked for, in order. A flag beside each name says whether the file could be read or opened.
+/// The file names that were asked for, in order. A flag beside each name says whether the file could be read or opened.
 ///
-/// There are at most three: no command names more files.
+/// There are at most three names: no command names more files.
 #[derive(Drop)]
 pub struct AskedNames<'n> {
     names: ArrayVec<(&'n str, bool), 3>,

@@ -18,10 +18,11 @@ pub trait Files<'n> {
     /// The map is missing (`None`) if the files' bytes aren't known, as for the host's files.
     ghost known: { Self → Option (List ℕ → Option (List ℕ)) } = { λ _. None };
 
-    /// The names asked for, in order. A flag beside each name says whether the file could be read or opened.
+    /// The file names that were asked for, in order. A flag beside each name says whether the file could be read or
+    /// opened.
     ghost asked: { Self → List AskedName };
 
-    /// The opened file that was taken back last: its unread bytes, and whether a read of it failed.
+    /// What is known of the last file given to `take_back`: its unread bytes, and whether a read of it failed.
     ghost returned: { Self → KnownFile };
 
     /// Reads the file `name` whole.

@@ -15,7 +15,7 @@ use std::fs::File;
 pub struct HostFiles<'n> {
     rt: &'n HostRuntime,
     asked: AskedNames<'n>,
-    /// Whether a read of the opened file that was taken back last had failed.
+    /// Whether the last file given to `take_back` had a failed read.
     has_failed: bool,
 }
 

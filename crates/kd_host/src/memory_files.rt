@@ -16,7 +16,7 @@ use std::alloc::Global;
 pub struct MemoryFiles<'n> {
     files: &'n [(&'n str, &'n [u8])],
     asked: AskedNames<'n>,
-    /// The unread bytes of the opened file that was taken back last.
+    /// The unread bytes of the last file given to `take_back`.
     rest: &'n [u8],
 }
 

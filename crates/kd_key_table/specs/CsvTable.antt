@@ -49,7 +49,7 @@ effective_letter pin = if pin.1 then letter_text pin.0 else []
 abbrev pub effective_cell : List ℕ → List Bool → List ℕ
 effective_cell letters pins = texts.COMMA.now ++ flat_map effective_letter (zip letters pins)
 
--- the cells of all six wheels
+-- the cells of the six pin wheels, each with the letters of the wheel's effective pins
 unfoldable pub effective_cells : PinSet → List ℕ
 effective_cells pins = flat_map (λ wheel. effective_cell (ring_of wheel) (pins_on (pins_of pins) wheel)) pin_wheels
 

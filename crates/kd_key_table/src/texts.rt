@@ -15,8 +15,8 @@ pub const NO_DAYS: Text = (
     "<p>Die Schlüsseltafel hat keine Tage.</p>\n",
 );
 
-/// The head of a month's table. The value is the model. Then the words for a table of one day, and the words for the
-/// first and the last day of a table.
+/// The start of the head of a month's table; its value is the model. The next two texts say which days the table has:
+/// one day, or the first to the last day.
 pub const MONTH: Text = (
     "<article class=sheet>\n<header>\n<h1>~: key table <small>",
     "<article class=sheet>\n<header>\n<h1>~: Schlüsseltafel <small>",
@@ -32,8 +32,8 @@ pub const COLUMNS: Text = (
     "</small></h1>\n<p class=fields><span>Schlüsselkreis</span><span>Monat</span><span>Prüfnummer</span></p>\n</header>\n<p class=note>Nach Gebrauch den untersten Tag abschneiden. A\u{a0}01, B\u{a0}02, C\u{a0}03, D\u{a0}04, E\u{a0}05, F\u{a0}06, G\u{a0}07, H\u{a0}08, I\u{a0}09, J\u{a0}10, K\u{a0}11, L\u{a0}12, M\u{a0}13, N\u{a0}14, O\u{a0}15, P\u{a0}16, Q\u{a0}17, R\u{a0}18, S\u{a0}19, T\u{a0}20, U\u{a0}21, V\u{a0}22, W\u{a0}23, X\u{a0}24, Y\u{a0}25, Z\u{a0}26.</p>\n<table class=month>\n<colgroup><colgroup><colgroup span=~><colgroup span=~><colgroup><colgroup><colgroup>\n<thead>\n<tr><th scope=col>Tag<th scope=col>Umkehrwalze<th scope=col colspan=~>Walzenlage<th scope=col colspan=~>Ringstellung<th scope=col>Steckerverbindungen<th scope=col>Grundstellung<th scope=col>Kenngruppen\n<tbody>\n",
 );
 
-/// The row of a day. Its start has the day's number and the reflector. Then the cell of a wheel, and the cell of a
-/// ring. Then the start of a cell for cables, ground setting or groups.
+/// The start of a day's row, with the day's number and the reflector. The next texts are a wheel's cell, a ring's cell,
+/// and the start of a cell for cables, ground setting or groups.
 pub const ROW: &str = "<tr><th scope=row>~<td>~";
 
 pub const WHEEL: &str = "<td>~";
@@ -52,8 +52,8 @@ pub const NOTHING: &str = "-";
 /// The separator of two words in a cell.
 pub const SPACE: &str = " ";
 
-/// The head of a Converter's key list, up to its two letters. The values are the model and the day. Then the columns of
-/// the list.
+/// The start of the head of a Converter's key list; its values are the model and the day. The list's two letters
+/// follow. The next text stands after the letters, and names the columns.
 pub const KEY_LIST: Text = (
     "<article class=list>\n<header>\n<h1>~, day ~: key list ",
     "<article class=list>\n<header>\n<h1>~, Tag ~: Schlüsselliste ",
@@ -64,20 +64,22 @@ pub const KEY_LIST_COLUMNS: Text = (
     "</h1>\n<p class=fields><span>Schlüsselkreis</span><span>Datum</span><span>Prüfnummer</span></p>\n</header>\n<table class=keylist>\n<thead>\n<tr><th scope=col rowspan=2>Stange<th scope=col rowspan=2>Reiter<th scope=colgroup colspan=6>Wirksame Stifte von Rad\n<tr><th scope=col>1<th scope=col>2<th scope=col>3<th scope=col>4<th scope=col>5<th scope=col>6\n<tbody>\n",
 );
 
-/// The row of a bar: its number, in two digits, and the wheels at its two lugs.
+/// The start of the row of a bar with a number below 10: a 0 and the number, then the wheels at the bar's two lugs. The
+/// next text is for all other bars.
 pub const BAR_BELOW_TEN: &str = "<tr><th scope=row>0~<td>~-~";
 
 pub const BAR: &str = "<tr><th scope=row>~<td>~-~";
 
-/// The cell of a pin: the letter of an effective pin, a hyphen for another pin, or nothing if the wheel has fewer pins.
+/// The cell of an effective pin, with the pin's letter. The next two texts are for a pin that isn't effective, and for
+/// a wheel with fewer pins.
 pub const EFFECTIVE: &str = "<td>~";
 
 pub const INEFFECTIVE: &str = "<td>-";
 
 pub const NO_PIN: &str = "<td>";
 
-/// The words before the 26-letter check. Then the words after it, which end before the letters of the wheels on this
-/// day.
+/// The words before the 26-letter check. The next text stands after the check, and ends before the letters of the
+/// wheels on this day.
 pub const CHECK: Text = (
     "</table>\n<h2>26-letter check</h2>\n<pre><b>",
     "</table>\n<h2>26-Buchstaben-Probe</h2>\n<pre><b>",
@@ -90,19 +92,19 @@ pub const CHECK_END: Text = (
 
 pub const KEY_LIST_END: &str = ".</p>\n</article>\n";
 
-/// The names of the columns of a CSV table. Then the names of the columns for key lists.
+/// The names of the columns of a CSV table. The next text has the names of further columns, for a Converter's key list.
 pub const COLUMN_NAMES: &str = "day,model,reflector,wheels,rings,plugs,window,groups";
 
 pub const LIST_COLUMN_NAMES: &str = ",list,pins 1,pins 2,pins 3,pins 4,pins 5,pins 6,bars";
 
-/// The end of a cell in a CSV table. Then the empty cells in the row of a rotor machine's day, where a Converter's day
-/// has its key list.
+/// The comma between two cells of a CSV table. The next text has the empty cells in a rotor machine's row, where a
+/// Converter's row has its key list.
 pub const COMMA: &str = ",";
 
 pub const NO_LIST: &str = ",,,,,,,,";
 
-/// The cells of a Converter's day before its window letters: the model, and empty cells. Then the empty cell for the
-/// groups.
+/// The cells of a Converter's day before its window letters: the model, and empty cells. The next text has the empty
+/// cell for the groups.
 pub const PIN_MODEL: &str = ",M-209,,,,,";
 
 pub const NO_GROUPS: &str = ",,";

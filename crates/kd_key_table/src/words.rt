@@ -9,9 +9,10 @@ use kd_pictures::template::{draw_letter, draw_letters, draw_ordinal};
 use kd_state::SheetWheel;
 use kd_tables::{Letter, Reading, Sink};
 
-/// A value that a cell shows as a word. `Kind` names the word, since a wheel has several.
+/// A value that a table's cell shows as a word. `Kind` says which word, since a wheel has several, such as its name and
+/// its ring.
 pub(crate) trait CellWord<Kind> {
-    /// The word.
+    /// The word that the cell shows.
     ghost text: { Self → List ℕ };
 
     fn draw_word<W: Sink>(&self, sink: &mut W)

@@ -30,14 +30,15 @@ fault_line name place line wrong fault =
     name ++ entry_words place.day place.entry ++ line_words line ++ codes ", " ++ key_name place.key ++ wrong
     ++ fault_end fault
 
--- The text is a line that names the fault and its place: the day or the entry, the line of the file, if it is known,
--- and the key.
+-- The text is the report's line about `fault` at `place` in the file `name`. `line` is the number of the file's line,
+-- if it is known. `wrong` says what is wrong, in words without a line end.
 pub record IsLineAt (name : List ℕ) (place : Place) (line : Option ℕ) (fault : SheetFault) (text : List ℕ) : Type 0 where
   pub wrong : List ℕ
   pub plain : IsInOneLine wrong
   pub whole : text ≡ fault_line name place line wrong fault
 
--- The text is a line that names the fault, the fault's place, and the fault's line in the file.
+-- The text is the report's line about this fault at this place. If the fault's line in the file is known, the text has
+-- this line's number.
 abbrev pub IsFaultLine : List ℕ → List ℕ → Place → SheetFault → List ℕ → Type 0
 IsFaultLine name bytes place fault text = IsLineAt name place (line_of_fault bytes place fault) fault text
 
@@ -54,8 +55,8 @@ pub record NamesFaults (name bytes : List ℕ) (document : Members) (fault : She
   pub first : first_fault found ≡ Some fault
   pub lines : AreFaultLines name bytes found text
 
--- The text is the line about a file that isn't TOML. It has the file's name, the place at which TOML ends, and the
--- fault.
+-- The text is the line about a file that isn't TOML. It has the file's name, a place in the file, what is wrong there,
+-- and the fault's number and name.
 pub record IsPlainLine (name bytes : List ℕ) (fault : SheetFault) (text : List ℕ) : Type 0 where
   pub words : List ℕ
   pub place : SaysNotToml bytes words

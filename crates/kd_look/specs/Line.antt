@@ -1,4 +1,4 @@
--- The line of a value in a file: the first line for which the file, up to the line's end, is a document with this
+-- The line of a value in a file: the first line such that the file, cut off after this line, is a document with the
 -- value. If the array `day` is missing, the line is the line of the file's first key.
 -- Code: the document is parsed up to the end of each line in turn, once for all faults.
 -- Test: tests/cases/curator-look.toml
@@ -25,7 +25,8 @@ use Rattle.kd_look.specs.declared.line.Sought.TheVariants as soughts
 abbrev pub entry_of : List Data → ℕ → Option Members
 entry_of items entry = option_and_then as_table (numbered_item items entry)
 
--- the table in which a value stands: the document, or the item `entry` of its array `day`
+-- the table that has a value: the document itself or, if there is a number, the item with this number in the document's
+-- array `day`
 unfoldable pub table_at : Members → Option ℕ → Option Members
 table_at document None = Some document
 table_at document (Some entry) = option_and_then (λ items. entry_of items entry) (entries_of document)
@@ -54,8 +55,8 @@ ends_line text index = slice_index text index == 10 || index + 1 == length text
 unfoldable pub has_value_at : List ℕ → Sought → ℕ → Bool
 has_value_at text sought index = ends_line text index && reads_value sought (take (index + 1) text)
 
--- The number of the first line for which the text, up to the line's end, is a document with the thing that is looked
--- for. Only lines that end before place `end` count.
+-- The number of the first line such that the text, cut off after this line, is a document with the thing to look for.
+-- Only lines that end before the byte with this index are tried.
 abbrev pub line_before : List ℕ → ℕ → Sought → Option ℕ
 line_before text end sought = option_map (line_at text) (find (has_value_at text sought) (range_with_len 0 end))
 
@@ -64,13 +65,13 @@ line_before text end sought = option_map (line_at text) (find (has_value_at text
 abbrev pub is_too_long : List ℕ → Bool
 is_too_long text = nat_lt 65536 (length text) || nat_lt 2048 (count_by (λ byte. byte == 10) text)
 
--- The number of the first line for which the text, up to the line's end, is a document with the thing that is looked
--- for. `None` if there is no such line, or the text is too long.
+-- The number of the first line such that the text, cut off after this line, is a document with the thing to look for.
+-- `None` if there is no such line, or the text is too long.
 abbrev pub line_number : List ℕ → Sought → Option ℕ
 line_number text sought = if is_too_long text then None else line_before text (length text) sought
 
--- The thing to look for if a key is missing: the entry that lacks the key or, if the array `day` is missing, the file's
--- first key. `None` for another key at the top.
+-- The thing to look for if a key is missing. If an entry lacks the key, it is this entry. If the document lacks the key
+-- `day`, it is the document's first key. `None` if the document lacks another key.
 abbrev pub sought_without : Option ℕ → Key → Option Sought
 sought_without (Some entry) key = Some (soughts.Entry entry)
 sought_without None keys.Day = Some soughts.AnyKey
@@ -91,7 +92,7 @@ line_of_fault text place fault = option_and_then (line_number text) (sought_for 
 abbrev pub line_of : List ℕ → Finding → Option ℕ
 line_of text finding = line_of_fault text finding.place finding.fault
 
--- the line of a finding, if this line ends before place `end`
+-- the line of a finding, if this line ends before the byte with this index
 unfoldable pub line_so_far : List ℕ → ℕ → Finding → Option ℕ
 line_so_far text end finding = option_and_then (line_before text end) (sought_for finding.place finding.fault)
 

@@ -62,6 +62,7 @@ pub record WritesReport (files : List NamedText) (sink : Port) (answer : Result 
   pub answered : IfOk answer (λ found. found ≡ outcome_of_all files)
   pub device : OnErr answer (answer ≡ Err Device)
 
--- A report on the files was written, or the answer is that memory ran out. This answer is allowed for all files.
+-- A report on the files was written, or the answer is that memory ran out. The answer that memory ran out is always
+-- allowed.
 abbrev pub IsLookAnswer : List NamedText → Port → Result Outcome LookFault → Type 0
 IsLookAnswer files sink answer = WritesReport files sink answer ⊎ (answer ≡ Err NoMemory)

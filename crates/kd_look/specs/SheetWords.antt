@@ -14,7 +14,7 @@ use Rattle.kd_sheet.specs.Sheet.{day_of}
 use Rattle.kd_look.specs.declared.sheet_words.Sort.{Sort}
 use Rattle.kd_look.specs.declared.sheet_words.Sort.TheVariants as sorts
 
--- Whether the day is of this sort. A sort has the days for a model, or the days for rotor machines that have no groups.
+-- Whether the day is of this sort: a day for the sort's model, or a rotor machine's day without groups.
 abbrev pub is_of_sort : Sort → Day → Bool
 is_of_sort (sorts.Of model) day = (model_eq.ghosts).eq (day_model day) model
 is_of_sort sorts.WithoutGroups day = option_map_or (λ values. length values.groups == 0) (rotor_day day) false
@@ -23,8 +23,8 @@ is_of_sort sorts.WithoutGroups day = option_map_or (λ values. length values.gro
 unfoldable pub has_day : List (Option Day) → Sort → ℕ → Bool
 has_day month sort number = option_map_or (is_of_sort sort) (day_of month number) false
 
--- The words that the day `number` adds to the lines of its sort. These lines begin with `title`. `before` says whether
--- the previous day is of this sort, `after` whether the next day is.
+-- The words that the day `number` adds to the lines for its sort, such as `M3: days 4 to 9`. Each line begins with
+-- `title`. `before` says whether the previous day is of this sort, `after` whether the next day is.
 unfoldable pub day_words : List ℕ → Bool → Bool → ℕ → List ℕ
 day_words title before after number =
     if before then (if after then [] else decimal number ++ codes "\n")

@@ -43,11 +43,12 @@ pub record WarnsOfDays (name text : List ℕ) : Type 0 where
   pub words : List (List ℕ)
   pub are : ArePieces (IsDayLine name) words text
 
--- the list with the numbers of pairs and groups of day `number`; empty if the sheet doesn't have this day
+-- how many pairs and how many groups the day `number` has, as a list with one item; empty if the sheet doesn't have
+-- this day
 abbrev pub counts_on : List (Option Day) → ℕ → List DayCounts
 counts_on month number = option_map_or (λ day. counts_of day ∷ []) (day_of month number) []
 
--- the numbers of pairs and groups of a sheet's days, in the order of the days
+-- how many pairs and how many groups each day of a sheet has, in the order of the days
 abbrev pub counts_in : List (Option Day) → List DayCounts
 counts_in month = flat_map (counts_on month) (range_with_len 1 31)
 

@@ -45,7 +45,7 @@ fn are_alike(one: &SheetDay, other: &SheetDay) -> bool {
         && have_same_lists(one, other)
 }
 
-/// The first day before the day `number` that differs from the day `number` only in its number.
+/// Finds the first earlier day that differs from the day `number` only in its number.
 fn first_alike(sheet: &Sheet, number: u8) -> Option<u8> {
     let day = sheet.day(number)?;
     for earlier in 1..number {

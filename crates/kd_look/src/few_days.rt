@@ -7,7 +7,7 @@ use kd_sheet::Sheet;
 use kd_slips::counts::{DayCounts, counts_of, few_lines};
 use std::alloc::{AllocError, Global};
 
-/// Appends the numbers of pairs and groups of day `number`, if the sheet has this day.
+/// Appends how many pairs and how many groups the day `number` has, if the sheet has this day.
 fn push_counts(days: &mut Vec<DayCounts>, sheet: &Sheet, number: u8) -> Result<(), AllocError>
     ensures { OnOk result (days.new.items ≡ days.old.items ++ counts_on sheet.now number) }
 {
@@ -17,7 +17,7 @@ fn push_counts(days: &mut Vec<DayCounts>, sheet: &Sheet, number: u8) -> Result<(
     Ok(())
 }
 
-/// The numbers of pairs and groups of the days of `sheet`, in the order of the days.
+/// How many pairs and how many groups each day of `sheet` has, in the order of the days.
 fn counts_in(alloc: Global, sheet: &Sheet) -> Result<Vec<DayCounts>, AllocError>
     ensures { IfOk result (λ days. days.items ≡ counts_in sheet.now) }
 {

@@ -41,7 +41,8 @@ fn entry_of(items: &[Value], entry: usize) -> Option<&Table>
     item.as_table()
 }
 
-/// The table in which a value stands: `document`, or the item `entry` of its array `day`.
+/// The table that has a value: `document` itself or, if `entry` is a number, the item with this number in its array
+/// `day`.
 #[tactic(auto, unfolding(crate::specs::Line::table_at))]
 fn table_at(document: &Table, entry: Option<usize>) -> Option<&Table>
     ensures { option_map (λ table. table_view table.now) result
@@ -81,8 +82,10 @@ fn has_value(document: &Table, sought: Sought) -> bool
     }
 }
 
-/// The thing to look for if `key` is missing: the entry that lacks the key or, if the array `day` is missing, the
-/// file's first key. `None` for another key at the top.
+/// The thing to look for if `key` is missing.
+///
+/// If an entry lacks the key, it is this entry. If the document lacks the key `day`, it is the document's first key.
+/// `None` if the document lacks another key.
 fn sought_without(entry: Option<usize>, key: Key) -> Option<Sought>
     ensures { result ≡ sought_without entry key }
 {
@@ -132,8 +135,8 @@ fn known_line(
     }
 }
 
-/// The lines of `findings`. Lines that are already known are taken from `lines`. Each other finding gets the line
-/// `line`, if `document` has the thing to look for.
+/// Returns `lines`, the lines of `findings`. A finding without a line gets `line`, if `document` has the thing to look
+/// for.
 fn next_lines(
     alloc: Global,
     document: &Table,
@@ -153,8 +156,8 @@ fn next_lines(
     Ok(next)
 }
 
-/// The lines of `findings`. Lines that are already known are taken from `lines`. Each other finding gets the line
-/// `line`, if `text` is a document with the thing to look for.
+/// Returns `lines`, the lines of `findings`. A finding without a line gets `line`, if `text` is a document with the
+/// thing to look for.
 fn lines_with(
     alloc: Global,
     text: &[u8],
@@ -182,8 +185,7 @@ fn ends_line(text: &[u8], index: usize) -> bool
     text[index] == b'\n' || index + 1 == text.len()
 }
 
-/// The lines of `findings` in the text up to and with the byte at `index`. `lines` has their lines in the text before
-/// this byte.
+/// The lines of `findings` that end at the byte at `index` or earlier. `lines` has the lines that end earlier.
 fn lines_after(
     alloc: Global,
     text: &[u8],
@@ -211,7 +213,7 @@ fn is_too_long(text: &[u8]) -> bool
     text.len() > MOST_BYTES || text.iter().filter(|byte| **byte == b'\n').count() > MOST_LINES
 }
 
-/// A `None` for each of `findings`.
+/// A list with a `None` for each of `findings`: no line is known.
 fn no_lines(alloc: Global, findings: &[Finding]) -> Result<Vec<Option<usize>>, AllocError>
     ensures { IfOk result (λ lines. lines.items ≡ map (λ finding. None) findings.now) }
 {
@@ -242,10 +244,10 @@ fn seek_lines(
     Ok(lines)
 }
 
-/// The line of each of `findings`: the first line for which `text`, up to the line's end, is a document with the thing
-/// to look for.
+/// The line of each of `findings`, found by cutting off `text` after each line in turn.
 ///
-/// `None` if there is no such line, or `text` is too long.
+/// It is the first line such that the cut text is a document with the thing to look for. `None` if there is no such
+/// line, or `text` is too long.
 pub fn lines_of(
     alloc: Global,
     text: &[u8],

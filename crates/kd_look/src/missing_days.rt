@@ -109,7 +109,7 @@ fn push_no_day(
     }
 }
 
-/// Appends a warning for each key sheet of `files`: it has no day for the machine in the file `name`.
+/// Appends, for each key sheet of `files`, the warning that it has no day for the machine in the file `name`.
 #[tactic(auto, using(std::proofs::Common::append_assoc))]
 fn push_no_days(
     lines: &mut String,

@@ -4,7 +4,7 @@ ghost use Rattle.kd_look.specs.Look.{or_later};
 
 use kd_sheet::SheetFault;
 
-/// The first fault of some files, if they have any.
+/// What was found in files: no fault, or the first fault.
 #[derive(Clone, Copy, Debug, PartialEq, Eq)]
 pub enum Outcome {
     /// No file has a fault.

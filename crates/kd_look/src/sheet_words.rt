@@ -10,12 +10,12 @@ use kd_state::SheetDay;
 use kd_tables::Model;
 use std::alloc::AllocError;
 
-/// A sort of days.
+/// A sort of days: the days for one model, or the days of rotor machines that have no groups.
 #[derive(Clone, Copy)]
 pub enum Sort {
     /// The days for a model.
     Of(Model),
-    /// The days of rotor machines that have no groups.
+    /// A rotor machine's days without groups.
     WithoutGroups,
 }
 
@@ -42,7 +42,7 @@ fn has_day(sheet: &Sheet, sort: Sort, number: u8) -> bool
     }
 }
 
-/// Appends the start of a line: `title` and the line's first day.
+/// Appends `title` and the first day of a line. If the line has no further day, also ends the line.
 #[tactic(auto, using(std::proofs::Common::append_assoc), unfolding(crate::specs::SheetWords::day_words))]
 fn push_first_day(text: &mut String, title: &str, after: bool, number: u8) -> Result<(), AllocError>
     ensures { OnOk result
@@ -67,7 +67,7 @@ fn push_last_day(text: &mut String, title: &str, after: bool, number: u8) -> Res
     text.push_str("\n")
 }
 
-/// Appends the words that the day `number` adds to the lines of this sort.
+/// Appends the words for the day `number` to the lines of this sort, if the day is of this sort.
 #[tactic(auto, unfolding(crate::specs::SheetWords::numbered_day_words))]
 fn push_day(
     text: &mut String,

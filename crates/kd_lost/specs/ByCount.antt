@@ -29,13 +29,13 @@ from_blank (byte ∷ line) = if is_blank byte then byte ∷ line else from_blank
 abbrev pub later_words : List ℕ → List ℕ
 later_words line = drop 1 (from_blank line)
 
--- `line`, with `count` in place of its third word
+-- the heading `line`, with `count` in place of its third word, the letter count
 abbrev pub counted_line : ℕ → List ℕ → List ℕ
 counted_line count line =
     first_word line ++ 32 ∷ [] ++ first_word (later_words line) ++ 32 ∷ [] ++ decimal count
     ++ from_blank (later_words (later_words line))
 
--- the part, with `count` in place of the third word of its heading
+-- the part, with `count` in place of the third word of its heading, the letter count
 abbrev pub counted_part : ℕ → List ℕ → List ℕ
 counted_part count part = counted_line count (first_line part) ++ from_line_end part
 
@@ -46,21 +46,23 @@ abbrev pub heading_count : Option PartNumbers → ℕ
 heading_count (Some numbers) = numbers.letters
 heading_count None = 0
 
--- whether the heading's count `counted` would be right if line `short` had all of its 50 letters; `came` letters came
+-- whether line `short` explains a wrong count: with 50 letters on this line, the body would have `counted` letters
+-- instead of `came`
 abbrev pub explains : ℕ → ℕ → ShortLine → Bool
 explains counted came short = counted + short.letters == came + 50
 
--- the short line, if the heading's count is right once this line has 50 letters; otherwise `None`
+-- the short line, if the heading's count would be right with 50 letters on this line; otherwise `None`
 abbrev pub telling_line : ℕ → ℕ → Option ShortLine → Option ShortLine
 telling_line counted came None = None
 telling_line counted came (Some short) = if explains counted came short then Some short else None
 
--- the short line of the part, if the heading's count is right once this line has 50 letters; otherwise `None`
+-- the short line of the part, if the heading's count would be right with 50 letters on this line; otherwise `None`
 abbrev pub part_line : DamagedPart → Option ShortLine
 part_line part = telling_line (heading_count part.numbers) part.came part.short_line
 
--- Whether the heading's count may be wrong: the heading is damaged, or its count differs from the number of letters
--- that came, and no short line explains the difference.
+-- Whether the heading's count may be wrong. It may be wrong in two cases:
+-- - The heading is damaged.
+-- - The body has more or fewer letters than the heading says, and no short line explains the difference.
 abbrev pub is_count_doubted : Result DamagedText PartDamage → Option ShortLine → Bool
 is_count_doubted (Ok shown) line = false
 is_count_doubted (Err damages.HeadingDamaged) line = true
@@ -69,7 +71,7 @@ is_count_doubted (Err _) line = false
 
 -- ---- What is read then.
 
--- the text of a part that could be read; otherwise `None`
+-- the text of a part; `None` if the part couldn't be read
 abbrev pub text_of : Result DamagedText PartDamage → Option DamagedText
 text_of (Ok shown) = Some shown
 text_of (Err damage) = None
@@ -83,16 +85,16 @@ pub record IsFoundIn (s : Day) (part : List ℕ) (numbers : Option PartNumbers) 
   pub is_its : found ≡ text_of answer
   pub shown : IfSome found (IsPartShown s part)
 
--- The numbers of a part. If the heading as it came is valid, the numbers are `given`. If it is damaged, and a text is
--- found by count, the numbers are `counted`, from the heading with the new count.
+-- The numbers of a part. They are `given` if the received heading is valid. If it is damaged, but the part has a text
+-- by count, they are `counted`, the numbers in the heading with the new count. Otherwise there are none.
 abbrev pub numbers_by_count : Option PartNumbers → Option PartNumbers → Option DamagedText → Option PartNumbers
 numbers_by_count (Some given) counted found = Some given
 numbers_by_count None counted (Some shown) = counted
 numbers_by_count None counted None = None
 
--- Reading `part` by count gives the text `found` and the numbers `numbers`. `given` are the numbers in the heading as
--- it came. The first argument says whether the heading's count may be wrong. If it may, the text is read with `came` as
--- the count, the number of letters that came. If it may not, no text is found.
+-- Reading `part` by count gives the text `found` and the numbers `numbers`. `given` are the numbers in the received
+-- heading. The first argument says whether the heading's count may be wrong. Only then is the part read by count, with
+-- `came` as its letter count. Otherwise `found` is `None`, and `numbers` are `given`.
 abbrev pub GivesByCount : Bool → Day → List ℕ → ℕ → Option PartNumbers → Option PartNumbers → Option DamagedText → Type 0
 GivesByCount false s part came given numbers found = (found ≡ None) × (numbers ≡ given)
 GivesByCount true s part came given numbers found =

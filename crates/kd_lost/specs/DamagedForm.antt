@@ -27,8 +27,8 @@ use Rattle.kd_lost.specs.WrongSign.{IsFirstWrongSign}
 
 -- ---- The parts of a form.
 
--- Whether `byte` ends a part if `bytes` follow it. It ends a part if it is an LF, and the line after it is taken for a
--- heading.
+-- Whether a part ends with `byte`, if `bytes` follow it. It does if `byte` is an LF, and the line after it is taken for
+-- a heading.
 abbrev pub ends_part : ℕ → List ℕ → Bool
 ends_part byte bytes = byte == 10 && is_heading_line bytes
 
@@ -39,11 +39,11 @@ cut_at_heading_lines (byte ∷ bytes) =
     if ends_part byte bytes then (byte ∷ [], (cut_at_heading_lines bytes).0 ∷ (cut_at_heading_lines bytes).1)
     else (byte ∷ (cut_at_heading_lines bytes).0, (cut_at_heading_lines bytes).1)
 
--- the bytes, cut into all their parts
+-- all parts of these bytes; each part but the first begins with a line that is taken for a heading
 abbrev pub parts_cut : List ℕ → List (List ℕ)
 parts_cut bytes = (cut_at_heading_lines bytes).0 ∷ (cut_at_heading_lines bytes).1
 
--- all parts of a damaged form, without the lines that `tidied` drops
+-- all parts of a damaged form, without what `tidied` drops: a byte order mark, and lines before the first heading
 abbrev pub form_parts : List ℕ → List (List ℕ)
 form_parts form = parts_cut (tidied form)
 
@@ -70,8 +70,8 @@ pub data IsMeant (s : Day) (part meant : List ℕ) : Type 0 where
   Respaced : ((h : Heading) → ¬ (IsDamagedHeading s (first_line part) h)) → meant ≡ respaced part
       → IsMeant s part meant
 
--- `read` has what can be read of `part` if no blank is dropped: the fields that `read_damaged_part` reads, and the text
--- by count. `given` are the numbers in the heading as it came.
+-- `read` has what can be read of `part` as it stands: the fields that `read_damaged_part` reads, and the text by count.
+-- `given` are the numbers in the received heading.
 pub record IsReadAs (s : Day) (part : List ℕ) (read : DamagedPart) : Type 0 where
   pub given : Option PartNumbers
   pub given_there : AreNumbersRead s (first_line part) given
@@ -109,8 +109,8 @@ AreReadOf s (part ∷ parts) [] = ⊥
 
 -- ---- Parts that came several times.
 
--- The parts `parts` of a form, the first of which is at place `index`. Letters from a part's copies stand in place of
--- lost letters.
+-- The parts `parts`, with letters from their copies in place of lost letters. The first of `parts` is at place `index`
+-- of the form.
 abbrev pub completed_parts : List DamagedPart → ℕ → List PlacedPart → List PlacedPart
 completed_parts copies index [] = []
 completed_parts copies index (part ∷ parts) =
@@ -141,8 +141,8 @@ letters_in (Err damage) = []
 abbrev pub shown_letters : List DamagedPart → List (Option ℕ)
 shown_letters reads = flat_map (λ (read : DamagedPart). letters_in read.text) reads
 
--- The byte that is written for a letter of a text: `?` for a lost letter, and a space for the letter `for_space`, if
--- there is one. For any other letter, it is the capital letter.
+-- The byte that is written for a letter of a text: `?` for a lost letter, a space for the letter `for_space`, otherwise
+-- the capital letter. `for_space` may be `None`.
 abbrev pub shown_byte : Option ℕ → Option ℕ → ℕ
 shown_byte for_space None = 63
 shown_byte for_space (Some letter) = plaintext_byte for_space letter

@@ -32,7 +32,8 @@ abbrev pub body_of : List ℕ → List ℕ
 body_of [] = []
 body_of (byte ∷ bytes) = if byte == 10 then bytes else body_of bytes
 
--- the byte that `byte` means; for a lost letter it is B, since B can't complete a damaged word `PART`
+-- The byte that is read in place of `byte`: a capital for a small letter, a space for a tab, B for a lost letter,
+-- otherwise `byte` itself. B can't complete a damaged word `PART`.
 abbrev pub filled_byte : ℕ → ℕ
 filled_byte byte = if is_lost byte then 66 else meant_byte byte
 
@@ -81,7 +82,8 @@ IsDamagedBodyAnswer s h body = do
   _ ← Demands (length (received_letters body) ≡ h.letters) CountWrong
   IsDamagedLettersAnswer s h.indicator (received_letters body)
 
--- The answer for a part. Its heading `h` was received as `line`, and its body is `body`.
+-- The answer for a part: its text, or the first reason why it can't be read. The part's heading `h` was received as
+-- `line`, and its body is `body`.
 abbrev pub IsHeadedPartAnswer : Day → Heading → List ℕ → List ℕ → AnswerRule PartDamage DamagedText
 IsHeadedPartAnswer s h line body = do
   _ ← Demands (All (λ byte. IsFalse (is_lost byte)) line) HeadingKeyLost
@@ -104,9 +106,9 @@ IsDamagedTextAnswer s part = IsDamagedLinesAnswer s (first_line part) (body_of p
 
 -- ---- What the text of a part is, for all completions.
 
--- `shown` has the text of `part`, without the lost letters. Some completion of `part` has a text. For each completion
--- that has a text, `shown` has the letters of this text at all places where no letter was lost. The group and the list
--- letters may be any letters.
+-- `shown` has the text of `part`, without the lost letters. A completion of `part` has some letter in place of each
+-- lost letter. At least one completion has a text. For each completion with a text, `shown` has the text's letters
+-- wherever no letter was lost. The group and the list letters aren't tested.
 pub record IsPartShown (s : Day) (part : List ℕ) (shown : DamagedText) : Type 0 where
   pub whole : List ℕ
   pub heading : Heading

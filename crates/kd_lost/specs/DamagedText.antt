@@ -38,15 +38,15 @@ pub data IsGroupTest (s : Day) (received : List (Option ℕ)) (test : GroupTest)
       → IsGroupTest s received test
   GroupLost : Any (λ got. got ≡ None) received → test ≡ tests.NotTested → IsGroupTest s received test
 
--- At some place, the letter is lost in both copies.
+-- At some place, the letter is lost in both copies of the list letters.
 abbrev pub IsLostInBoth : List (Option ℕ) → List (Option ℕ) → Type 0
 IsLostInBoth (one ∷ start) (other ∷ end) = ((one ≡ None) × (other ≡ None)) ⊎ IsLostInBoth start end
 IsLostInBoth [] end = ⊥
 IsLostInBoth (one ∷ start) [] = ⊥
 
--- `test` is the result of comparing list letters: the two received copies, `start` and `end`, are compared with the
--- day's list letters, `due`. The result is `Wrong` if a received letter differs from the day's. Otherwise, it is
--- `NotTested` if a letter is lost in both copies.
+-- `test` is the result of comparing the received list letters with the day's. `start` and `end` are the two received
+-- copies, and `due` are the day's list letters. The result is `Wrong` if a received letter differs from the day's
+-- letter. Otherwise, it is `NotTested` if a letter is lost in both copies.
 pub data IsListTest (due : List ℕ) (start end : List (Option ℕ)) (test : GroupTest) : Type 0 where
   ListWrong : ¬ (Completes start due × Completes end due) → test ≡ tests.Wrong → IsListTest due start end test
   ListLost : Completes start due → Completes end due → IsLostInBoth start end → test ≡ tests.NotTested
@@ -112,8 +112,9 @@ abbrev pub text_window : Day → TextKeys → List ℕ
 text_window s (text_keys.Rotor i) = deciphered_key s i
 text_window s (text_keys.Pin pin) = pin.internal.items
 
--- `shown` has the text of each completion of `received`, without the lost letters. It also has `received` itself, the
--- keys, and the warnings. With these keys, the machine gives the letters in `shown`, whatever the lost letters were.
+-- `shown` has the text of the body `received`, without the lost letters, whatever the lost letters were. It also has
+-- `received` itself, the keys, and the warnings. With these keys, the machine deciphers the body to the letters in
+-- `shown`.
 pub record IsTextShown (s : Day) (i : Option Indicator) (received : List (Option ℕ))
     (shown : DamagedText) : Type 0 where
   pub each : (whole text : List ℕ) → Completes received whole → IsLettersText s i whole text
@@ -139,8 +140,8 @@ IsDamagedLettersAnswer s None received = do
 
 -- ---- What the code holds. No public contract cites this definition.
 
--- The answer for `received`, the letters between the indicators, if the keys are `keys`: the letters of the text, and
--- the internal key.
+-- The answer for `received`, the letters between a Converter's indicators: the letters of the text, and the internal
+-- key. The indicators give the keys `keys`.
 abbrev pub IsKeyedTextAnswer : Day → PinKeys → List (Option ℕ) → AnswerRule PartDamage (ArrayVec (Option ℕ) × ArrayVec ℕ)
 IsKeyedTextAnswer s keys received = do
   _ ← Demands (IsWindow (sheet_key s) keys.external) KeyNotOnWheel

@@ -36,8 +36,8 @@ abbrev pub is_letter : Option ℕ → Bool
 is_letter None = false
 is_letter (Some byte) = is_capital (meant_byte byte)
 
--- Whether `bytes` begin with `PART`. At least two of its letters are right, at most one is wrong, and no fifth letter
--- follows.
+-- Whether `bytes` begin with the word `PART`, perhaps damaged. At least two of its letters are right, at most one is
+-- wrong, and the others are lost. No fifth letter follows.
 abbrev pub begins_with_part : List ℕ → Bool
 begins_with_part bytes =
     nat_le 2 (right_signs (codes "PART") bytes) && nat_le 3 (fitting_signs (codes "PART") bytes)
@@ -88,7 +88,8 @@ has_digit_line [] = false
 has_digit_line (byte ∷ bytes) =
     if byte == 10 then false else (nat_le 47 byte && nat_le byte 57) || has_digit_line bytes
 
--- whether the first line of `bytes` begins like `PART`; blanks may stand before it
+-- Whether the first line of `bytes` begins like `PART`, after any blanks. Some letters of this word may be lost, and
+-- one may be wrong. Or one letter is missing, or added before the T.
 abbrev pub is_part_line : List ℕ → Bool
 is_part_line bytes =
     begins_with_part (after_blanks bytes) || begins_with_three (after_blanks bytes)
@@ -105,11 +106,11 @@ abbrev pub begins_with_groups : List ℕ → Bool
 begins_with_groups bytes =
     leading_signs (after_blanks bytes) == 5 && leading_signs (after_blanks (drop 5 (after_blanks bytes))) == 5
 
--- whether the first line of `bytes` may belong to a part: it begins like `PART`, or with two groups
+-- whether the first line of `bytes` may belong to a part: it begins like `PART`, or with two groups of five letters
 unfoldable pub may_be_part : List ℕ → Bool
 may_be_part bytes = is_part_line bytes || begins_with_groups bytes
 
--- the end of `bytes` that begins with the blank or LF after their first word
+-- `bytes`, from the blank or LF after their first word on
 abbrev pub after_word : List ℕ → List ℕ
 after_word [] = []
 after_word (byte ∷ bytes) = if is_blank byte || byte == 10 then byte ∷ bytes else after_word bytes
@@ -144,7 +145,7 @@ abbrev pub is_heading_byte : ℕ → Bool
 is_heading_byte byte =
     is_capital byte || (nat_le 47 byte && nat_le byte 57) || (is_lost byte || byte == 32)
 
--- the sign that is meant, or `?` for one that may not stand in a heading
+-- the sign that the byte means; `?` if this sign may not stand in a heading
 abbrev pub heading_sign : ℕ → ℕ
 heading_sign byte = if is_heading_byte (meant_byte byte) then meant_byte byte else 63
 

@@ -24,15 +24,15 @@ letters_agree [] [] = true
 letters_agree [] (again ∷ other) = false
 letters_agree (letter ∷ one) [] = false
 
--- whether the letters are the same
+-- whether two lists of letters are equal
 abbrev pub same_letters : List ℕ → List ℕ → Bool
 same_letters [] [] = true
 same_letters (letter ∷ one) (again ∷ other) = letter == again && same_letters one other
 same_letters [] (again ∷ other) = false
 same_letters (letter ∷ one) [] = false
 
--- Whether the keys are the same: on a rotor machine, both keys in the heading; on the Converter M-209, the letters of
--- the indicators.
+-- Whether two texts have the same keys. On a rotor machine, these are the ground setting and the enciphered key; on the
+-- Converter M-209, the chosen letter and the external letters.
 abbrev pub same_keys : TextKeys → TextKeys → Bool
 same_keys (text_keys.Rotor one) (text_keys.Rotor other) =
     same_letters one.ground_setting other.ground_setting && same_letters one.enciphered_key other.enciphered_key
@@ -60,7 +60,7 @@ bodies_agree (letter ∷ one) [] = true
 abbrev pub ends_within : DamagedPart → DamagedPart → Bool
 ends_within one other = is_err other.text || nat_le one.came other.came
 
--- the signs of a heading after its count: on a rotor machine, the ground setting and the enciphered key
+-- the signs of a heading after its letter count: on a rotor machine, the ground setting and the enciphered key
 abbrev pub key_signs : List ℕ → List ℕ
 key_signs heading = later_words (later_words (later_words heading))
 
@@ -68,7 +68,7 @@ key_signs heading = later_words (later_words (later_words heading))
 abbrev pub sign_agrees : ℕ → ℕ → Bool
 sign_agrees sign again = sign == again || (is_lost sign || is_lost again)
 
--- whether the signs agree at each place, up to the end of the shorter list
+-- whether the signs of two lists agree at each place, up to the end of the shorter list
 abbrev pub signs_agree : List ℕ → List ℕ → Bool
 signs_agree (sign ∷ one) (again ∷ other) = sign_agrees sign again && signs_agree one other
 signs_agree [] other = true
@@ -78,11 +78,11 @@ signs_agree (sign ∷ one) [] = true
 abbrev pub keys_agree : DamagedPart → DamagedPart → Bool
 keys_agree one other = signs_agree (key_signs one.heading.bytes) (key_signs other.heading.bytes)
 
--- the signs of a heading's count
+-- the third word of a heading, its letter count
 abbrev pub count_signs : List ℕ → List ℕ
 count_signs heading = first_word (later_words (later_words heading))
 
--- whether both counts have equally many signs, and the signs agree
+-- whether two letter counts have equally many signs, and these signs agree at each place
 abbrev pub same_count : List ℕ → List ℕ → Bool
 same_count one other = length one == length other && signs_agree one other
 
@@ -124,7 +124,8 @@ abbrev pub numbers_agree : PartNumbers → PartNumbers → Bool → Bool
 numbers_agree one other agree =
     one.parts == other.parts && (not (one.part == other.part) || agree)
 
--- `numbers_agree`, if both headings give numbers; a damaged heading agrees with any heading
+-- Whether two headings can be of one message, by `numbers_agree`. A damaged heading can be of one message with any
+-- heading.
 abbrev pub headings_agree : Option PartNumbers → Option PartNumbers → Bool → Bool
 headings_agree (Some one) (Some other) agree = numbers_agree one other agree
 headings_agree (Some one) None agree = true
@@ -139,7 +140,7 @@ abbrev pub agrees_with_each : DamagedPart → List DamagedPart → Bool
 agrees_with_each part [] = true
 agrees_with_each part (other ∷ others) = parts_agree part other && agrees_with_each part others
 
--- whether the parts, taken two by two, can always be of one message
+-- whether any two of the parts can be of one message
 abbrev pub are_of_one_message : List DamagedPart → Bool
 are_of_one_message [] = true
 are_of_one_message (part ∷ parts) = agrees_with_each part parts && are_of_one_message parts

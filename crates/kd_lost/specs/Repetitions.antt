@@ -25,15 +25,15 @@ abbrev pub has_keys_of : DamagedText → DamagedText → Bool
 has_keys_of one other =
     same_keys one.keys other.keys && length one.received.items == length other.received.items
 
--- The letter at `place` of a text, if this text is a copy of `shown`. It is `None` if the letter is lost, or the text
--- isn't a copy. `same` says whether the two parts have the same number.
+-- The letter at `place` of the last argument, if this text is a copy of `shown`. `None` if the letter is lost, or the
+-- text isn't a copy. `same` says whether the two parts have the same number.
 abbrev pub letter_of_copy : Bool → DamagedText → ℕ → Option DamagedText → Option ℕ
 letter_of_copy same shown place None = None
 letter_of_copy same shown place (Some text) =
     if same && has_keys_of shown text then slice_index_or text.received.items place None else None
 
--- The letter at `place` of `other`. It is `None` if the letter is lost, or `other` isn't a copy of `read`, whose text
--- is `shown`.
+-- The letter at `place` of the part `other`, if `other` is a copy of the part `read` with the text `shown`. `None` if
+-- the letter is lost, or `other` isn't a copy.
 abbrev pub copied_letter : DamagedPart → DamagedText → ℕ → DamagedPart → Option ℕ
 copied_letter read shown place other =
     letter_of_copy (is_same_part read.numbers other.numbers) shown place (shown_text other)

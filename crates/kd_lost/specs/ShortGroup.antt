@@ -5,7 +5,8 @@ use Rattle.std.specs.Prelude.{◌≡◌, ◌≢◌, ℕ, ◌+◌, ◌<◌, ◌/�
 use Rattle.kd_lost.specs.Lost.{received_letter}
 use Rattle.kd_lost.specs.ShortLine.{letters_on}
 
--- A short group ends at `place`: letters follow, and the number of letters before it isn't a multiple of five.
+-- A short group ends at `place`. There is no letter at `place`, but letters follow. The number of letters before
+-- `place` isn't a multiple of five.
 pub record EndsShortGroup (body : List ℕ) (place : ℕ) : Type 0 where
   pub inside : place < length body
   pub ends : received_letter (slice_index body place) ≡ None

@@ -10,7 +10,7 @@ use Rattle.kd_lost.specs.Lost.{received_letters}
 abbrev pub letters_on : List ℕ → ℕ
 letters_on bytes = length (received_letters bytes)
 
--- whether a line with this many letters has letters, but not 50
+-- whether a line of `letters` letters is short: `letters` is neither 0 nor 50
 abbrev pub is_short : ℕ → Bool
 is_short letters = not (letters == 0) && not (letters == 50)
 

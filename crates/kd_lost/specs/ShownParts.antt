@@ -20,7 +20,7 @@ abbrev pub total_of : List DamagedPart → ℕ
 total_of [] = 0
 total_of (part ∷ parts) = parts_or (total_of parts) part.numbers
 
--- the numbers `others`, after the part number that a heading gives; only `others` if the heading is damaged
+-- the part number that a heading gives, followed by the numbers `others`; only `others` if the heading is damaged
 abbrev pub number_before : Option PartNumbers → List ℕ → List ℕ
 number_before (Some numbers) others = numbers.part ∷ others
 number_before None others = others
@@ -35,45 +35,46 @@ abbrev pub are_in_order : ℕ → List ℕ → Bool
 are_in_order before [] = true
 are_in_order before (number ∷ numbers) = nat_le before number && are_in_order number numbers
 
--- whether the heading gives this number
+-- whether a heading gives `number` as the number of its part
 abbrev pub is_number : ℕ → Option PartNumbers → Bool
 is_number number (Some numbers) = numbers.part == number
 is_number number None = false
 
--- how often the part with this number came
+-- how many of the received parts have the number `number`
 abbrev pub times_of : List DamagedPart → ℕ → ℕ
 times_of parts number = count_by (λ part. is_number number part.numbers) parts
 
 -- ---- Repetitions.
 
--- Whether the second text tells more than the first text. It does in these cases:
+-- Whether the second text is better than the first text. It is better in these cases:
 -- - There is a second text, but no first text.
 -- - The second text has fewer lost letters.
--- - Both have equally many lost letters, and only the second text has a right count (`counted`).
+-- - Both have equally many lost letters, and only the second text was read with the heading's count (`counted`).
 abbrev pub is_text_worse : Bool → Option DamagedText → Option DamagedText → Bool
 is_text_worse counted (Some one) (Some other) =
     nat_lt (lost_in other) (lost_in one) || (counted && lost_in other == lost_in one)
 is_text_worse counted None (Some other) = true
 is_text_worse counted one None = false
 
--- whether the text of the second part tells more than the text of the first part
+-- Whether the text of the second part is better than the text of the first part, or is the only text. A text is better
+-- if it has fewer lost letters. With equally many, a text read with the heading's count is better than a text by count.
 abbrev pub is_worse : DamagedPart → DamagedPart → Bool
 is_worse one other = is_text_worse (is_err one.text && is_ok other.text) (shown_text one) (shown_text other)
 
--- `later`, if its text tells more than the text of `part`; otherwise `part`
+-- `later`, if it has a better text than `part`, such as one with fewer lost letters; otherwise `part`
 abbrev pub better : DamagedPart → Option DamagedPart → Option DamagedPart
 better part None = Some part
 better part (Some later) =
     if is_worse part later then Some later else Some part
 
--- The part that is shown under this number: the part whose text tells most. If the texts of several parts tell most, it
--- is the first of these parts.
+-- The part that is shown under `number`: of the parts with this number, the first with the best text. A text is better
+-- if it has fewer lost letters. With equally many, a text read with the heading's count is better than a text by count.
 abbrev pub shown_under : List DamagedPart → ℕ → Option DamagedPart
 shown_under [] number = None
 shown_under (part ∷ parts) number =
     if is_number number part.numbers then better part (shown_under parts number) else shown_under parts number
 
--- the text of the part, if there is one
+-- the text that is shown of a part; `None` if there is no part, or the part has no text
 abbrev pub text_in : Option DamagedPart → Option DamagedText
 text_in None = None
 text_in (Some part) = shown_text part
@@ -91,8 +92,8 @@ abbrev pub are_covered : List DamagedPart → List DamagedPart → Bool
 are_covered all [] = true
 are_covered all (part ∷ parts) = is_covered all part && are_covered all parts
 
--- Whether the parts are shown as one message. Any two of them can always be of one message, and no received letter is
--- left out.
+-- Whether the parts are shown as one message. Any two of them can be of one message, and no received letter is left
+-- out.
 abbrev pub is_one_message : List DamagedPart → Bool
 is_one_message parts = are_of_one_message parts && are_covered parts parts
 

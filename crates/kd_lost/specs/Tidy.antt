@@ -1,7 +1,7 @@
 -- A form without noise: bytes that no operator sent, left by copying the form or typing around it. A byte order mark is
--- dropped. The lines before the first heading are dropped, too, unless one may belong to a part. Such a line begins like
--- `PART`, or with two groups. In a heading, blanks around its words are dropped, and all but one between two words.
--- Bodies may have any spaces and line ends.
+-- dropped, and so are the lines before the first heading. But these lines stay if one of them begins like `PART`, or
+-- with two groups: it may belong to a part. In a heading, one blank stays between two words, and all other blanks are
+-- dropped. Bodies may have any spaces and line ends.
 -- Test: tests/cases/curator-messages.toml
 use Rattle.std.specs.Prelude.{ℕ, ◌==◌, ◌&&◌, ◌||◌, Bool, true, if◌then◌else◌, List, [], ◌∷◌, ◌++◌, take, drop}
 use Rattle.std.specs.Prelude.{Option, None, Some, unwrap_or}
@@ -15,8 +15,8 @@ use Rattle.kd_lost.specs.DamagedPart.{first_line}
 abbrev pub without_mark : List ℕ → List ℕ
 without_mark form = if bytes_eq (take 3 form) (239 ∷ 187 ∷ 191 ∷ []) then drop 3 form else form
 
--- The bytes from the first heading after the first line on. `None` if there is no such heading, or if a line before it
--- may belong to a part.
+-- The bytes from a heading on: the first heading after the first line. `None` if there is no such heading. `None`, too,
+-- if a line between the first line and this heading may belong to a part.
 abbrev pub later_heading : List ℕ → Option (List ℕ)
 later_heading [] = None
 later_heading (byte ∷ bytes) =
@@ -27,7 +27,8 @@ later_heading (byte ∷ bytes) =
 abbrev pub from_heading : List ℕ → List ℕ
 from_heading bytes = if may_be_part bytes then bytes else unwrap_or (later_heading bytes) bytes
 
--- the form, without a byte order mark, and without the lines before its first heading
+-- the form, without a byte order mark and without the lines before its first heading; these lines stay if one of them
+-- may belong to a part
 abbrev pub tidied : List ℕ → List ℕ
 tidied form = from_heading (without_mark form)
 
@@ -42,12 +43,12 @@ abbrev pub ends_word : List ℕ → Bool
 ends_word [] = true
 ends_word (byte ∷ line) = is_gap byte
 
--- the byte, with a space in place of a gap
+-- a space if the byte is a gap; otherwise the byte itself
 abbrev pub as_space : ℕ → ℕ
 as_space byte = if is_gap byte then 32 else byte
 
--- The bytes that stay of `byte` before `line`. A gap before another gap, or at the end, is dropped. Any other gap
--- becomes a space, and any other byte stays.
+-- The bytes that are written for `byte`, if `line` follows it. They are none for a gap before another gap or at the
+-- end, and a space for any other gap. Any other byte stays.
 abbrev pub spaced_byte : ℕ → List ℕ → List ℕ
 spaced_byte byte line = if is_gap byte && ends_word line then [] else as_space byte ∷ []
 

@@ -32,8 +32,8 @@ abbrev pub IsLettersText : Day → Option Indicator → List ℕ → List ℕ �
 IsLettersText s (Some i) letters text = text ≡ cipher_from s (deciphered_key s i) (drop 5 letters)
 IsLettersText s None letters text = IsPinText s letters text
 
--- `part` has the heading `h` and the text `text`, whatever its group or list letters are. `receive` makes these tests
--- and two more: of the group or the list letters, and of the numbers in the heading.
+-- `part` has the heading `h` and the text `text`, whatever its group or list letters are. `receive` also tests the
+-- group or the list letters, and the numbers in the heading.
 pub record IsPartText (s : Day) (part : List ℕ) (h : Heading) (text : List ℕ) : Type 0 where
   pub body : List ℕ
   pub has : HasHeading s part h body

@@ -14,7 +14,9 @@ use itoa::Buffer;
 use kd_state::SheetDay;
 use std::alloc::Global;
 
-/// The short line of `part`, if the heading's count is right once this line has 50 letters; otherwise `None`.
+/// The short line of `part`, if the heading's count would be right with 50 letters on this line.
+///
+/// Otherwise `None`.
 pub fn part_line(part: &DamagedPart) -> Option<ShortLine>
     ensures { result ≡ part_line part.now }
 {
@@ -30,7 +32,9 @@ fn telling_line(counted: usize, came: usize, short: &Option<ShortLine>) -> Optio
     }
 }
 
-/// Whether the heading's count `counted` would be right if line `short` had all of its 50 letters; `came` letters came.
+/// Whether line `short` explains a wrong count.
+///
+/// It does if the body, with 50 letters on this line, would have `counted` letters instead of `came`.
 fn explains(counted: usize, came: usize, short: ShortLine) -> bool
     ensures { result ≡ explains counted came short }
 {
@@ -58,7 +62,7 @@ pub(crate) fn is_count_doubted(part: &DamagedPart) -> bool
     }
 }
 
-/// Reads the numbers in the heading, and the text of `part`, with `count` as the heading's count.
+/// Reads the numbers in the heading of `part`, and the text, with `count` in place of the heading's count.
 pub(crate) fn find_by_count(
     alloc: Global,
     day: &SheetDay,
@@ -79,8 +83,10 @@ pub(crate) fn find_by_count(
     }
 }
 
-/// The numbers of a part. If the heading as it came is valid, its numbers. If the heading is damaged, and a text was
-/// found by count, the numbers that were found with this text.
+/// The numbers of a part, which may have been read by count.
+///
+/// They are `given` if the received heading is valid. If it is damaged, but a text was found by count, they are
+/// `counted`, read together with this text. Otherwise there are none.
 pub(crate) fn numbers_by_count(
     given: Option<PartNumbers>,
     counted: Option<PartNumbers>,
@@ -95,7 +101,7 @@ pub(crate) fn numbers_by_count(
     }
 }
 
-/// `part` with `count` in place of the third word of its heading.
+/// `part`, with `count` in place of the third word of its heading, the letter count.
 fn counted_part(alloc: Global, part: &[u8], count: usize) -> Result<Vec<u8>, DamagedFormFault>
     ensures { MatchResult result
         (λ bytes. bytes.items ≡ counted_part count part.now)
@@ -159,7 +165,7 @@ pub(crate) fn later_words(line: &[u8]) -> &[u8]
     without_first(rest)
 }
 
-/// `bytes` without the first.
+/// `bytes` without the first byte.
 fn without_first(bytes: &[u8]) -> &[u8]
     ensures { result.now ≡ drop 1 bytes.now }
 {

@@ -102,7 +102,7 @@ fn has_other(copies: &[Option<Letter>], letter: Letter) -> bool
     false
 }
 
-/// Whether `got` is `letter`, or lost.
+/// Whether the received letter `got` is lost, or equals `letter`.
 pub(crate) fn is_letter_for(got: &Option<Letter>, letter: Letter) -> bool
     ensures { IsTrue result ↔ IsLetterFor got.now letter }
 {

@@ -38,15 +38,15 @@ pub struct PinTextKeys {
     pub internal: ArrayVec<Letter, 6>,
 }
 
-/// Whether the letters that tell a receiver the day are the day's letters.
+/// Whether the group or, on the Converter M-209, the list letters of a part are the day's.
 #[derive(Clone, Copy, Debug, PartialEq, Eq)]
 pub enum GroupTest {
-    /// These letters are the day's letters.
+    /// The group or the list letters of the part are the day's.
     Right,
-    /// These letters aren't the day's letters. The part was made with another day's settings, or the letters were
-    /// changed on the air.
+    /// The group or the list letters of the part aren't the day's. The part was made with another day's settings, or
+    /// its letters were changed on the air.
     Wrong,
-    /// These letters weren't compared: a letter of the group, or a list letter in both copies, is lost.
+    /// A letter of the group is lost or, on the Converter M-209, a list letter in both copies. So the day isn't tested.
     NotTested,
 }
 

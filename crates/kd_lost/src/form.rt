@@ -34,10 +34,10 @@ pub enum DamagedFormFault {
 
 /// Reads each part of `form`. A letter that is lost in one copy of a part is taken from another copy.
 ///
-/// A part begins at each line that is taken for a heading. Such a line begins like `PART`, and has a digit, a slash or
-/// a lost sign in place of its number. Lines before the first heading are passed over, unless one of these lines may
-/// belong to a part: it begins like `PART`, or with two groups of five letters. If `receive` reads a form, it cuts the
-/// form into the same parts as this function.
+/// A part begins at each line that is taken for a heading. Such a line begins like `PART`. It also has a digit or a
+/// slash, or a lost sign in place of the part's number. Lines before the first heading are passed over. But they stay
+/// if one of them begins like `PART`, or with two groups of five letters: it may belong to a part. If `receive` reads a
+/// form, it cuts the form into the same parts as this function.
 pub fn read_damaged_form(
     alloc: Global,
     day: &SheetDay,
@@ -227,7 +227,9 @@ pub(crate) fn split_part(form: &[u8]) -> (&[u8], Option<&[u8]>)
     (form, None)
 }
 
-/// Whether `byte` ends a part if `rest` follows it.
+/// Whether a part ends with `byte`: an LF before a line that is taken for a heading.
+///
+/// `rest` has the bytes after `byte`.
 pub(crate) fn ends_part(byte: u8, rest: &[u8]) -> bool
     ensures { result ≡ ends_part byte rest.now }
 {

@@ -56,7 +56,7 @@ fn begins_lost(bytes: &[u8]) -> bool
     }
 }
 
-/// The end of `bytes` that begins with the blank or LF after their first word.
+/// `bytes`, from the blank or LF after their first word on.
 fn after_word(bytes: &[u8]) -> &[u8]
     ensures { result.now ≡ after_word bytes.now }
 {
@@ -69,7 +69,9 @@ fn after_word(bytes: &[u8]) -> &[u8]
     left
 }
 
-/// Whether the first line of `bytes` begins like `PART`; blanks may stand before it.
+/// Whether the first line of `bytes` begins like `PART`, after any blanks.
+///
+/// Some letters of this word may be lost, and one may be wrong. Or one letter is missing, or added before the T.
 pub(crate) fn is_part_line(bytes: &[u8]) -> bool
     ensures { result ≡ is_part_line bytes.now }
 {
@@ -81,7 +83,9 @@ pub(crate) fn is_part_line(bytes: &[u8]) -> bool
         || begins_with_blank(line)
 }
 
-/// Whether the first line of `bytes` may belong to a part: it begins like `PART`, or with two groups.
+/// Whether the first line of `bytes` may belong to a part.
+///
+/// Such a line begins like `PART`, or with two groups of five letters.
 #[tactic(auto, unfolding(crate::specs::HeadingLine::may_be_part))]
 pub(crate) fn may_be_part(bytes: &[u8]) -> bool
     ensures { result ≡ may_be_part bytes.now }
@@ -275,7 +279,7 @@ fn has_digit_line(bytes: &[u8]) -> bool
     false
 }
 
-/// How many signs of a heading line are kept.
+/// The greatest number of signs of a heading line that `heading_signs` returns.
 const MOST_SIGNS: usize = 64;
 
 /// The first signs of a heading line as it came, at most 64. `?` stands for each sign that may not be in a heading.
@@ -290,7 +294,7 @@ pub(crate) fn heading_signs(line: &[u8]) -> ArrayString<64>
     signs
 }
 
-/// The sign that is meant, or `?` for one that may not stand in a heading.
+/// The sign that `byte` means; `?` if this sign may not stand in a heading.
 fn heading_sign(byte: u8) -> u8
     ensures sign { result ≡ heading_sign byte }
     ensures ascii { result < 128 }

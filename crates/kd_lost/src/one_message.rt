@@ -14,7 +14,7 @@ use crate::received::is_lost;
 use crate::texts::{is_of_other_day, shown_text};
 use kd_tables::Letter;
 
-/// Whether the parts, taken two by two, can always be of one message.
+/// Whether any two of the parts can be of one message.
 pub fn are_of_one_message(parts: &[DamagedPart]) -> bool
     ensures { result ≡ are_of_one_message parts.now }
 {
@@ -90,7 +90,7 @@ fn has_count_of(one: &DamagedPart, other: &DamagedPart) -> bool
     one.len() == other.len() && signs_agree(one, other)
 }
 
-/// The signs of a heading's count.
+/// The third word of `heading`, its letter count.
 fn count_signs(heading: &[u8]) -> &[u8]
     ensures { result.now ≡ count_signs heading.now }
 {
@@ -105,14 +105,14 @@ fn keys_agree(one: &DamagedPart, other: &DamagedPart) -> bool
     signs_agree(one, key_signs(other.heading.as_str().as_bytes()))
 }
 
-/// The signs of a heading after its count: on a rotor machine, the ground setting and the enciphered key.
+/// The signs of `heading` after its letter count: on a rotor machine, the ground setting and the enciphered key.
 fn key_signs(heading: &[u8]) -> &[u8]
     ensures { result.now ≡ key_signs heading.now }
 {
     later_words(later_words(later_words(heading)))
 }
 
-/// Whether the signs agree at each place, up to the end of the shorter slice.
+/// Whether the signs of `one` and `other` agree at each place, up to the end of the shorter slice.
 fn signs_agree(one: &[u8], other: &[u8]) -> bool
     ensures { result ≡ signs_agree one.now other.now }
 {
@@ -217,7 +217,7 @@ pub(crate) fn same_keys(one: &TextKeys, other: &TextKeys) -> bool
     }
 }
 
-/// Whether the letters are the same.
+/// Whether `one` and `other` have the same letters in the same order.
 fn same_letters(one: &[Letter], other: &[Letter]) -> bool
     ensures { result ≡ same_letters one.now other.now }
 {

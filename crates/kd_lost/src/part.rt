@@ -40,7 +40,7 @@ pub struct DamagedPart {
     /// The first signs of the heading line as it came, at most 64. `?` stands for each sign that may not be in a
     /// heading.
     pub heading: ArrayString<64>,
-    /// How many letters of the body came, lost ones included.
+    /// How many letters the received body has, lost ones included.
     pub came: usize,
     /// The first letters of the body, at most 525. A sign that may not be in a body counts as a lost letter.
     pub body: ArrayVec<Option<Letter>, 525>,
@@ -51,8 +51,8 @@ pub struct DamagedPart {
     pub text: Result<DamagedText, PartDamage>,
     /// The first wrong sign of the body, if it has one.
     pub wrong_sign: Option<WrongSign>,
-    /// The text by count, if the heading's count may be wrong. To read this text, the number of letters that came is
-    /// used as the count.
+    /// The text by count, if the heading's count may be wrong. It is read with the number of received letters in place
+    /// of the heading's count.
     pub by_count: Option<DamagedText>,
     /// The first line of the body that has letters, but not 50, though letters follow it. `None` if there is none.
     pub short_line: Option<ShortLine>,

@@ -98,8 +98,9 @@ fn known_letter(
     }
 }
 
-/// The letter at `place` of `other`. It is `None` if the letter is lost, or `other` isn't a copy of `read`, whose text
-/// is `shown`.
+/// The letter at `place` of `other`, if `other` is a copy of the part `read` with the text `shown`.
+///
+/// `None` if the letter is lost, or `other` isn't a copy.
 fn copied_letter(
     read: &DamagedPart,
     shown: &DamagedText,

@@ -40,15 +40,16 @@ pub(crate) fn first_short_line(body: &[u8]) -> Option<ShortLine>
     None
 }
 
-/// Whether a line with this many letters has letters, but not 50, and letters follow it. `rest` has the bytes after the
-/// line.
+/// Whether a line of `letters` letters is short (neither 0 nor 50), and letters follow it in `rest`.
+///
+/// `rest` has the bytes after the line.
 fn is_short_before(letters: usize, rest: &[u8]) -> bool
     ensures { result ≡ (is_short letters && nat_lt 0 (letters_on rest.now)) }
 {
     is_short(letters) && letters_on(rest) > 0
 }
 
-/// Whether a line with this many letters has letters, but not 50.
+/// Whether a line of `letters` letters is short: `letters` is neither 0 nor 50.
 fn is_short(letters: usize) -> bool
     ensures { result ≡ is_short letters }
 {

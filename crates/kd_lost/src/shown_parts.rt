@@ -38,7 +38,7 @@ pub fn are_in_order(before: u8, parts: &[DamagedPart]) -> bool
     }
 }
 
-/// Whether the heading gives this number.
+/// Whether a heading gives `number` as the number of its part.
 fn is_number(number: u16, numbers: &Option<PartNumbers>) -> bool
     ensures { result ≡ is_number number numbers.now }
 {
@@ -48,7 +48,7 @@ fn is_number(number: u16, numbers: &Option<PartNumbers>) -> bool
     }
 }
 
-/// How often the part with this number came.
+/// How many of the received parts have the number `number`.
 pub fn times_of(parts: &[DamagedPart], number: u16) -> usize
     ensures { result ≡ times_of parts.now number }
 {
@@ -58,8 +58,10 @@ pub fn times_of(parts: &[DamagedPart], number: u16) -> usize
         .count()
 }
 
-/// The part that is shown under this number: the part whose text tells most. If the texts of several parts tell most,
-/// it is the first of these parts.
+/// The part that is shown under `number`: of the parts with this number, the first with the best text.
+///
+/// A text is better if it has fewer lost letters. With equally many, a text read with the heading's count is better
+/// than a text by count.
 pub fn shown_under(parts: &[DamagedPart], number: u16) -> Option<&DamagedPart>
     ensures { MatchOption result
         (shown_under parts.now number ≡ None)
@@ -78,10 +80,10 @@ pub fn shown_under(parts: &[DamagedPart], number: u16) -> Option<&DamagedPart>
     }
 }
 
-/// Whether the text of `other` tells more than the text of `one`. It does in these cases:
+/// Whether the text of `other` is better than the text of `one`. It is better in these cases:
 /// - `other` has a text, but `one` has none.
 /// - `other` has fewer lost letters.
-/// - Both have equally many lost letters, and only `other` has a right count.
+/// - Both have equally many lost letters, and only `other` was read with the heading's count.
 fn is_worse(one: &DamagedPart, other: &DamagedPart) -> bool
     ensures { result ≡ is_worse one.now other.now }
 {
@@ -95,8 +97,9 @@ fn is_worse(one: &DamagedPart, other: &DamagedPart) -> bool
     }
 }
 
-/// Whether the parts are shown as one message. Taken two by two, they can always be of one message, and no received
-/// letter is left out.
+/// Whether the parts are shown as one message.
+///
+/// Any two of them can be of one message, and no received letter is left out.
 pub fn is_one_message(parts: &[DamagedPart]) -> bool
     ensures { result ≡ is_one_message parts.now }
 {

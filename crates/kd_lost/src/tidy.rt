@@ -39,8 +39,10 @@ fn without_mark(form: &[u8]) -> &[u8]
     }
 }
 
-/// The bytes from the first heading after the first line on. `None` if there is no such heading, or if a line before it
-/// may belong to a part: a part with a damaged heading mustn't be dropped in silence.
+/// The bytes from a heading on: the first heading after the first line. `None` if there is no such heading.
+///
+/// `None`, too, if a line between the first line and this heading may belong to a part. A part with a damaged heading
+/// mustn't be dropped in silence.
 fn later_heading(bytes: &[u8]) -> Option<&[u8]>
     ensures { MatchOption result
         (later_heading bytes.now ≡ None)
@@ -104,8 +106,9 @@ fn push_single_spaced(bytes: &mut Vec<u8>, line: &[u8]) -> Result<(), DamagedFor
     Ok(())
 }
 
-/// Appends the bytes that stay of `byte` before `rest`. A gap before another gap, or at the end, is dropped. Any other
-/// gap becomes a space, and any other byte stays.
+/// Appends the bytes that are written for `byte`, if `rest` follows it.
+///
+/// They are none for a gap before another gap or at the end, and a space for any other gap. Any other byte stays.
 fn push_spaced(bytes: &mut Vec<u8>, byte: u8, rest: &[u8]) -> Result<(), DamagedFormFault>
     ensures { MatchResult result
         (λ _. bytes.new.items ≡ bytes.old.items ++ spaced_byte byte rest.now)
@@ -120,7 +123,7 @@ fn push_spaced(bytes: &mut Vec<u8>, byte: u8, rest: &[u8]) -> Result<(), Damaged
     Ok(())
 }
 
-/// `byte`, with a space in place of a gap.
+/// A space if `byte` is a gap; otherwise `byte` itself.
 fn as_space(byte: u8) -> u8
     ensures { result ≡ as_space byte }
 {

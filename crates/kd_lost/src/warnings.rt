@@ -102,7 +102,7 @@ fn completes(received: &[Option<Letter>], letters: &[Letter]) -> bool
     received.is_empty() && letters.is_empty()
 }
 
-/// Whether, at some place, the letter is lost in both copies.
+/// Whether, at some place, the letter is lost in both copies of the list letters.
 fn is_lost_in_both(start: &[Option<Letter>], end: &[Option<Letter>]) -> bool
     ensures { IsTrue result ↔ IsLostInBoth start.now end.now }
 {

@@ -51,7 +51,7 @@ fn place_at(body: &[u8], index: usize) -> usize
     letter_count(before) + 1
 }
 
-/// The line of the byte after `byte`, which stands on line `line`.
+/// The number of the line on which the next byte stands, if `byte` stands on line `line`.
 fn line_after(line: usize, byte: u8) -> usize
     requires { line < 2 ^ 63 + 2 }
     ensures { result ≡ (if byte == 10 then line + 1 else line) }
@@ -59,8 +59,9 @@ fn line_after(line: usize, byte: u8) -> usize
     if byte == b'\n' { line + 1 } else { line }
 }
 
-/// The number, on its line, of the next letter after `byte`. A letter in place of `byte` would have the number
-/// `letter`.
+/// The number that the next letter after `byte` has on its line, counted from 1.
+///
+/// A letter in place of `byte` would have the number `letter`.
 fn letter_after(letter: usize, byte: u8) -> usize
     requires { letter < 2 ^ 63 + 2 }
     ensures { result ≡ (if byte == 10 then 1

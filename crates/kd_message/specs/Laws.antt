@@ -26,8 +26,8 @@ use Rattle.kd_lost.specs.ShownParts.{IsWhole, is_number, shown_under, times_of, 
 use Rattle.kd_lost.specs.Texts.{lost_in, shown_text}
 use Rattle.kd_message.specs.TextSheet.{came_text, read_text, text_begin, text_part_head}
 
--- The lamps of a row show the ciphertext of the letters that are pressed in this row. The machine starts at the windows
--- to which the keys of the earlier rows lead.
+-- The lamps of a row show the ciphertext of the letters that are pressed in this row. At the start of the row, the
+-- windows show the letters to which the earlier rows lead.
 abbrev pub RowsAreEnciphered : Type 0
 RowsAreEnciphered =
     (s : Day) (start before row : List ℕ)
@@ -40,13 +40,13 @@ letter_of signs.Nothing = None
 letter_of signs.Lost = None
 letter_of (signs.Letter letter) = Some letter
 
--- the cells of a body with the letters that are pressed
+-- the cells of a body whose letters are pressed; the other cells are skipped
 abbrev pub pressed_of : List Cell → List Cell
 pressed_of cells = filter (λ cell. cell.is_pressed) cells
 
 -- The rows of a part that is read can be deciphered, whatever keys are pressed for the lost letters. The operator sets
--- the windows that the sheet shows, and presses `keys`. Then the machine gives the letters below the line. Below a lost
--- letter stands `?`, and for a space nothing.
+-- the windows that the sheet shows, and presses `keys`. Then the machine gives the letters that the sheet shows below
+-- the received letters. The sheet shows `?` below a lost letter, and nothing for a space.
 abbrev pub RowsAreDeciphered : Type 0
 RowsAreDeciphered =
     (s : Day) (part : List ℕ) (shown : DamagedText) (keys : List ℕ) → IsDamagedTextAnswer s part (Ok shown)
@@ -134,8 +134,8 @@ abbrev pub IsClear : List ℕ → Type 0
 IsClear part = All (λ byte. IsFalse (is_lost byte) × (meant_byte byte ≡ byte)) part
 
 -- Let a form be one whole message, with no lost letter, no small letter, no tab, and no heading with needless blanks.
--- Then there are parts of the form, one for each number and in the order of the numbers, that `desk receive` reads as a
--- form. `desk receive` gives the text that the page shows.
+-- Then `desk receive` reads some of its parts: one for each number, in the order of the numbers. `desk receive` gives
+-- the text that the page shows.
 abbrev pub WholeMessagesAreRead : Type 0
 WholeMessagesAreRead =
     (s : Day) (form : List ℕ) (parts : List DamagedPart) → AreFormParts s form parts

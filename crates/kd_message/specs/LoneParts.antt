@@ -19,7 +19,7 @@ abbrev pub lone_words : Language → ℕ → List ℕ
 lone_words l after =
     if after == 0 then text_in l texts.LONE_FIRST else filled (text_in l texts.LONE_AFTER) (decimal after ∷ [])
 
--- the line for the part in the list of the sheets
+-- the line for a part without a number, in the list of the sheets
 unfoldable pub listed_lone : Language → ℕ → List ℕ
 listed_lone l after = texts.LISTED_LONE.now ++ lone_words l after ++ text_in l texts.LISTED_LONE_END
 
@@ -47,12 +47,12 @@ damaged_heading l model part =
     heading_fault l part.line (text_in l texts.HEADING_DAMAGED) ++ text_in l texts.HEADING_CAME ++ part.heading.bytes
     ++ text_in l texts.HEADING_LIKE ++ heading_example model ++ text_in l texts.HEADING_LIKE_END
 
--- the reason why the part isn't read: it is an order, or its heading is damaged
+-- the reason why a part without a number isn't read: it is an order, or its heading is damaged
 abbrev pub lone_reason : Language → Model → DamagedPart → List ℕ
 lone_reason l model part =
     if part.is_order then text_in l texts.IS_ORDER else damaged_heading l model part
 
--- the part's section on the sheet with the text
+-- the section on a part without a number, on the sheet with the text
 unfoldable pub lone_text : Language → Day → ℕ → DamagedPart → List ℕ
 lone_text l s after part =
     texts.LONE_HEAD.now ++ lone_words l after

@@ -69,7 +69,7 @@ counted_or_damage l s name part damage (Some shown) =
     counted_text l (sheet_to_receive (day_model s)) s name part damage shown
 counted_or_damage l s name part damage None = damage_text l (sheet_to_receive (day_model s)) name part damage
 
--- the text of a part; if there is none, the reason why the part isn't read
+-- the text of a part; if there is none, its text by count, or the reason why the part isn't read
 abbrev pub text_or_damage : Language → Day → PartName → DamagedPart → Result DamagedText PartDamage → List ℕ
 text_or_damage l s name part (Ok shown) = read_text l (sheet_to_receive (day_model s)) s name shown
 text_or_damage l s name part (Err damage) = counted_or_damage l s name part damage part.by_count
@@ -103,8 +103,8 @@ abbrev pub number_or : ℕ → Option PartNumbers → ℕ
 number_or before (Some numbers) = numbers.part
 number_or before None = before
 
--- The words in `section` for those unnumbered parts among `parts` that come after number `after`, and before the next
--- numbered part. `before` is the last number before `parts`.
+-- The words in `section` for each unnumbered part among `parts` if the last part number before it is `after`. `before`
+-- is the last part number before `parts`.
 abbrev pub lone_after : Section → Language → Day → ℕ → ℕ → List DamagedPart → List ℕ
 lone_after section l s after before [] = []
 lone_after section l s after before (part ∷ parts) =
@@ -122,7 +122,8 @@ number_in section l s parts number =
     shown_in section l s (part_name s number (total_of parts)) (times_of parts number) (shown_under parts number)
     ++ lone_after section l s number 0 parts
 
--- the words in `section` for the unnumbered parts at the beginning, then for the part with each number
+-- the words in `section` for the unnumbered parts at the beginning, then for each number: its part, and the unnumbered
+-- parts after this part
 abbrev pub by_number : Section → Language → Day → List DamagedPart → List ℕ
 by_number section l s parts =
     lone_after section l s 0 0 parts ++ flat_map (number_in section l s parts) (range_with_len 1 (total_of parts))
@@ -133,13 +134,14 @@ abbrev pub name_at : Day → ℕ → PartNumbers → PartName
 name_at s place numbers =
     record { model = day_model s; day = day_number s; sheet = place; part = numbers.part; parts = numbers.parts }
 
--- The words in `section` for the part at `place`. `before` is the last part number before this part.
+-- The words in `section` for the part that has the place `place` in the order of arrival. `before` is the last part
+-- number before this part.
 abbrev pub part_at : Section → Language → Day → ℕ → ℕ → Option PartNumbers → DamagedPart → List ℕ
 part_at section l s place before (Some numbers) part = part_in section l s (name_at s place numbers) 1 part
 part_at section l s place before None part = lone_in section l s before part
 
--- The words in `section` for the parts `parts`, the first of which is at `place`. `before` is the last part number
--- before them.
+-- The words in `section` for the parts `parts`, in the order of arrival. The first of them is at `place` of the form,
+-- and `before` is the last part number before them.
 abbrev pub as_they_came : Section → Language → Day → ℕ → ℕ → List DamagedPart → List ℕ
 as_they_came section l s place before [] = []
 as_they_came section l s place before (part ∷ parts) =
@@ -183,9 +185,10 @@ abbrev pub is_device_fault : Result Bool ReceivePageFault → Bool
 is_device_fault (Err faults.Device) = true
 is_device_fault _ = false
 
--- `ReceivedPageWritten`: the page of the form's parts was written or, if the sink failed, only a prefix of the page. If
--- the sink didn't fail, the answer says whether the parts are one whole message.
--- `FormNotRead`: nothing was written.
+-- What `write_receive_page` answers:
+-- - `ReceivedPageWritten`: the page was written, and the answer says whether the parts are one whole message. Or the
+--   sink failed, and only a prefix of the page was written.
+-- - `FormNotRead`: nothing was written, since the form has too many parts, or memory is short.
 pub data IsReceivePageAnswer (l : Language) (s : Day) (form : List ℕ) (sink : Port)
     (answer : Result Bool ReceivePageFault) : Type 0 where
   ReceivedPageWritten : (parts : List DamagedPart) → AreFormParts s form parts
@@ -196,7 +199,8 @@ pub data IsReceivePageAnswer (l : Language) (s : Day) (form : List ℕ) (sink : 
   FormNotRead : (fault : DamagedFormFault) → IsFormFault (damaged_parts_of form) fault
       → answer ≡ Err (page_fault fault) → IsUntouched sink → IsReceivePageAnswer l s form sink answer
 
--- `Told` holds of the notes for standard error. If the form has too many parts, or memory is short, there may be none.
+-- The notes for standard error satisfy `Told`. If the form has too many parts, or memory is short, there may be no
+-- notes.
 pub data IsFormNoted (l : Language) (s : Day) (form : List ℕ) (Told : List ℕ → Type 0)
     (answer : Result Bool ReceivePageFault) : Type 0 where
   Noted : (parts : List DamagedPart) → AreFormParts s form parts → Told (receive_notes l s parts)
@@ -205,10 +209,10 @@ pub data IsFormNoted (l : Language) (s : Day) (form : List ℕ) (Told : List ℕ
 
 -- ---- What the code holds. No public contract cites these definitions.
 
--- The machine can show the letters of the keys of the part's text, also if the part is read by count.
+-- If the part has a text, even if only by count, the machine can show the letters of this text's keys.
 abbrev pub HasShowableKeys : Day → DamagedPart → Type 0
 HasShowableKeys s part = IfSome (shown_text part) (λ shown. AreShowable s shown.keys)
 
--- For each part with a text, the machine can show the letters of its keys.
+-- For each part with a text, the machine can show the letters of this text's keys.
 abbrev pub AreWorkable : Day → List DamagedPart → Type 0
 AreWorkable s parts = All (HasShowableKeys s) parts

@@ -77,7 +77,7 @@ part_sheets l s part parts [] = []
 part_sheets l s part parts (work ∷ works) =
     send_sheet l s (part_name s part parts) work ++ part_sheets l s (part + 1) parts works
 
--- the parts of the form
+-- all parts of the form, as the sheet with the form shows them
 abbrev pub form_parts : Language → Day → List Part → List ℕ
 form_parts l s made = flat_map (form_part l (day_model s) (day_number s)) made
 
@@ -137,8 +137,10 @@ abbrev pub is_device : Result (Unit {0}) SendPageFault → Bool
 is_device (Err Device) = true
 is_device _ = false
 
--- `PageWritten`: the order has a form, and the page was written or, if the sink failed, only a prefix of the page.
--- `Refused`: nothing was written.
+-- What `write_send_page` answers:
+-- - `PageWritten`: the order has a form, and the page was written. Or the sink failed, and only a prefix of the page
+--   was written.
+-- - `Refused`: nothing was written, for a fault that `send` returns, too.
 pub data IsSendPageAnswer (l : Language) (m : Parts) (s : Day) (order : List ℕ) (sink : Port)
     (answer : Result (Unit {0}) SendPageFault) : Type 0 where
   PageWritten : (form page : List ℕ) → IsReadyOnKey m s → IsFormOf s order form → IsSendPage l s order form page

@@ -30,7 +30,7 @@ use Rattle.kd_part_sheet.specs.Rows.{pieces}
 use Rattle.kd_lost.specs.ShownParts.{are_in_order, is_one_message, numbers_of}
 use Rattle.kd_lost.specs.Texts.{is_wrong_day}
 
--- the head of the sheet
+-- the head of the sheet with the text: its title, with the model and the day, and fields to fill in
 abbrev pub text_sheet_head : Language → Day → List ℕ
 text_sheet_head l s = filled (text_in l texts.TEXT_SHEET) (model_name (day_model s) ∷ decimal (day_number s) ∷ [])
 
@@ -52,7 +52,7 @@ order_words l numbers = text_in l texts.ORDER ++ numbers_after [] numbers ++ tex
 unfoldable pub heading_words : PartNumbers → List ℕ
 heading_words numbers = decimal numbers.part ++ texts.OF_PARTS.now ++ decimal numbers.parts
 
--- `first`, then the heading's two numbers, then `more`; if the heading is damaged, only `others`
+-- the two numbers in a heading, with `first` before them and `more` after them; only `others` if the heading is damaged
 abbrev pub heading_then : List ℕ → Option PartNumbers → List ℕ → List ℕ → List ℕ
 heading_then first (Some numbers) more others = first ++ heading_words numbers ++ more
 heading_then first None more others = others
@@ -68,8 +68,8 @@ headings_after first (part ∷ parts) =
 unfoldable pub several_words : Language → List DamagedPart → List ℕ
 several_words l parts = text_in l texts.SEVERAL ++ headings_after [] parts ++ text_in l texts.SEVERAL_END
 
--- The sentence that the parts aren't of one message. If the parts are of one message, the sentence gives the order in
--- which they came; it is empty if they came in the order of their numbers.
+-- The sentence about all parts together. It says that they aren't of one message, if they aren't. If they are, it gives
+-- the order in which they came. It is empty if this is the order of their numbers.
 abbrev pub order_text : Language → List DamagedPart → List ℕ
 order_text l parts =
     if is_one_message parts
@@ -91,8 +91,8 @@ abbrev pub begins_late : List DamagedPart → Bool
 begins_late [] = false
 begins_late (part ∷ parts) = nat_lt 1 part.line
 
--- The sentence that some of the form was passed over, or that some signs were read as other signs. Empty if neither is
--- so.
+-- The sentence that some of the form was passed over, or read as what it means, such as small letters as capitals.
+-- Empty if all of the form was read as it stands.
 abbrev pub passed_text : Language → List DamagedPart → List ℕ
 passed_text l parts =
     if begins_late parts || is_any_smoothed parts then text_in l texts.PASSED_OVER else []
@@ -106,11 +106,11 @@ came_text l times = if nat_lt 1 times then came_words l times else []
 
 -- ---- What to ask the other station for.
 
--- the checkbox to ask for a repetition of this part; `words` say what to repeat
+-- the checkbox to ask for a repetition of part `part`; `words` say what to repeat
 unfoldable pub ask_text : Language → ℕ → List ℕ → List ℕ
 ask_text l part words = filled (text_in l texts.ASK) (decimal part ∷ []) ++ words ++ texts.ASK_END.now
 
--- the words for a group: its number
+-- the words for group `number`, such as *group 3*
 abbrev pub group_words : Language → ℕ → List ℕ
 group_words l number = text_in l texts.GROUP ++ decimal number
 
@@ -123,7 +123,7 @@ groups_words l first last =
 abbrev pub range_words : Language → ℕ → ℕ → List ℕ
 range_words l number more = if more == 0 then group_words l number else groups_words l number (number + more)
 
--- whether a letter is lost
+-- whether one of the letters is lost
 abbrev pub has_lost : List (Option ℕ) → Bool
 has_lost [] = false
 has_lost (letter ∷ letters) = is_none letter || has_lost letters
@@ -133,10 +133,10 @@ abbrev pub run_length : List (List (Option ℕ)) → ℕ
 run_length [] = 0
 run_length (group ∷ groups) = if has_lost group then run_length groups + 1 else 0
 
--- The words for the groups that lost letters. The list begins with group `number`. Successive groups with lost letters
--- are named together, as *groups 3 to 5*. `first` stands before the first words, and a comma between the words.
--- `before` says whether the group just before the list lost letters. If it did, such groups at the start of the list
--- are already named.
+-- The words for the groups that lost letters. Successive groups are named together, as *groups 3 to 5*. The list begins
+-- with group `number`. `first` stands before the first words, and a comma between the words. `before` says whether the
+-- group just before the list lost letters. If it did, groups with lost letters at the start of the list are left out,
+-- as they are already named.
 abbrev pub lost_groups : Language → List ℕ → Bool → ℕ → List (List (Option ℕ)) → List ℕ
 lost_groups l first before number [] = []
 lost_groups l first before number (group ∷ groups) =
@@ -148,8 +148,8 @@ lost_groups l first before number (group ∷ groups) =
 abbrev pub first_text_group : Model → ℕ
 first_text_group model = if is_converter model then 3 else 2
 
--- The place of this key letter in the first copy of the indicators. For the chosen letter, number 0, it is the first of
--- two places.
+-- The place of key letter `number` in the first copy of the indicators, counted from 1. The chosen letter, number 0,
+-- has two places; the answer is the first one.
 abbrev pub indicator_place : ℕ → ℕ
 indicator_place number = if number == 0 then 1 else number + 2
 
@@ -260,16 +260,17 @@ abbrev pub short_text : Language → ℕ → Option ShortLine → List ℕ
 short_text l line (Some short) = short_words l line short
 short_text l line None = []
 
--- The words for what to ask for if the count is wrong or damaged. With a short group, these are the count and the first
--- such group. Without a short group, a damaged count is asked for. For a wrong count, the words ask for the count and,
--- if the count was right, for the lines.
+-- The words for what to ask for if the count is wrong or damaged:
+-- - if a group is short: the count, and the first short group
+-- - if no group is short, and the count is damaged: the count
+-- - if no group is short, and the count is wrong: the count and, if the other station says that it is right, the lines
 abbrev pub count_asked : Language → PartDamage → Option ℕ → List ℕ
 count_asked l damage (Some group) = text_in l texts.ITS_COUNT ++ COMMA.now ++ group_words l group
 count_asked l damages.HeadingDamaged None = text_in l texts.ITS_COUNT
 count_asked l _ None = text_in l texts.ITS_COUNT_OR_LINES
 
 -- The words for what to ask for if the count is wrong, and the part isn't read. If a short line explains the wrong
--- count, ask for the ten groups of this line.
+-- count, these are the ten groups of this line. Otherwise, the words are as for any wrong count.
 abbrev pub short_groups : Language → Option ℕ → Option ShortLine → List ℕ
 short_groups l group (Some short) = groups_words l (short.before / 5 + 1) (short.before / 5 + 10)
 short_groups l group None = count_asked l damages.CountWrong group

@@ -11,7 +11,7 @@ use kd_part_sheet::markup::COMMA;
 use kd_pictures::{Language, draw, draw_in};
 use kd_tables::{Letter, Sink};
 
-/// Whether a letter is lost.
+/// Whether one of the letters is lost.
 pub(crate) fn has_lost(letters: &[Option<Letter>]) -> bool
     ensures { result ≡ has_lost letters.now }
 {
@@ -23,8 +23,8 @@ pub(crate) fn has_lost(letters: &[Option<Letter>]) -> bool
 
 /// Writes which groups of `letters` lost letters. `first` stands before the first group that is named.
 ///
-/// `before` says whether the group just before `letters` lost letters. If it did, such groups at the start of `letters`
-/// are already named.
+/// `before` says whether the group just before `letters` lost letters. If it did, groups with lost letters at the start
+/// of `letters` are left out, as they are already named.
 pub(crate) fn draw_lost_groups<W: Sink>(
     sink: &mut W,
     language: Language,

@@ -4,13 +4,16 @@ ghost use Rattle.kd_message.specs.Laws.{FormsReadAreWhole, NothingReadIsHidden, 
 ghost use Rattle.kd_message.specs.Laws.{RepetitionsHaveTheLetters, WholeMessagesAreOnThePage, WholeMessagesAreRead};
 ghost use Rattle.kd_message.specs.Laws.{WholeMessagesHaveOneTotal};
 
-/// A row can be worked by itself: its lamps depend only on its keys and on the windows before it.
+/// The lamps of a row depend only on the letters pressed in it, and on the windows at its start.
+///
+/// So a row can be worked by itself.
 pub fn rows_are_enciphered()
     ensures { RowsAreEnciphered }
 {}
 
-/// The letters below the line are the machine's plaintext for the received letters above it. For lost letters, the
-/// operator may press any keys.
+/// On the sheet of a received part, the letters below the line are the plaintext of those above it.
+///
+/// For lost letters, the operator may press any keys.
 pub fn rows_are_deciphered()
     ensures { RowsAreDeciphered }
 {}

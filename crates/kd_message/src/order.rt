@@ -33,7 +33,7 @@ pub(crate) fn read_head<'a>(reader: &mut HeadReader, day: &SheetDay, order: &'a 
     &[]
 }
 
-/// Reads the letters of the text's next part. Returns them, and the bytes after them.
+/// Reads the letters of the next part from `text`; returns these letters, and the rest of `text`.
 pub(crate) fn take_piece<'a>(day: &SheetDay, text: &'a [u8]) -> (ArrayVec<Letter, 500>, &'a [u8])
     ensures piece { result.0.items ≡ take (part_size day.now) (text_letters day.now text.now) }
     ensures rest { text_letters day.now result.1.now

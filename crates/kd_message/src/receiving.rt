@@ -172,7 +172,9 @@ fn draw_section<W: Sink>(
     }
 }
 
-/// Writes the words in `section` for the unnumbered parts at the beginning, then for the part with each number.
+/// Writes the words in `section` for the parts of one message, in the order of their numbers.
+///
+/// First come the unnumbered parts at the beginning. Each numbered part is followed by the unnumbered parts after it.
 fn draw_by_number<W: Sink>(
     sink: &mut W,
     section: Section,
@@ -261,10 +263,9 @@ fn draw_shown<W: Sink>(
     }
 }
 
-/// Writes the words in `section` for those unnumbered parts among `parts` that come after number `after`, and before
-/// the next numbered part.
+/// Writes the words in `section` for each unnumbered part if the last part number before it is `after`.
 ///
-/// `before` is the last number before `parts`.
+/// `before` is the last part number before `parts`.
 fn draw_lone_after<W: Sink>(
     sink: &mut W,
     section: Section,
@@ -370,7 +371,9 @@ fn draw_as_they_came<W: Sink>(
     }
 }
 
-/// Writes the words in `section` for the part at `place`. `before` is the last part number before this part.
+/// Writes the words in `section` for the part that has the place `place` in the order of arrival.
+///
+/// `before` is the last part number before this part.
 fn draw_part_at<W: Sink>(
     sink: &mut W,
     section: Section,

@@ -95,7 +95,7 @@ fn draw_page<W: Sink>(sink: &mut W, language: Language, day: &SheetDay, order: &
     draw_file(sink, language, day, reader.keys(), text);
 }
 
-/// Writes the page of an order with these keys and this text.
+/// Writes the page of an order that has the keys `keys` and the text `text`.
 fn draw_file<W: Sink>(sink: &mut W, language: Language, day: &SheetDay, keys: &[Keys], text: &[u8])
     requires { AreKeysOfText day.now 1 (length keys.now) keys.now text.now }
     ensures { (works : List Work) × (made : List Part)
@@ -155,7 +155,7 @@ pub(crate) fn list_head(language: Language, parts: u16) -> &'static str
     }
 }
 
-/// Writes `count` parts of the list, from part number `part` on.
+/// Writes the lines for `count` parts in the list of the sheets, from part number `part` on.
 fn draw_listed<W: Sink>(sink: &mut W, language: Language, part: u8, parts: u8, count: u8)
     requires { part + count ≤ 100 }
     ensures { Draws W.taken W.has_failed sink.old sink.new

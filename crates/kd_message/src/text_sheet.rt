@@ -31,7 +31,7 @@ use kd_pictures::{Language, draw, draw_in};
 use kd_state::SheetDay;
 use kd_tables::{Letter, Model, Sink};
 
-/// Writes the head of the sheet.
+/// Writes the head of the sheet with the text: its title, with the model and the day, and fields to fill in.
 pub(crate) fn draw_text_sheet_head<W: Sink>(sink: &mut W, language: Language, day: &SheetDay)
     ensures { Draws W.taken W.has_failed sink.old sink.new (text_sheet_head language day.now) }
 {
@@ -46,8 +46,9 @@ pub(crate) fn draw_text_sheet_head<W: Sink>(sink: &mut W, language: Language, da
     );
 }
 
-/// Writes that some of the form was passed over, or that some signs were read as other signs. Writes nothing if neither
-/// is so.
+/// Writes that some of the form was passed over, or read as what it means.
+///
+/// For example, a small letter means its capital. Writes nothing if all of the form was read as it stands.
 pub(crate) fn draw_passed<W: Sink>(sink: &mut W, language: Language, parts: &[DamagedPart])
     ensures { Draws W.taken W.has_failed sink.old sink.new (passed_text language parts.now) }
 {
@@ -78,8 +79,9 @@ fn is_any_smoothed(parts: &[DamagedPart]) -> bool
     }
 }
 
-/// Writes that the parts aren't of one message. If they are of one message, writes in which order they came, unless
-/// they came in the order of their numbers.
+/// Writes that the parts aren't of one message, if they aren't.
+///
+/// If they are of one message, writes in which order they came. Writes nothing if this is the order of their numbers.
 pub(crate) fn draw_order<W: Sink>(sink: &mut W, language: Language, parts: &[DamagedPart])
     ensures { Draws W.taken W.has_failed sink.old sink.new (order_text language parts.now) }
 {
@@ -173,7 +175,7 @@ fn draw_numbers<W: Sink>(sink: &mut W, first: &str, parts: &[DamagedPart])
     }
 }
 
-/// Writes the head of a part of the text.
+/// Writes the head of a part, on the sheet with the text.
 pub(crate) fn draw_text_part_head<W: Sink>(sink: &mut W, language: Language, name: PartName)
     ensures { Draws W.taken W.has_failed sink.old sink.new (text_part_head language name) }
 {
@@ -334,7 +336,7 @@ pub(crate) fn first_text_group(model: Model) -> usize
     if is_converter(model) { 3 } else { 2 }
 }
 
-/// Writes a number.
+/// Writes `number` in decimal digits.
 pub(crate) fn draw_count<W: Sink>(sink: &mut W, number: usize)
     ensures { Draws W.taken W.has_failed sink.old sink.new (decimal number) }
 {

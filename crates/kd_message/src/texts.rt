@@ -2,12 +2,13 @@
 
 use kd_pictures::texts::Text;
 
-/// The title of a page, for sending and for receiving. Its values are the model and the day.
+/// The title of the page for sending; after it, the title of the page for receiving. The values are the model and the
+/// day.
 pub const TITLE_TO_SEND: Text = ("~, day ~: send", "~, Tag ~: Verschlüsseln");
 
 pub const TITLE_TO_RECEIVE: Text = ("~, day ~: receive", "~, Tag ~: Entschlüsseln");
 
-/// The start of the list of the sheets, for one part and for several parts.
+/// The start of the list of the sheets for one part; after it, the start for several parts.
 pub const LIST_OF_ONE: Text = (
     "<nav aria-label=\"Sheets\">\n<ul>\n",
     "<nav aria-label=\"Blätter\">\n<ul>\n",
@@ -31,13 +32,13 @@ pub const LISTED_UNREAD: Text = (
     "<li><a href=\"#text\">Teil ~ von ~</a>, nicht lesbar\n",
 );
 
-/// A part without a number. The value is the number of the last numbered part before it.
+/// The words for a part without a number. The value is the number of the last numbered part before it.
 pub const LONE_AFTER: Text = (
     "A part without a number, after part ~",
     "Ein Teil ohne Nummer, nach Teil ~",
 );
 
-/// A part without a number, with no numbered part before it.
+/// The words for a part without a number, with no numbered part before it.
 pub const LONE_FIRST: Text = (
     "A part without a number, at the beginning",
     "Ein Teil ohne Nummer, am Anfang",
@@ -63,7 +64,7 @@ pub const LONE_ASK: Text = (
     "<label><input type=checkbox> diesen Teil wiederholen lassen: <b>",
 );
 
-/// The end of the list of the sheets: a link to the form, or to the text.
+/// The end of the list of the sheets, with a link to the form; after it, the end with a link to the text.
 pub const LIST_END_WITH_FORM: Text = (
     "<li><a href=\"#form\">Form</a>\n</ul>\n</nav>\n",
     "<li><a href=\"#form\">Funkspruch</a>\n</ul>\n</nav>\n",
@@ -94,7 +95,7 @@ pub const TEXT_WORDS: &str = "<p class=\"text words\">";
 
 pub const TEXT_END: &str = "</p>\n";
 
-/// The sentence that some of the form was passed over, or that some signs were read as other signs.
+/// The sentence that some of the form was passed over, or read as what it means, such as small letters as capitals.
 pub const PASSED_OVER: Text = (
     "<p>Some of the form was passed over, or read as what it means: lines before the first heading, blanks in a heading, tabs, small letters.</p>\n",
     "<p>Einiges im Spruch ist übergangen oder gelesen, wie es gemeint ist: Zeilen vor dem ersten Spruchkopf, Leerzeichen in einem Spruchkopf, Tabulatoren, Kleinbuchstaben.</p>\n",
@@ -153,8 +154,7 @@ pub const ITS_KEYS: Text = (
     "Grundstellung und Schlüssel des Spruchkopfs",
 );
 
-/// What to ask for if no group is short. For a damaged count, this is the count. For a wrong count, it is the count
-/// and, once the count is confirmed, the lines of the body.
+/// What to ask for: the letter count in a part's heading. The next text also asks for the lines, if the count is right.
 pub const ITS_COUNT: Text = ("its count", "Buchstabenzahl");
 
 pub const ITS_COUNT_OR_LINES: Text = (
@@ -164,7 +164,7 @@ pub const ITS_COUNT_OR_LINES: Text = (
 
 pub const ALL_OF_IT: Text = ("all of it", "alles");
 
-/// The end of the checkbox.
+/// The end of a checkbox to ask for a repetition.
 pub const ASK_END: &str = "</b></label>\n";
 
 /// The paragraph about a part that isn't read: the words before the reason, and the end after it.
@@ -178,7 +178,8 @@ pub const REASON_END: &str = "</p>\n";
 /// The word before a line's number.
 pub const LINE: Text = ("Line ", "Zeile ");
 
-/// From here to `NO_INTERNAL_KEY`: the reasons why a part isn't read. Reasons with values are cut into several texts.
+/// The reasons why a part isn't read: this text, and the texts after it up to `NO_INTERNAL_KEY`. A reason with values
+/// may consist of several texts.
 pub const HEADING_DAMAGED: Text = (
     ": the heading is damaged.",
     ": Der Spruchkopf ist verstümmelt.",
@@ -339,8 +340,8 @@ pub const ARTICLE_END: &str = "</article>\n";
 
 // ---- What is told on standard error.
 
-/// A note about a part. The values are the part's number and the number of parts. Then the words before what to ask
-/// for, and the ends of notes.
+/// The start of a note about a part. The values are the part's number and the number of parts. After it come the words
+/// before what to ask for, and the ends of notes.
 pub const NOTE_PART: Text = ("Part ~ of ~: ", "Teil ~ von ~: ");
 
 pub const NOTE_ASK: Text = (" Ask for ", " Wiederholen lassen: ");

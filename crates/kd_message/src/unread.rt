@@ -286,8 +286,9 @@ fn heading_count(numbers: &Option<PartNumbers>) -> usize
     }
 }
 
-/// The place of key letter `number` in the first copy of the indicators. For the chosen letter, number 0, it is the
-/// first of two places.
+/// The place of key letter `number` in the first copy of the indicators, counted from 1.
+///
+/// The chosen letter, number 0, has two places; the answer is the first one.
 fn indicator_place(number: u8) -> u16
     ensures { result ≡ indicator_place number }
 {

@@ -9,7 +9,7 @@ use Rattle.std.specs.Map.{update}
 abbrev pub FilesByName : Type 0
 FilesByName = List ℕ → Option (List ℕ)
 
--- `files`, once the file `name` has the bytes `content`; if `content` is `None`, the file is gone
+-- the files after the file `name` gets the bytes `content`, or is removed if `content` is `None`
 abbrev pub with_content : FilesByName → List ℕ → Option (List ℕ) → FilesByName
 with_content files name content = update bytes_eq files name content
 
@@ -19,6 +19,6 @@ abbrev pub AddsFile : Option FilesByName → Option FilesByName → List ℕ →
 AddsFile None new name bytes = new ≡ None
 AddsFile (Some files) new name bytes = (files name ≡ None) × (new ≡ Some (with_content files name bytes))
 
--- the files of a map that has the bytes of a file for each file's name
+-- the files in a map from file names to bytes
 abbrev pub files_in : {A B : Type 0} → BTreeMap (String A) (Vec ℕ B) → FilesByName
 files_in map name = option_map (λ bytes. bytes.items) (get_by_text map name)

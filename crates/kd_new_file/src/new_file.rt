@@ -7,7 +7,7 @@ use crate::new_file_fault::NewFileFault;
 use crate::new_files::NewFiles;
 use std::alloc::Global;
 
-/// The greatest number of other names that are tried.
+/// How many names are tried, at most, for a new file that isn't whole yet.
 const NAMES: u8 = 100;
 
 /// Begins a new file under another name, in the folder of `name`. Returns this other name, and the empty file.

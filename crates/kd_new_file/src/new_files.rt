@@ -27,8 +27,8 @@ pub trait NewFiles {
             (λ files. (result ≡ Err NewFileFault.Taken) ↔ IsSome (files name.now)) }
         ensures refused { OnErr result (held self.new ≡ held self.old) };
 
-    /// Stores all bytes that `file` has taken. Gives `file`, which was made under the name `other`, the second name
-    /// `name`.
+    /// Stores all bytes written to `file`, and gives the file the second name `name`. The file was made under the name
+    /// `other`.
     ///
     /// Returns `Taken` if there already is a file called `name`.
     fn link(&mut self, file: Self::Written, other: &str, name: &str) -> Result<(), NewFileFault>

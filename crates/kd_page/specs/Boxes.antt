@@ -36,7 +36,7 @@ slot_name model slot =
     let after = slots_of model - slot in
     if after == 0 then Right else if after == 1 then Middle else if after == 2 then Left else Greek
 
--- the slot of `slots` that holds the wheel; `None` if no slot does, and the wheel is a spare one in the box
+-- the slot in the list that holds the wheel; `None` for a spare wheel, which is in the box
 abbrev pub slot_holding : Parts → Wheel → List ℕ → Option ℕ
 slot_holding m wheel [] = None
 slot_holding m wheel (slot ∷ slots) = if is_seated m slot wheel then Some slot else slot_holding m wheel slots
@@ -71,7 +71,7 @@ lug_from_text l lug None = []
 lug_from_text l lugs.Left (Some bar) = filled (text_in l LUG_FROM) (place_text bar.0 ∷ [])
 lug_from_text l lugs.Right (Some bar) = filled (text_in l LUG_FROM) (place_text bar.1 ∷ [])
 
--- the checkbox to move a lug to a place of its bar; it also says at which place the lug is before
+-- the checkbox to move a lug to a place of its bar, with the lug's place before the settings
 abbrev pub lug_text : Language → Setting → Lug → Option (Place × Place) → Place → List ℕ
 lug_text l x lug bar place =
     filled LUG.now (word_text l (lug_word lug) ∷ []) ++ lug_from_text l lug bar

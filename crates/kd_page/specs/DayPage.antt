@@ -17,20 +17,20 @@ use Rattle.kd_page.specs.WheelSteps.{rings_in_box, rings_step, seats_step}
 use Rattle.kd_page.specs.Windows.{letters_step, windows_step}
 use Rattle.kd_pictures.specs.Words.{is_converter, mark_text}
 
--- the head of the day: the page's title, and the number of settings
+-- the head of a day's page: the page's title, and the number of settings
 unfoldable pub day_head : Page → List ℕ
 day_head page =
     filled texts.DAY.now (decimal page.day ∷ []) ++ page_title page
     ++ filled (text_in page.language texts.DAY_TITLED) (count_text page.language (length page.settings) ∷ [])
 
--- The words that say what to compare on a rotor machine. Pictures show its wheels before and after the settings. If
--- there are no settings, there is one picture.
+-- The pictures of a rotor machine's wheels before and after the settings, with words that say what to compare. If there
+-- are no settings, there is one picture.
 abbrev pub wheels_text : Page → List ℕ
 wheels_text page =
     if length page.settings == 0 then one_band page.language page.after
     else both_bands page.language page.before page.after
 
--- the pictures, the rings in the box before the settings, and the steps
+-- a rotor machine's page between its head and its test: the pictures, the rings of the wheels in the box, and the steps
 unfoldable pub rotor_text : Page → List ℕ
 rotor_text page =
     wheels_text page ++ rings_in_box page (text_in page.language texts.BOX_BEFORE) page.before

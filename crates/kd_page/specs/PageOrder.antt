@@ -40,7 +40,8 @@ page_boxes model settings = if is_converter model then pin_boxes settings else r
 
 -- ---- The order of a page.
 
--- The keys of the items never fall. The first key is at least `from`, and all keys are less than `end`.
+-- The function gives each item of the list a number. From item to item, these numbers never fall. They are at least the
+-- first bound, and less than the second bound.
 abbrev pub IsRanked : {X : Type 0} → (X → ℕ) → ℕ → ℕ → List X → Type 0
 IsRanked key from end [] = Unit {0}
 IsRanked key from end (x ∷ xs) = (from ≤ key x) × (key x < end) × IsRanked key (key x) end xs

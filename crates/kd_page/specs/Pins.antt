@@ -28,11 +28,11 @@ pin_spot wheel letter = record { step = Pins; row = Some wheel; cell = Some lett
 abbrev pub is_same_pin : Bool → Option Bool → Bool
 is_same_pin effective was = option_map_or (λ old. if old then effective else not effective) was false
 
--- a pin that isn't set: its letter, and its mark
+-- a pin that no setting sets: its letter, and its mark
 abbrev pub pin_shown : ℕ → Bool → List ℕ
 pin_shown letter effective = filled texts.PIN_SHOWN.now (letter_text letter ∷ mark_text (pin_mark effective) ∷ [])
 
--- the content of a pin's cell: the pin's checkbox or, if the pin isn't set, its letter and its mark
+-- the content of a pin's cell: the pin's checkbox or, if no setting sets the pin, its letter and its mark
 abbrev pub pin_inside : Page → ℕ → ℕ → Bool → List ℕ
 pin_inside page wheel letter effective =
     let spot = pin_spot wheel letter in
@@ -55,12 +55,12 @@ abbrev pub pin_cells : Page → ℕ → List ℕ → List ℕ
 pin_cells page wheel letters =
     flat_map (λ letter. pin_cell page wheel letter (machine_pin page.after wheel letter)) letters
 
--- The beginning that the settings lines of a wheel's pins share. It is empty if no pin of the wheel changes (`count` is
--- 0).
+-- the words with which the settings lines of a wheel's pins begin, such as `PIN 3`; empty if the number of pins to set
+-- is 0
 abbrev pub pin_lines : ℕ → ℕ → List ℕ
 pin_lines wheel count = if count == 0 then [] else filled texts.PIN_LINES.now (decimal wheel ∷ [])
 
--- the head of a wheel with `count` pins that change
+-- the heading of a wheel in the table, with the wheel's number, and the number of pins to set
 abbrev pub pin_head : Language → ℕ → ℕ → List ℕ
 pin_head l wheel count =
     filled (text_in l texts.PIN_WHEEL) (decimal wheel ∷ count_text l count ∷ []) ++ pin_lines wheel count

@@ -24,7 +24,8 @@ abbrev pub plug_row : Page → Step → ℕ → List ℕ
 plug_row page step number =
     if count_at (row_spot step number) page.settings == 0 then [] else moving_row page step number
 
--- The table of the plugs to move. `head` has the meaning of the marks, and the head of the table.
+-- The table of the plugs to move in a step. The second argument is the text before the first row: the meaning of the
+-- marks, and the head of the table.
 unfoldable pub plug_table : Page → List ℕ → Step → List ℕ
 plug_table page head step = head ++ flat_map (plug_row page step) CABLES ++ texts.PLUGS_END.now
 
@@ -39,7 +40,7 @@ out_step page =
     let count = count_at (step_spot PlugsOut) page.settings in
     if count == 0 then idle_text page.language words.PlugsOut else plugs_out page count
 
--- The caption with the meaning of the marks. Then the table of the `count` plugs to put in, if there are any.
+-- The caption with the meaning of the marks. If there are plugs to put in, the table of these plugs follows.
 abbrev pub in_table : Page → ℕ → List ℕ
 in_table page count =
     if count == 0 then text_in page.language texts.CAPTION_SAME

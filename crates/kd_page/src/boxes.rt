@@ -157,7 +157,7 @@ fn draw_box_ring<W: Sink>(sink: &mut W, language: Language, ring: Option<Letter>
     }
 }
 
-/// Writes the checkbox to move a lug to a place of its bar. The checkbox also says at which place the lug is before.
+/// Writes the checkbox to move a lug to a place of its bar. The checkbox also has the lug's place before the settings.
 fn draw_lug<W: Sink>(sink: &mut W, page: &Page<'_>, bar: u8, lug: Lug, place: Place)
     ensures { Draws W.taken W.has_failed sink.old sink.new
         (lug_text page.now.language (LugTo bar lug place) lug

@@ -51,7 +51,7 @@ fn draw_steps<W: Sink>(sink: &mut W, page: &Page<'_>)
     }
 }
 
-/// Writes the picture of a rotor machine's wheels, the rings in the box, and the steps.
+/// Writes the pictures of a rotor machine's wheels, the rings of the wheels in the box, and the steps.
 fn draw_rotor_steps<W: Sink>(sink: &mut W, page: &Page<'_>)
     ensures { Draws W.taken W.has_failed sink.old sink.new (rotor_text page.now) }
 {
@@ -64,7 +64,7 @@ fn draw_rotor_steps<W: Sink>(sink: &mut W, page: &Page<'_>)
     draw_windows_step(sink, page);
 }
 
-/// Writes the words that say what to compare first, with pictures of the wheels.
+/// Writes the pictures of the wheels, with words that say what to compare first.
 fn draw_wheels<W: Sink>(sink: &mut W, page: &Page<'_>)
     ensures { Draws W.taken W.has_failed sink.old sink.new (wheels_text page.now) }
 {

@@ -81,7 +81,7 @@ pub(crate) fn alphabet() -> [Letter; 26]
     letters
 }
 
-/// Writes the head of a wheel with `count` pins that change.
+/// Writes the heading of a wheel, with the wheel's number, and `count`, the number of pins to set.
 fn draw_pin_head<W: Sink>(sink: &mut W, language: Language, wheel: u8, count: u8)
     ensures { Draws W.taken W.has_failed sink.old sink.new (pin_head language wheel count) }
 {
@@ -90,8 +90,8 @@ fn draw_pin_head<W: Sink>(sink: &mut W, language: Language, wheel: u8, count: u8
     draw_pin_lines(sink, language, wheel, count);
 }
 
-/// Writes the beginning that the settings lines of a wheel's pins share. Writes nothing if no pin of the wheel changes
-/// (`count` is 0).
+/// Writes the words with which the settings lines of a wheel's pins begin, such as `PIN 3`. Writes nothing if `count`,
+/// the number of pins to set, is 0.
 fn draw_pin_lines<W: Sink>(sink: &mut W, language: Language, wheel: u8, count: u8)
     ensures { Draws W.taken W.has_failed sink.old sink.new (pin_lines wheel count) }
 {
@@ -157,7 +157,7 @@ fn is_same_pin(effective: bool, was: Option<bool>) -> bool
     }
 }
 
-/// Writes the content of a pin's cell: the pin's checkbox or, if the pin isn't set, its letter and its mark.
+/// Writes the content of a pin's cell: its checkbox or, if no setting sets the pin, its letter and mark.
 fn draw_pin_inside<W: Sink>(
     sink: &mut W,
     page: &Page<'_>,

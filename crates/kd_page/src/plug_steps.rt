@@ -75,7 +75,7 @@ fn draw_in_table<W: Sink>(sink: &mut W, page: &Page<'_>, count: u8)
     }
 }
 
-/// Writes the table of the plugs to move, after `head`.
+/// Writes the table of the plugs to move in `step`. The table begins with `head`.
 fn draw_plug_table<W: Sink>(sink: &mut W, page: &Page<'_>, head: Text, step: Step)
     ensures { Draws W.taken W.has_failed sink.old sink.new (plug_table page.now
         (in_language page.now.language head.entry.0.now head.entry.1.now) step) }

@@ -38,17 +38,18 @@ abbrev pub sign_of : Option ℕ → Sign
 sign_of None = signs.Lost
 sign_of (Some letter) = signs.Letter letter
 
--- the cell of a letter that came with the form, and isn't pressed
+-- the cell of a letter of the received form that the operator doesn't press; `None` is a lost letter
 abbrev pub skipped : Option ℕ → Cell
 skipped letter = record { above = sign_of letter; below = signs.Nothing; is_pressed = false; mark = marks.NoMark }
 
--- the sign of a letter of the text; no sign for the letter `for_space`, which was sent for a space
+-- the sign of a letter of the text; no sign if it is the letter that stands for a space
 abbrev pub text_sign : Option ℕ → Option ℕ → Sign
 text_sign for_space None = signs.Lost
 text_sign None (Some letter) = signs.Letter letter
 text_sign (Some space) (Some letter) = if letter == space then signs.Nothing else signs.Letter letter
 
--- The cells of letters that came with the form and are pressed. Below each letter stands its letter of the text.
+-- The cells of letters of the received form that are pressed. Below each letter stands its letter of the text, or
+-- nothing for a space.
 abbrev pub received_cells : Option ℕ → List (Option ℕ) → List (Option ℕ) → List Cell
 received_cells for_space (key ∷ keys) (letter ∷ text) =
     record { above = sign_of key; below = text_sign for_space letter; is_pressed = true; mark = marks.NoMark }
@@ -58,14 +59,16 @@ received_cells for_space (key ∷ keys) [] = []
 
 -- ---- The internal key of a Converter: wheels 1 to 6 each take the next letter that they have.
 
--- The mark of a printed letter. Wheel `taken` was the last to take a letter; 0 is none. If the next wheel has the
--- printed letter, the next wheel takes it; otherwise the letter is struck out. After wheel 6, no letter is needed.
+-- The mark of a letter that is printed to find the internal key. Wheels 1 to 6 each take one printed letter. The first
+-- argument is the last wheel that took a letter; 0 is none. If the next wheel has the printed letter, the next wheel
+-- takes it; otherwise the letter is struck out. After wheel 6, no letter is needed.
 abbrev pub mark_of : ℕ → ℕ → Mark
 mark_of taken letter =
     if taken == 6 then marks.NotNeeded
     else if is_some (place_on (ring_of (taken + 1)) letter) then marks.Taken (taken + 1) else marks.StruckOut
 
--- The last wheel to take a letter, once a letter has this mark. Before, wheel `taken` was the last.
+-- The last wheel that took a printed letter, after a letter with this mark. The first argument is the last wheel before
+-- this letter; 0 is none.
 abbrev pub taken_after : ℕ → Mark → ℕ
 taken_after taken marks.NoMark = taken
 taken_after taken marks.NotNeeded = taken
@@ -73,7 +76,8 @@ taken_after taken marks.StruckOut = taken
 taken_after taken (marks.Taken wheel) = wheel
 
 -- The cells with which the internal key is found. In each cell, the chosen letter stands above the line, and the letter
--- printed for it stands below, with a mark. Wheel `taken` was the last to take a letter.
+-- printed for it stands below, with a mark. The first argument is the last wheel that took an earlier letter; 0 is
+-- none.
 abbrev pub choice_cells : ℕ → ℕ → List ℕ → List Cell
 choice_cells taken chosen [] = []
 choice_cells taken chosen (letter ∷ printed) =

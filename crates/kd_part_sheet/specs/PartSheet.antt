@@ -21,7 +21,7 @@ use Rattle.kd_part_sheet.specs.Sheet.{sheet_text}
 use Rattle.kd_part_sheet.specs.Windows.{windows_text}
 use Rattle.kd_part_sheet.specs.Words.{cables_text, rings_after, wheels_after}
 
--- `text` if `is_there`; otherwise nothing
+-- the text, if the first argument is `true`; otherwise nothing
 abbrev pub text_if : Bool → List ℕ → List ℕ
 text_if is_there text = if is_there then text else []
 
@@ -44,7 +44,7 @@ abbrev pub day_key_text : Language → Day → List ℕ
 day_key_text l (Rotor s) = rotor_key_text l s
 day_key_text l (Pin s) = filled (text_in l texts.LIST) (map letter_text s.list)
 
--- the progress at the start of a step, before the first row
+-- the progress of a step before its first row: no letters, and no key presses
 abbrev pub beginning : Progress
 beginning = record { letters = 0; presses = 0 }
 
@@ -63,7 +63,7 @@ text_head l sheet name letters = filled (sheet_text l sheet texts.TEXT_STEP) (de
 abbrev pub first_sheet : Model → ℕ
 first_sheet model = if is_converter model then 200 else 250
 
--- the rows of the letters `cells`, on a second sheet of paper; nothing if there are no letters
+-- the rows of these letters, on a second sheet of paper; nothing if there are no letters
 abbrev pub next_sheet : Language → Sheet → Day → PartName → List ℕ → Progress → List Cell → List ℕ
 next_sheet l sheet s name start progress [] = []
 next_sheet l sheet s name start progress (cell ∷ cells) =

@@ -22,9 +22,9 @@ pub record Work : Type 0 where
   pub start : List ℕ
   pub body : List Cell
 
--- On a rotor machine, the windows first show the ground setting. The message key is pressed, and the lamps show the key
--- for the heading. Then the windows are set to the message key, and the text is pressed. The fillers and the group are
--- copied.
+-- The letters on a part's sheet for a rotor machine. The windows first show the ground setting. The message key is
+-- pressed, and the lamps show the enciphered key for the heading. Then the windows are set to the message key, and the
+-- text is pressed. The fillers and the group are copied.
 abbrev pub rotor_work : Day → RotorKeys → List ℕ → Work
 rotor_work s k text = record {
   ground = k.ground_setting;
@@ -33,9 +33,9 @@ rotor_work s k text = record {
   body = map copied k.fillers ++ map copied k.group ++ pressed_cells text (cipher_from s k.message_key text);
 }
 
--- On a Converter, the pin wheels first show the external letters, and the chosen letter is enciphered twelve times.
--- Then the wheels are set to the internal key, and the text is enciphered, with its last group filled. The indicators
--- are copied before and after the text.
+-- The letters on a part's sheet for a Converter. The pin wheels first show the external letters, and the chosen letter
+-- is enciphered twelve times. Then the wheels are set to the internal key, and the text is enciphered, with its last
+-- group filled. The indicators are copied before and after the text.
 abbrev pub pin_work : Day → PinKeys → List ℕ → List ℕ → Work
 pin_work s k internal text = record {
   ground = k.external;
@@ -46,7 +46,7 @@ pin_work s k internal text = record {
       ++ map copied (pin_indicators s k);
 }
 
--- `work` has the letters that are pressed, and those that light up, when `text` is enciphered with these keys.
+-- The letters in this `Work` are those to press, and their ciphertext, when this text is enciphered with these keys.
 abbrev pub IsWork : Day → Keys → List ℕ → Work → Type 0
 IsWork s (keys.Rotor k) text work = work ≡ rotor_work s k text
 IsWork s (keys.Pin k) text work =

@@ -1,5 +1,5 @@
 -- The rows of letters in a step of a part's sheet. A row has up to ten groups of five letters, and the number of
--- letters so far. If some letters of the row are pressed, the row also has the windows after it.
+-- letters so far. If letters of the row are pressed, the row also has the letters that the machine shows after it.
 use Rattle.std.specs.Prelude.{decimal, ℕ, ◌+◌, ◌==◌, Bool, true, false, not, if◌then◌else◌}
 use Rattle.std.specs.Prelude.{List, [], ◌∷◌, ◌++◌, flat_map, length}
 use Rattle.std.specs.Int.{div_ceil}
@@ -23,7 +23,7 @@ use Rattle.kd_part_sheet.specs.Markup.{above_end, cell_marks, group_end, group_s
 use Rattle.kd_part_sheet.specs.Markup.{space, two_spaces}
 use Rattle.kd_part_sheet.specs.Words.{letter_words}
 
--- the list, cut into pieces of `size` items; the last piece may be shorter
+-- the list, cut into pieces of this size; the last piece may be shorter
 abbrev pub pieces : {X : Type 0} → ℕ → List X → List (List X)
 pieces size items = first_chunks size (div_ceil (length items) size) items
 
@@ -34,8 +34,8 @@ is_nothing signs.Nothing = true
 is_nothing signs.Lost = false
 is_nothing (signs.Letter letter) = false
 
--- Whether the group came with the form, and isn't pressed. Its first letter decides: either all letters of a group are
--- pressed, or none.
+-- Whether the group is from the received form, and isn't pressed. Its first letter decides: either all letters of a
+-- group are pressed, or none.
 abbrev pub is_skipped : List Cell → Bool
 is_skipped [] = false
 is_skipped (cell ∷ cells) = if cell.is_pressed then false else not (is_nothing cell.above)
@@ -62,7 +62,7 @@ abbrev pub has_marks : List Cell → Bool
 has_marks [] = false
 has_marks (cell ∷ cells) = is_mark cell.mark
 
--- a line of a group, with `before` before it and `after` after it; nothing if the group doesn't have the line
+-- a line of a group, between two texts; nothing if the group doesn't have this line
 abbrev pub line_if : Bool → List ℕ → List ℕ → Line → List Cell → List ℕ
 line_if is_there before after line cells = if is_there then before ++ flat_map (place_text line) cells ++ after else []
 
@@ -79,7 +79,7 @@ group_text cells =
 abbrev pub pressed_count : List Cell → ℕ
 pressed_count cells = count_by (λ cell. cell.is_pressed) cells
 
--- the progress of a step after the next row
+-- the progress of a step after this row: how many letters the step has so far, and how many of them were pressed
 abbrev pub progress_after : Progress → List Cell → Progress
 progress_after progress row =
     record { letters = progress.letters + length row; presses = progress.presses + pressed_count row }
@@ -91,7 +91,8 @@ shown_after is_converter letters =
     else letter_words false markup.ROW_LETTERS.now two_spaces letters
     ++ letter_words true markup.ROW_NUMBERS.now space letters
 
--- The windows after `presses` key presses; nothing if `is_idle`, as then no letter of the row is pressed.
+-- the letters that the machine shows after a row; nothing if the last argument is `true`, as then no letter of the row
+-- is pressed
 abbrev pub windows_after : Day → List ℕ → ℕ → Bool → List ℕ
 windows_after s start presses is_idle =
     if is_idle then [] else shown_after (is_converter (day_model s)) (letters_after s start presses)
@@ -108,7 +109,8 @@ row_text s start progress row =
     ++ filled markup.ROW_BOX.now (decimal (row_number (is_converter (day_model s)) progress) ∷ [])
     ++ windows_after s start progress.presses (pressed_count row == 0) ++ markup.ROW_END.now
 
--- The rows `rows`, after rows that made this progress. At the start of the step, the machine showed `start`.
+-- The next rows of a step. The progress counts the letters of the earlier rows. The first list has the letters that the
+-- machine shows at the start of the step.
 abbrev pub rows_after : Day → List ℕ → Progress → List (List Cell) → List ℕ
 rows_after s start progress [] = []
 rows_after s start progress (row ∷ rows) =

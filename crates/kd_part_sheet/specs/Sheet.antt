@@ -20,7 +20,7 @@ for_sheet PinSend one two three four = two
 for_sheet RotorReceive one two three four = three
 for_sheet PinReceive one two three four = four
 
--- the version of this text for this sheet, in language `l`
+-- the version of this text for this sheet, in this language
 abbrev pub sheet_text : Language → Sheet → SheetText → List ℕ
 sheet_text l sheet text =
     for_sheet sheet (text_in l text.0.0) (text_in l text.0.1) (text_in l text.1.0) (text_in l text.1.1)

@@ -92,7 +92,7 @@ pub fn push_pressed<const N: usize>(
     }
 }
 
-/// Appends the cells of letters that came with the form, and aren't pressed.
+/// Appends the cells of letters of the received form that the operator doesn't press.
 pub fn push_skipped<const N: usize>(cells: &mut ArrayVec<Cell, N>, letters: &[Option<Letter>])
     requires { length cells.old.items + length letters.now ≤ N }
     ensures { cells.new.items ≡ cells.old.items ++ map skipped letters.now }
@@ -117,8 +117,9 @@ fn sign_of(letter: Option<Letter>) -> Sign
     }
 }
 
-/// Appends the cells of letters that came with the form and are pressed. Below each letter stands its letter of the
-/// text, or nothing if this is `for_space`.
+/// Appends the cells of letters of the received form that are pressed.
+///
+/// Below each letter of `keys` stands its letter in `text`, or nothing if the letter in `text` is `for_space`.
 pub fn push_received<const N: usize>(
     cells: &mut ArrayVec<Cell, N>,
     for_space: &Option<Letter>,
@@ -155,7 +156,7 @@ fn text_sign(for_space: &Option<Letter>, letter: Option<Letter>) -> Sign
 /// Appends the cells with which the internal key is found. In each cell, `chosen` stands above the line, and the letter
 /// printed for it stands below, with a mark.
 ///
-/// Wheel `taken` was the last to take a letter.
+/// `taken` is the last wheel that took an earlier letter; 0 is none.
 pub fn push_choice<const N: usize>(
     cells: &mut ArrayVec<Cell, N>,
     taken: u8,
@@ -178,7 +179,8 @@ pub fn push_choice<const N: usize>(
     }
 }
 
-/// The mark of a printed letter. Wheel `taken` was the last to take a letter; 0 is none.
+/// The mark of a letter that is printed to find the internal key. `taken` is the last wheel that took a letter; 0 is
+/// none.
 fn mark_of(taken: u8, letter: Letter) -> Mark
     requires { taken ≤ 6 }
     ensures { result ≡ mark_of taken letter }
@@ -192,7 +194,8 @@ fn mark_of(taken: u8, letter: Letter) -> Mark
     }
 }
 
-/// The last wheel to take a letter, once a letter has this mark. Before, wheel `taken` was the last.
+/// The last wheel that took a printed letter, after a letter with this mark. `taken` is the last wheel before this
+/// letter.
 fn taken_after(taken: u8, mark: Mark) -> u8
     ensures { result ≡ taken_after taken mark }
 {

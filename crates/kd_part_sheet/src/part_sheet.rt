@@ -89,7 +89,7 @@ pub struct Warnings {
     pub letters_lost: bool,
     /// A letter is lost in a copy of the indicators, and no list letter is lost in both copies.
     pub copies_lost: bool,
-    /// The group or the list letters aren't the day's.
+    /// The group or the list letters of the form differ from those of the day.
     pub wrong_day: bool,
     /// A letter of the group, or a list letter in both copies, is lost.
     pub not_tested: bool,
@@ -182,7 +182,7 @@ fn draw_key_step<W: Sink>(
     draw(sink, sheet.text(language, KEY_STEP_END));
 }
 
-/// The progress at the start of a step, before the first row.
+/// The progress of a step before its first row: no letters, and no key presses.
 const BEGINNING: Progress = Progress {
     letters: 0,
     presses: 0,

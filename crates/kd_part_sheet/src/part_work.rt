@@ -1,4 +1,4 @@
-//! What the sheet of a part shows: the windows to set, and the letters to press and to find.
+//! The letters on a part's sheet: those to set, those to press, and those that the machine then gives.
 ghost use Rattle.std.specs.Prelude.{◌≡◌, ◌≤◌, ◌+◌, ℕ, List, length, Ok};
 ghost use Rattle.kd_state.specs.EngineKey.{IsWindow};
 ghost use Rattle.kd_state.specs.OwnKeys.{sheet_key};
@@ -17,7 +17,7 @@ use kd_state::SheetDay;
 use kd_tables::Letter;
 use std::marker::Model;
 
-/// The windows to set, and the letters to press and to find, on the sheet of a part.
+/// The letters on a part's sheet: those to set, those to press, and those that the machine then gives.
 #[derive(Drop)]
 pub struct PartWork {
     /// The windows before the letters `key` are pressed: the ground setting, or the external letters.
@@ -43,7 +43,7 @@ impl Model for PartWork {
     } };
 }
 
-/// The windows to set, and the letters to press and to find, when `text` is enciphered with `keys`.
+/// The letters to set, the letters to press, and their ciphertext, when `text` is enciphered with `keys`.
 pub fn work_of(day: &SheetDay, part: u8, keys: &Keys, text: &[Letter]) -> PartWork
     requires keys { AreKeys day.now keys.now }
     requires suits { IsKeysAnswer day.now part keys.now (Ok tt) }
@@ -57,7 +57,7 @@ pub fn work_of(day: &SheetDay, part: u8, keys: &Keys, text: &[Letter]) -> PartWo
     }
 }
 
-/// The windows to set, and the letters to press and to find, on a rotor machine.
+/// The letters to set, the letters to press, and their ciphertext, on a rotor machine.
 fn rotor_work(day: &SheetDay, keys: &RotorKeys, text: &[Letter]) -> PartWork
     requires keys { AreKeys day.now (Keys.Rotor keys.now) }
     requires few { length text.now ≤ 245 }
@@ -82,7 +82,7 @@ fn rotor_work(day: &SheetDay, keys: &RotorKeys, text: &[Letter]) -> PartWork
     }
 }
 
-/// The letters to set, to encipher and to find, on a Converter.
+/// The letters to set, the letters to encipher, and their ciphertext, on a Converter.
 fn pin_work(day: &SheetDay, keys: &PinKeys, text: &[Letter]) -> PartWork
     requires keys { AreKeys day.now (Keys.Pin keys.now) }
     requires window { IsWindow (sheet_key day.now) keys.now.external }
@@ -97,7 +97,7 @@ fn pin_work(day: &SheetDay, keys: &PinKeys, text: &[Letter]) -> PartWork
     pin_work_from(day, keys, internal.as_slice(), text)
 }
 
-/// The letters to set, to encipher and to find, on a Converter with the internal key `internal`.
+/// The letters to set, the letters to encipher, and their ciphertext, on a Converter. `internal` is the internal key.
 fn pin_work_from(day: &SheetDay, keys: &PinKeys, internal: &[Letter], text: &[Letter]) -> PartWork
     requires keys { AreKeys day.now (Keys.Pin keys.now) }
     requires window { IsWindow (sheet_key day.now) keys.now.external }

@@ -1,5 +1,5 @@
 //! The rows of letters in a step of a part's sheet. A row has up to ten groups of five letters, and the number of
-//! letters so far. If some letters of the row are pressed, the row also has the windows after it.
+//! letters so far. If letters of the row are pressed, the row also has the letters that the machine shows after it.
 ghost use Rattle.std.specs.Prelude.{◌≡◌, ◌+◌, ◌≤◌, ◌∷◌, flat_map, length};
 ghost use Rattle.kd_state.specs.EngineKey.{IsWindow};
 ghost use Rattle.kd_state.specs.OwnKeys.{sheet_key};
@@ -29,7 +29,8 @@ pub(crate) struct Progress {
     pub(crate) presses: usize,
 }
 
-/// Writes `cells` as rows, after rows that made this progress. At the start of the step, the machine showed `start`.
+/// Writes `cells` as the next rows of a step. `progress` counts the letters of the earlier rows. At the start of the
+/// step, the machine shows `start`.
 pub(crate) fn draw_rows<W: Sink>(
     sink: &mut W,
     language: Language,
@@ -52,7 +53,7 @@ pub(crate) fn draw_rows<W: Sink>(
     }
 }
 
-/// The progress of a step after the next row.
+/// The progress of a step after `row`. Before `row`, the progress is `progress`.
 pub(crate) fn progress_after(progress: Progress, row: &[Cell]) -> Progress
     requires presses { progress.presses ≤ progress.letters }
     requires few { progress.letters + length row.now ≤ 520 }
@@ -166,8 +167,8 @@ fn draw_group<W: Sink>(sink: &mut W, group: &[Cell])
     draw(sink, GROUP_END);
 }
 
-/// Whether the group came with the form, and isn't pressed. Its first letter decides: either all letters of a group are
-/// pressed, or none.
+/// Whether the group is from the received form, and isn't pressed. Its first letter decides: either all letters of a
+/// group are pressed, or none.
 fn is_skipped(group: &[Cell]) -> bool
     ensures { result ≡ is_skipped group.now }
 {
@@ -210,7 +211,7 @@ fn has_marks(group: &[Cell]) -> bool
     }
 }
 
-/// Writes a line of a group, with `before` before it and `after` after it; nothing if the group doesn't have the line.
+/// Writes a line of a group between the texts `before` and `after`. Writes nothing if the group doesn't have this line.
 fn draw_line_if<W: Sink>(
     sink: &mut W,
     is_there: bool,

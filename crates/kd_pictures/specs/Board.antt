@@ -1,6 +1,6 @@
--- The picture of a plugboard: the lines of the cables, and the sockets. A page has two such pictures. One shows the
--- plugboard before the settings, and marks the plugs to take out. The other shows the plugboard after the settings, and
--- marks the plugs to put in. Words are in language `l`.
+-- The picture of a plugboard: the lines of the cables, and the sockets. A page has two pictures of the plugboard. One
+-- shows the plugboard before the settings, and marks the plugs to take out. The other shows the plugboard after the
+-- settings, and marks the plugs to put in. Words are in language `l`.
 use Rattle.std.specs.Prelude.{codes, decimal, ℕ, ◌+◌, ◌-◌, ◌*◌, nat_lt, Bool, false, not, ◌||◌, if◌then◌else◌}
 use Rattle.std.specs.Prelude.{is_some}
 use Rattle.std.specs.Prelude.{List, [], ◌∷◌, ◌++◌, flat_map, Option, Some, None, unwrap_or}
@@ -31,7 +31,7 @@ cable_of m number = unwrap_or (machine_cable m number) (None, None)
 abbrev pub has_plug : Parts → ℕ → ℕ → Bool
 has_plug m number letter = has_letter (cable_letters (cable_of m number)) letter
 
--- whether an end of the cable has a letter, but the cable has no plug at this letter on machine `n`
+-- whether a cable's end has a letter at which the cable with this number has no plug on this machine
 abbrev pub end_moves : Parts → ℕ → Option ℕ → Bool
 end_moves n number end = option_map_or (λ letter. not (has_plug n number letter)) end false
 
@@ -47,11 +47,11 @@ cable_words number (None, other) = []
 abbrev pub is_plugged : Parts → ℕ → Bool
 is_plugged m number = is_some (cable_of m number).0
 
--- `separator`, and the words for a plugged cable
+-- a separator, then the words for a plugged cable
 abbrev pub cable_after : List ℕ → Parts → ℕ → List ℕ
 cable_after separator m number = separator ++ cable_words number (cable_of m number)
 
--- The words for all plugged cables. `separator` stands before the first cable, and a comma before each later cable.
+-- The words for all plugged cables. The first list stands before the first cable, and a comma before each later cable.
 abbrev pub cables_after : List ℕ → Parts → List ℕ → List ℕ
 cables_after separator m [] = []
 cables_after separator m (number ∷ numbers) =
@@ -70,7 +70,8 @@ all_cables l m = if has_cables m CABLES then cables_after [] m CABLES else text_
 abbrev pub lane : ℕ → ℕ
 lane number = 139 + 9 * number
 
--- the height at which a line from a socket at height `y` begins to bend into its lane
+-- the height at which a cable's line begins to bend into its lane; the arguments are the heights of the socket and of
+-- the lane
 abbrev pub bend : ℕ → ℕ → ℕ
 bend y lane = if nat_lt y lane then lane - 5 else lane + 5
 
@@ -108,7 +109,7 @@ abbrev pub moving_class : Plugs → Class
 moving_class Out = classes.Out
 moving_class In = classes.In
 
--- the class of a cable's line; the line is thick if machine `n` doesn't have all plugs of the cable at their letters
+-- the class of a cable's line; the line is thick if this machine doesn't have all plugs of the cable at their letters
 abbrev pub line_class : Plugs → Parts → ℕ → Option ℕ × Option ℕ → Class
 line_class plugs n number cable =
     if end_moves n number cable.0 || end_moves n number cable.1 then moving_class plugs else classes.Plain
@@ -145,8 +146,8 @@ free_socket letter = filled texts.FREE.now (
     decimal (socket_x letter) ∷ decimal (label_y letter) ∷ letter_text letter
     ∷ decimal (socket_x letter) ∷ decimal (socket_y letter) ∷ [])
 
--- The socket of a letter: free, or with a cable's plug. A plug that machine `n` doesn't have there is drawn as a plug
--- that moves.
+-- The socket of a letter: free, or with a cable's plug. If this machine doesn't have the plug at this letter, it is
+-- drawn as a plug that moves.
 abbrev pub socket_holding : Plugs → Parts → ℕ → Option ℕ → List ℕ
 socket_holding plugs n letter None = free_socket letter
 socket_holding plugs n letter (Some number) =
@@ -164,8 +165,8 @@ picture_name In = After
 unfoldable pub board_head : Language → Plugs → List ℕ
 board_head l plugs = filled (text_in l texts.BOARD) (word_text l (picture_name plugs) ∷ [])
 
--- The picture of the plugboard of machine `m`. A plug is marked if machine `n` doesn't have this plug at the same
--- letter.
+-- The picture of the first machine's plugboard. A plug is marked if the second machine doesn't have this plug at the
+-- same letter.
 unfoldable pub board_text : Language → Plugs → Parts → Parts → List ℕ
 board_text l plugs m n =
     board_head l plugs ++ all_cables l m ++ texts.TITLE_END.now

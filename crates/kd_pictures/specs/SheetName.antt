@@ -4,7 +4,7 @@ use Rattle.std.specs.List.{list_all}
 use Rattle.std.specs.Path.{path_file_stem}
 use Rattle.kd_pictures.specs.Plain.{is_plain}
 
--- the name of the file `path`, without folder and ending, and without the signs that HTML reads as markup
+-- the name of a key sheet's file, without folder and ending, and without the signs that HTML reads as markup
 unfoldable pub sheet_name : List ℕ → List ℕ
 sheet_name path = filter is_plain (unwrap_or (path_file_stem path) [])
 

@@ -29,7 +29,7 @@ abbrev pub reflector_words : Language → Option Reflector → List ℕ
 reflector_words l None = []
 reflector_words l (Some reflector) = filled (text_in l texts.REFLECTOR_WORDS) (reflector_text reflector ∷ [])
 
--- `template`, filled with the letter; empty if there is no letter
+-- the template, filled with the letter; empty if there is no letter
 abbrev pub letter_words : List ℕ → Option ℕ → List ℕ
 letter_words template None = []
 letter_words template (Some letter) = filled template (letter_text letter ∷ [])
@@ -66,7 +66,7 @@ reflector_shown y (Some reflector) other =
 abbrev pub slot_x : ℕ → ℕ
 slot_x slot = 80 + 104 * slot
 
--- A wheel in a slot. The wheel is drawn as new if not `is_old`, that is, unless the other machine has it in this slot.
+-- A wheel in a slot. The wheel is drawn as old if the other machine has it in this slot, otherwise as new.
 abbrev pub wheel_shown : Language → ℕ → ℕ → ℕ → Bool → Wheel → List ℕ
 wheel_shown l x y slot is_old wheel =
     filled (if is_old then text_in l texts.WHEEL else text_in l texts.NEW_WHEEL) (
@@ -112,7 +112,7 @@ unfoldable pub band_head : Language → ℕ → Word → List ℕ
 band_head l y name = filled (text_in l texts.BAND) (
     decimal (y + 16) ∷ word_text l name ∷ decimal (y + 54) ∷ decimal (y + 84) ∷ decimal (y + 125) ∷ decimal (y + 16) ∷ [])
 
--- the band of machine `m` at height `y`, in which the differences from machine `n` are marked
+-- the band of the first machine at this height, in which the differences from the second machine are marked
 unfoldable pub band_text : Language → ℕ → Word → Parts → Parts → List ℕ
 band_text l y name m n =
     band_head l y name ++ reflector_shown y (machine_reflector m) (machine_reflector n)

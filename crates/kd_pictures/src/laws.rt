@@ -15,14 +15,15 @@ pub fn values_are_plain()
     ensures names { SheetNamesArePlain }
 {}
 
-/// In both languages, each template takes the values that pages fill into it, and the words for what an operator does
-/// have the right meanings.
+/// In both languages, each template takes the values that pages fill into it. The words for an operator's actions have
+/// the right meanings.
 pub fn languages_say_the_same()
     ensures templates { TemplatesTakeTheirValues }
     ensures words { WordsTellWhatToDo }
 {}
 
-/// The lines of cables at the sockets of two letters never lie on each other: they are at least 10 apart.
+/// The lines of cables at the sockets of two letters never lie on each other. They are at least 10 units of the picture
+/// apart.
 #[tactic(auto, using(crate::proofs::LinesApart::lines_are_apart))]
 pub fn lines_are_apart()
     ensures { LinesAreApart }

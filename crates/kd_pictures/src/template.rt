@@ -57,7 +57,7 @@ pub fn fill_in<W: Sink>(sink: &mut W, language: Language, text: Text, values: &[
     fill(sink, language, language.text(text), values);
 }
 
-/// The text of `template` before its first sign `~`, and the text after this sign. If `template` has no such sign,
+/// The text of `template` before its first sign `~`, and the text after this sign. Without a sign `~`, the texts are
 /// `template` and an empty text.
 #[tactic(auto, using(std::proofs::lemmas::Str::Pattern::split_once_first))]
 fn cut(template: &str) -> (&str, &str)

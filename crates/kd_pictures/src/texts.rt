@@ -647,7 +647,7 @@ pub const MIDDLE: Text = ("middle", "Mitte");
 pub const RIGHT: Text = ("right", "rechts");
 
 /// The names of the two pictures. Then the classes of cables: with a plug to take out, with a plug to put in, or
-/// without such a plug.
+/// without a plug to move.
 pub const BEFORE: Text = ("before", "vorher");
 
 pub const AFTER: Text = ("after", "nachher");

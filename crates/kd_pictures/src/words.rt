@@ -64,7 +64,7 @@ impl Word {
     }
 }
 
-/// The class of a cable's line: the cable has a plug to take out, a plug to put in, or no such plug.
+/// The class of a cable's line: the cable has a plug to take out, a plug to put in, or no plug to move.
 #[derive(Clone, Copy)]
 pub enum Class {
     Plain,

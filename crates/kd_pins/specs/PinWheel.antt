@@ -20,7 +20,7 @@ pub record IsWheel (size : ℕ) (wheel : TurnedWheel) : Type 0 where
   pub offset : wheel.offset < size
   pub place : wheel.place < size
 
--- `place`, moved on around the wheel; `by` is the number of places
+-- the place that is `by` places after `place` on a wheel of `size` places
 abbrev pub place_past : ℕ → ℕ → ℕ → ℕ
 place_past size place by = (place + by) % size
 

@@ -25,8 +25,8 @@ impl NotOnWheel {
 
 /// A pin wheel: its letters, in the wheel's own order, with a pin beside each letter.
 ///
-/// The wheel may lack some letters of the alphabet. The field `acting` is the place of the acting pin, which each key
-/// press needs.
+/// The wheel may lack some letters of the alphabet. The field `acting` has the place of the acting pin, because each
+/// key press needs this place.
 #[derive(Clone, Copy)]
 pub struct PinWheel<const N: usize> {
     ring: Ring<N>,

@@ -35,7 +35,7 @@ pub fn plan(machine: &Machine, day: &SheetDay) -> Result<Card, OtherModel>
     }
 }
 
-/// Plans a card for a rotor machine: settings for loose things, then all PULL settings, then all PUT settings.
+/// Plans a card for a rotor machine: first settings for all but cables, then all PULL, then all PUT settings.
 ///
 /// `parts` are the parts of `machine`.
 #[tactic(auto, using(crate::proofs::Planning::is_planned_card, crate::proofs::Planning::four_at_most, crate::proofs::Planning::all_within))]
@@ -67,7 +67,7 @@ fn rotor_card(machine: &Machine, parts: &RotorParts, entry: &RotorEntry) -> Card
     Card { settings, prices }
 }
 
-/// Plans a card for a Converter M-209: settings for loose things, and then all LUG settings.
+/// Plans a card for a Converter M-209: first settings for pins and letters, then all LUG settings.
 #[tactic(auto, using(crate::proofs::Planning::is_planned_card, crate::proofs::Planning::two_at_most, crate::proofs::Planning::all_within))]
 fn pin_card(parts: &PinParts, entry: &PinEntry) -> Card
     ensures planned { let day = Pin (pin_values entry.now) in

@@ -17,7 +17,7 @@ IsValidKeyAndPrice format pair = format.InForm pair.0 × (unsigned_abs pair.1 �
 abbrev pub kind_of_one : {X : Type 0} → X × ℤ → KindOf X
 kind_of_one pair = record { key = pair.0; count = 1; price = pair.1 }
 
--- The keys ascend in the order of a card's lines.
+-- The keys are in ascending order, as on the lines of a card.
 abbrev pub AreSorted : {K X : Type 0} → KindFormat K X → List (X × ℤ) → Type 0
 AreSorted format pairs = IsSorted (λ one other. key_cmp format one.0 other.0) pairs
 
@@ -28,9 +28,10 @@ pub record CanBeKinds {K X : Type 0} (format : KindFormat K X) (pairs : List (X 
   pub one_price : HaveOnePriceEach pairs
   pub fine : All (IsValidKeyAndPrice format) pairs
 
--- The list `new` is the list `old`, followed by added kinds. Together, the added kinds count what `kind` counts, and
--- each key of `pairs` with its price. Suppose that these keys can be grouped into valid kinds. Then the added kinds are
--- valid and strictly ascending. If the key of `kind` comes after a kind `last`, so do all added kinds.
+-- The list `new` is the list `old`, followed by added kinds. Together, the added kinds count the keys that `kind`
+-- counts, and the keys of `pairs`, with their prices. Suppose that all these keys can be grouped into valid kinds. Then
+-- the added kinds are valid and strictly ascending. If the key of `kind` comes after a kind `last`, so do all added
+-- kinds.
 pub record AppendsKinds {K X : Type 0} (format : KindFormat K X) (kind : KindOf X) (pairs : List (X × ℤ))
     (old new : List K) : Type 0 where
   pub made : List K
@@ -46,6 +47,7 @@ pub record AppendsKinds {K X : Type 0} (format : KindFormat K X) (kind : KindOf 
 abbrev pub HasNoneLeft : {X : Type 0} → List (KindOf X) → X → Type 0
 HasNoneLeft kinds key = All (λ pair. pair.0 ≢ key) (expansion kinds)
 
--- The kinds `kinds` count the key `key` with the price `price`, and all that the kinds `left` count.
+-- The kinds `kinds` and the kinds `left` count the same keys with the same prices, but `kinds` counts one key more:
+-- `key`, with the price `price`.
 abbrev pub TakesOne : {X : Type 0} → List (KindOf X) → X → ℤ → List (KindOf X) → Type 0
 TakesOne kinds key price left = IsPermutation (expansion kinds) ((key, price) ∷ expansion left)

@@ -14,7 +14,8 @@ use Rattle.kd_sheet.specs.declared.key.Key.TheVariants as keys
 use Rattle.kd_sheet.specs.declared.fault.SheetFault.{SheetFault}
 use Rattle.kd_sheet.specs.declared.fault.SheetFault.TheVariants.{BadValue, LetterTwice}
 
--- The cable that `item` describes, or a fault. The cable's letters must differ, and none of them may be in `cables`.
+-- The cable that an item describes, or a fault. The cable's letters must differ from each other, and from the letters
+-- of the earlier cables.
 unfoldable pub cable_for : List (Option ℕ × Option ℕ) → Data → Result (Option ℕ × Option ℕ) SheetFault
 cable_for cables item = do
   letters ← ok_or (from_text (capital_letters (λ n. nat_le n 2)) item) (BadValue keys.Cables)
@@ -29,7 +30,8 @@ cables_in table = do
       (Ok [])
   Ok (cables ++ replicate (13 - length cables) (None, None))
 
--- The pair that `item` describes, or a fault. The pair's letters must differ, and none of them may be in `pairs`.
+-- The pair that an item describes, or a fault. The pair's letters must differ from each other, and from the letters of
+-- the earlier pairs.
 unfoldable pub pair_for : List (ℕ × ℕ) → Data → Result (ℕ × ℕ) SheetFault
 pair_for pairs item = do
   letters ← ok_or (from_text (capital_letters (nat_eq 2)) item) (BadValue keys.Plugs)

@@ -16,7 +16,8 @@ use Rattle.kd_sheet.specs.declared.key.Key.{Key}
 use Rattle.kd_sheet.specs.declared.fault.SheetFault.{SheetFault}
 use Rattle.kd_sheet.specs.declared.fault.SheetFault.TheVariants.{NotToml, Missing, BadValue}
 
--- the values of the items, in order, or the first fault; `parse` gets the earlier items' values and the item
+-- the values of the items, in order, or the first fault. For each item, `parse` gets the values of the earlier items,
+-- and then the item.
 abbrev pub read_items : {A : Type 0} → (List A → Data → Result A SheetFault) → List Data → Result (List A) SheetFault
 read_items parse [] = Ok []
 read_items parse (first ∷ rest) = do

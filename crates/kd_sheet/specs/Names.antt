@@ -2,6 +2,6 @@
 -- Test: tests/cases/desk-files.toml
 use Rattle.std.specs.Prelude.{ℕ, List, find, bytes_eq, Option}
 
--- the first of `things` whose text is `text`
+-- the first item of a list that has this text; the first argument gives the text of an item
 unfoldable pub find_by_text : {A : Type 0} → (A → List ℕ) → List A → List ℕ → Option A
 find_by_text text_of things text = find (λ thing. bytes_eq (text_of thing) text) things

@@ -19,7 +19,7 @@ pub fn written_sheets_are_read_back()
 
 /// A day is legal exactly if some entry, alone in a key sheet, describes the day.
 ///
-/// Day `number` of a sheet is the day that the entry with this number describes.
+/// Day `number` of a sheet is the day that the entry for day `number` describes.
 pub fn days_are_the_entries()
     ensures legal { LegalDaysAreDescribed }
     ensures sheet { DaysAreTheEntries }

@@ -29,11 +29,12 @@ abbrev pub has_more : Counted → DayCounts → DayCounts → Bool
 has_more counted day other =
     (model_eq.ghosts).eq other.model day.model && nat_lt (count counted day) (count counted other)
 
--- whether `other` has more than `day`, and no day of the same model has more than `other`
+-- whether `other` has more pairs or groups than `day`, and the most of all days of the same model; `counted` says what
+-- is compared
 abbrev pub has_most : Counted → List DayCounts → DayCounts → DayCounts → Bool
 has_most counted days day other = has_more counted day other && not (list_any (has_more counted other) days)
 
--- the noun for the things that are counted, in the singular
+-- a space, then the noun `pair` or `group`
 abbrev pub noun : Counted → List ℕ
 noun Pairs = codes " pair"
 noun Groups = codes " group"

@@ -10,7 +10,7 @@ use kd_state::SheetDay;
 use kd_tables::Model;
 use std::alloc::{AllocError, Global};
 
-/// The things that are counted on a day.
+/// What is counted on a day: its pairs, or its groups.
 #[derive(Clone, Copy)]
 pub enum Counted {
     Pairs,
@@ -65,14 +65,16 @@ fn is_topped(counted: Counted, day: &DayCounts, days: &[DayCounts]) -> bool
     }
 }
 
-/// Whether `other` has more than `day`, and no day of the same model in `days` has more than `other`.
+/// Whether `other` has more pairs or groups than `day`, and the most of all days of the same model in `days`.
+///
+/// `counted` says whether pairs or groups are compared.
 fn has_most(counted: Counted, days: &[DayCounts], day: &DayCounts, other: &DayCounts) -> bool
     ensures { result ≡ has_most counted days.now day.now other.now }
 {
     has_more(counted, day, other) && !is_topped(counted, other, days)
 }
 
-/// The first day of `rest` that has more than `day`, while no day of the same model in `days` has still more.
+/// The first day of `rest` that has more pairs or groups than `day`, and has the most of its model in `days`.
 fn find_most(
     counted: Counted,
     days: &[DayCounts],
@@ -93,7 +95,7 @@ fn find_most(
     }
 }
 
-/// Appends `title` and a number.
+/// Appends `title`, and then a number in decimal.
 #[tactic(auto, using(std::proofs::Common::append_assoc))]
 fn push_titled(text: &mut String, title: &str, number: usize) -> Result<(), AllocError>
     ensures { OnOk result (string_bytes text.new
@@ -104,7 +106,7 @@ fn push_titled(text: &mut String, title: &str, number: usize) -> Result<(), Allo
     text.push_str(buffer.format(number))
 }
 
-/// The noun for the things that are counted, in the singular.
+/// A space, then the noun `pair` or `group`.
 fn noun(counted: Counted) -> &'static str
     ensures { result.now ≡ noun counted }
 {

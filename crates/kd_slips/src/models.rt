@@ -114,7 +114,7 @@ fn unknown_model(alloc: Global, name: &str) -> Result<Model, Slip>
     )
 }
 
-/// The model at the key `model`, or a slip.
+/// The model at the key `model`, or the reason why there is no valid model.
 pub fn model_at(alloc: Global, table: &Table) -> Result<Model, Slip> {
     let name = text_at(alloc, table, Key::Model)?;
     match Model::from_text(name.as_bytes()) {

@@ -36,8 +36,7 @@ fn alike_at_end(name: &[u8], known: &[u8]) -> usize
     alike_at_end(name, known) + 1
 }
 
-/// How many letters two names have in common at their starts and their ends together, at most all letters of the
-/// shorter name.
+/// How many letters two names share at their starts and ends together, but at most the length of the shorter name.
 fn in_common(name: &[u8], known: &[u8]) -> usize
     ensures value { result ≡ in_common name.now known.now }
     ensures few { result ≤ length name.now }
@@ -51,7 +50,7 @@ fn in_common(name: &[u8], known: &[u8]) -> usize
     if alike <= most { alike } else { most }
 }
 
-/// Whether two names differ only in successive letters, which are at most `slips` letters of either name.
+/// Whether two names are equal apart from one stretch of at most `slips` letters in each name.
 #[tactic(auto, unfolding(crate::specs::NearNames::is_near))]
 pub fn is_near(slips: u8, name: &[u8], known: &[u8]) -> bool
     ensures { result ≡ is_near slips name.now known.now }

@@ -10,7 +10,7 @@ use kd_sheet::{Key, SheetFault};
 use std::alloc::Global;
 use toml::{Table, Value};
 
-/// The whole number from 1 to `last` at `key`, or a slip.
+/// The whole number from 1 to `last` at `key`, or the reason why there is none.
 pub fn number_at(alloc: Global, table: &Table, key: Key, last: u8) -> Result<u8, Slip> {
     number_of(
         alloc,
@@ -20,7 +20,7 @@ pub fn number_at(alloc: Global, table: &Table, key: Key, last: u8) -> Result<u8,
     )
 }
 
-/// `value` as a whole number from 1 to `last`, or a slip.
+/// `value` as a whole number from 1 to `last`; for any other value, a slip with the fault `fault`.
 pub fn number_of(alloc: Global, value: &Value, fault: SheetFault, last: u8) -> Result<u8, Slip>
     ensures value { IfOk result (λ number. number_up_to last (view value.now) ≡ Some number) }
     ensures refused { OnErr result (number_up_to last (view value.now) ≡ None) }

@@ -103,7 +103,7 @@ fn check_pin_items(alloc: Global, items: &[Value]) -> Result<(), Slip>
     Ok(())
 }
 
-/// Checks the pins at the key `pins`. The words are about the first wheel whose pins the desk refuses.
+/// Checks the pins at the key `pins`. A slip's words are about the first wheel whose pins the desk refuses.
 #[tactic(auto, unfolding(crate::specs::Items::refused_pins))]
 pub fn check_pins(alloc: Global, table: &Table) -> Result<(), Slip>
     ensures read { OnOk result (refused_pins (table_view table.now) ≡ None) }
@@ -120,7 +120,8 @@ fn numbered_item(table: &Table, key: Key, number: u8) -> Option<&Value> {
     items.as_slice().get(usize::from(number).checked_sub(1)?)
 }
 
-/// Refuses item number `number` of the list at `key`. If the item is a text, the words are this text, then `advice`.
+/// Refuses item number `number` of the list at `key`. If the item is a text, the slip's words are this text, then
+/// `advice`.
 fn refuse_row(alloc: Global, table: &Table, key: Key, number: u8, advice: &str) -> Result<(), Slip>
     ensures refused { IsErr result }
     ensures slip { IfErr result (HasFault (BadRow number) (Some number)) }
@@ -152,7 +153,7 @@ fn refuse_list(alloc: Global, table: &Table, key: Key) -> Result<(), Slip>
     )
 }
 
-/// Checks the standings at the key `bars`. The words are about the first bar that the desk refuses.
+/// Checks the standings at the key `bars`. A slip's words are about the first bar that the desk refuses.
 pub fn check_bars(alloc: Global, table: &Table) -> Result<(), Slip>
     ensures read { OnOk result (IsOk (bars_in (table_view table.now))) }
     ensures row { (number : ℕ) → bars_in (table_view table.now) ≡ Err (BadRow number)
@@ -172,7 +173,7 @@ pub fn check_bars(alloc: Global, table: &Table) -> Result<(), Slip>
     }
 }
 
-/// Checks the rows at the key `rows`. The words are about the first row that the desk refuses.
+/// Checks the rows at the key `rows`. A slip's words are about the first row that the desk refuses.
 pub fn check_rows(alloc: Global, table: &Table) -> Result<(), Slip>
     ensures read { OnOk result (IsOk (rows_in (table_view table.now))) }
     ensures row { (number : ℕ) → rows_in (table_view table.now) ≡ Err (BadRow number)

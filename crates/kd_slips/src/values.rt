@@ -50,7 +50,7 @@ pub fn kind_of(value: &Value) -> &'static str {
     }
 }
 
-/// The text at `key`, or a slip.
+/// The text at `key`, or the reason why there is no text.
 pub fn text_at(alloc: Global, table: &Table, key: Key) -> Result<&str, Slip>
     ensures found { IfOk result (λ text.
         option_and_then as_str (get_member (key_name key) (table_view table.now)) ≡ Some text.now) }
@@ -72,7 +72,8 @@ pub fn text_at(alloc: Global, table: &Table, key: Key) -> Result<&str, Slip>
     }
 }
 
-/// The text of `item`, or a slip with `fault`. `number` is the item's number in its list.
+/// The text of `item`; if `item` isn't a text, a slip with the fault `fault`. `number` is the item's number in its
+/// list.
 pub fn item_text(
     alloc: Global,
     item: &Value,
@@ -115,7 +116,7 @@ pub fn items_of(alloc: Global, value: &Value, key: Key) -> Result<&[Value], Slip
     }
 }
 
-/// The items of the list at `key`, or a slip.
+/// The items of the list at `key`, or the reason why there is no list.
 pub fn items_at(alloc: Global, table: &Table, key: Key) -> Result<&[Value], Slip>
     ensures found { IfOk result (λ items.
         option_and_then as_items (get_member (key_name key) (table_view table.now)) ≡ Some (map view items.now)) }

@@ -1,13 +1,13 @@
--- Definitions by three cases: the machine and the day's machine are both rotor machines, or both Converters, or of
--- different sorts. `f = by_model u r p` means `f machine day = by_model u r p machine day`. `X` is a type of values or
--- of statements.
+-- Definitions by three cases: machine and day are both of a rotor machine, or both of a Converter, or of different
+-- sorts. A definition such as `f = by_model u r p` leaves out the last two arguments: the machine and the day.
 use Rattle.kd_state.specs.declared.machine.rotor_parts.RotorParts.{RotorParts}
 use Rattle.kd_state.specs.declared.machine.pin_parts.PinParts.{PinParts}
 use Rattle.kd_state.specs.declared.machine.parts.Parts.{Parts}
 use Rattle.kd_state.specs.declared.machine.parts.Parts.TheVariants.{Rotor, Pin}
 use Rattle.kd_state.specs.SheetDay.{RotorDay, PinDay, Day, Rotor, Pin}
 
--- `rotor machine day` if both machines are rotor machines, `pin machine day` if both are Converters, otherwise `unlike`
+-- `rotor machine day` for a rotor machine and a rotor machine's day, `pin machine day` for a Converter and a
+-- Converter's day, otherwise `unlike`
 abbrev pub by_model {ℓ} : {X : Type ℓ} → X → (RotorParts → RotorDay → X) → (PinParts → PinDay → X) → Parts → Day → X
 by_model unlike rotor pin (Rotor machine) (Rotor day) = rotor machine day
 by_model unlike rotor pin (Pin machine) (Pin day) = pin machine day

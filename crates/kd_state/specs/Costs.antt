@@ -64,15 +64,16 @@ columns_of pairs = map Some pairs ++ replicate (13 - length pairs) None
 abbrev pub costs_by : {X Y : Type 0} → (X → Y → ℕ) → List X → List Y → List (List ℕ)
 costs_by cost rows columns = map (λ row. map (cost row) columns) rows
 
--- the cost table for machine and day of one model: cables with columns, or bars with rows
+-- the cost table of a machine and a day of one model: the costs of cables with columns, or of bars with rows
 abbrev pub cost_table : Parts → Day → List (List ℕ)
 cost_table = by_model [] (λ machine day. costs_by cable_cost machine.cables (columns_of day.pairs))
     (λ machine day. costs_by bar_cost machine.bars day.rows)
 
 -- ---- Loose things: all things that differ from the day, except cables and bars.
 
--- the number of loose things, which aren't as the day says. On a rotor machine, these are slots, the reflector, and
--- rings and letters of the day's wheels. On a Converter, these are pins and shown letters.
+-- the number of loose things: things that aren't as the day says, except cables and bars. A rotor machine's loose
+-- things are slots, the reflector, and rings and letters of the day's wheels. A Converter's loose things are pins, and
+-- letters that its wheels show.
 abbrev pub loose_count : Parts → Day → ℕ
 loose_count = by_model 0
     (λ machine day.

@@ -24,7 +24,8 @@ pub record RotorDay : Type 0 where
   pub pairs : List (ℕ × ℕ)
   pub groups : List (List ℕ)
 
--- A Converter's day: the bars' readings, the effective pins, the wheels' letters, and the two letters of the key list.
+-- A Converter's day: the bars' readings, the effective pins, the wheels' letters, and the two letters that name the key
+-- list.
 pub record PinDay : Type 0 where
   pub day : ℕ
   pub rows : List (ℕ × ℕ)

@@ -38,7 +38,7 @@ window_of (Pin machine) = machine.letters
 -- Source: the published accounts of the current's path; War Department TM 11-380.
 -- Code: bars are counted by their readings, not by their lugs.
 
--- the key to which a rotor machine is set; only cables with two letters count
+-- the key to which a rotor machine is set; cables with fewer than two letters are ignored
 abbrev pub key_of_rotor_parts : RotorParts → RotorKey
 key_of_rotor_parts machine = record {
   wheels = seated_wheels machine;

@@ -104,7 +104,7 @@ impl Engine {
         Engine { mechanism }
     }
 
-    /// Creates the engine of a Converter M-209 from its pins, the letters that show, and the bars' readings.
+    /// Creates the engine of a Converter M-209 from its pins, the letters that its wheels show, and the bars' readings.
     #[tactic(auto, using(crate::proofs::Slots::stand_on_wheels))]
     fn from_drum(pins: PinSet, letters: [Letter; 6], bars: [Reading; 27]) -> Engine
         requires { AreOnWheels letters }

@@ -50,7 +50,7 @@ pub(crate) fn learn_group_letters(groups: &[[Letter; 3]])
     }
 }
 
-/// Shows the prover that each row satisfies `IsReading`.
+/// Shows the prover that each row is a reading (`IsReading`): two numbers from 0 to 6, the smaller one first.
 pub(crate) fn learn_readings(rows: &[Reading])
     ensures { All IsReading rows.now }
 {

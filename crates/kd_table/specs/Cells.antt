@@ -37,24 +37,24 @@ column_of columns cells.Pins5 = slice_index_or columns.pins 4 None
 column_of columns cells.Pins6 = slice_index_or columns.pins 5 None
 column_of columns cells.Bars = columns.bars
 
--- the text of the option that replaces the cell, if the cell is blank; empty if no option replaces it
+-- the text of the cell's option (`--model`, `--reflector` or `--window`); empty if the cell has no option
 abbrev pub option_of : OptionTexts → Cell → List ℕ
 option_of options cells.Model = options.model
 option_of options cells.Reflector = options.reflector
 option_of options cells.Window = options.window
 option_of options cell = []
 
--- the text of a cell in a row or, if the cell is blank, the text of the cell's option
+-- the text of a cell in a row. If the cell is blank, the text of the cell's option, such as `--model`.
 abbrev pub text_of : OptionTexts → Columns → List (List ℕ) → Cell → List ℕ
 text_of options columns row cell = cell_or (option_of options cell) (column_of columns cell) row
 
--- whether the table has the cell's column, or the cell's option isn't blank
+-- whether the table has the cell's column, or the cell's option (such as `--model`) isn't blank
 abbrev pub has_text : OptionTexts → Columns → Cell → Bool
 has_text options columns cell = is_some (column_of columns cell) || not (is_blank (option_of options cell))
 
 -- ---- Which cells a row has.
 
--- the cells for a day of `model`, except the day and the model
+-- the cells that a day of this model has besides its number and its model
 abbrev pub cells_of : Model → List Cell
 cells_of M209 =
     cells.List ∷ cells.Window ∷ cells.Pins1 ∷ cells.Pins2 ∷ cells.Pins3 ∷ cells.Pins4 ∷ cells.Pins5 ∷ cells.Pins6
@@ -85,7 +85,7 @@ has_columns options columns row =
 abbrev pub is_day : ℕ → Bool
 is_day number = nat_le 1 number && nat_le number 31
 
--- the day in the text of a cell; `None` if the text isn't a day
+-- the day's number in the text of a cell; `None` if the text isn't a number from 1 to 31
 abbrev pub day_in : List ℕ → Option ℕ
 day_in text = option_and_then (λ number. if is_day number then Some number else None) (number_in text)
 

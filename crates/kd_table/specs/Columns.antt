@@ -73,7 +73,7 @@ names_column cell text =
 
 -- ---- The columns of a table.
 
--- the first of the first 64 columns whose name is a name of the cell's column
+-- the place of the cell's column: the first column with one of its three names, among the table's first 64 columns
 abbrev pub column_named : Cell → List (List ℕ) → Option ℕ
 column_named cell head = find (λ place. names_column cell (cell_at (Some place) head)) (range_with_len 0 64)
 

@@ -11,11 +11,11 @@ use Rattle.kd_sheet.specs.SheetText.{day_head_lines, sections_text}
 use Rattle.kd_sheet.specs.declared.key.Key.{Key}
 use Rattle.kd_sheet.specs.declared.key.Key.TheVariants as keys
 
--- the line of a key whose text has `count` letters to fill in
+-- the line of a TOML key whose value is a text of `count` question marks
 unfoldable pub unknown_line : Key → ℕ → List ℕ
 unknown_line key count = key_line key (quoted_text (replicate count 63))
 
--- the line of a key whose array has `count` items to fill in; each item is written as `item`
+-- the line of a TOML key whose value is an array of `count` items, each written as `item`, for example `??`
 unfoldable pub unknown_items_line : Key → ℕ → List ℕ → List ℕ
 unknown_items_line key count item = key_line key (array_text (replicate count item))
 

@@ -1,5 +1,5 @@
--- `Head`: the values that are the same for the notes on each row of a table. `PlacedRow`: a row with its place. No
--- public contract cites these definitions.
+-- `Head`: the options, the columns and the first row of a table, for the notes on its rows. `PlacedRow`: a row with the
+-- words for its place. No public contract cites these definitions.
 use Rattle.std.specs.Prelude.{ℕ, List}
 use Rattle.kd_table.specs.declared.columns.Columns.{Columns}
 use Rattle.kd_table.specs.Options.{OptionTexts}

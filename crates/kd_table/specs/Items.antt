@@ -17,7 +17,8 @@ is_blank cell = list_all is_gap cell
 abbrev pub normal : ℕ → ℕ
 normal byte = if is_gap byte then 32 else capital byte
 
--- How a cell is split into words. `keeps` says which gaps are kept. `alone` says which bytes are words by themselves.
+-- How a cell is split into words. `keeps` says which bytes stay as they are, even if they are gaps. `alone` says which
+-- bytes are words by themselves.
 pub record Bytes : Type 0 where
   pub keeps : ℕ → Bool
   pub alone : ℕ → Bool
@@ -90,15 +91,15 @@ abbrev pub single : {A : Type 0} → List A → Option A
 single (x ∷ []) = Some x
 single _ = None
 
--- the rule for words between gaps
+-- the rule for cells whose words stand between gaps, such as cells of numbers or pairs
 abbrev pub words : Bytes
 words = record { keeps = λ byte. false; alone = λ byte. false }
 
--- the rule for letters and numbers; each letter is a word by itself, and numbers stand between gaps
+-- the rule for cells of letters: each letter is a word by itself, and numbers stand between gaps
 abbrev pub letters : Bytes
 letters = record { keeps = λ byte. false; alone = is_capital_letter }
 
--- the rule for words in which hyphens aren't gaps
+-- the rule for cells whose words have hyphens, such as the reading `0-1`; a hyphen isn't a gap
 abbrev pub hyphened : Bytes
 hyphened = record { keeps = λ byte. byte == 45; alone = λ byte. false }
 

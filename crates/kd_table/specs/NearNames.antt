@@ -21,21 +21,21 @@ all_cells =
 abbrev pub is_near_name : List ℕ → List ℕ → Bool
 is_near_name name known = is_near (if nat_lt (length known) 5 then 1 else 2) name known
 
--- whether a name is nearly a name of the cell's column
+-- whether a name is nearly equal to one of the three names of the cell's column
 abbrev pub is_near_column : Cell → List ℕ → Bool
 is_near_column cell name =
     is_near_name name (english_name cell) || is_near_name name (german_name cell) || is_near_name name (short_name cell)
 
--- whether the column at `place` isn't read, and its name is nearly a name of the cell's column
+-- whether the column at `place` isn't read, but nearly has one of the names of the cell's column
 abbrev pub is_meant : Columns → List (List ℕ) → Cell → ℕ → Bool
 is_meant columns head cell place =
     not (is_column_read columns place) && is_near_column cell (cell_at (Some place) head)
 
--- the first of the first 64 columns that isn't read, and whose name is nearly a name of the cell's column
+-- the first column, among the first 64, that isn't read, but nearly has one of the names of the cell's column
 abbrev pub near_column : Columns → List (List ℕ) → Cell → Option ℕ
 near_column columns head cell = find (is_meant columns head cell) (range_with_len 0 64)
 
--- whether the table lacks the cell's column, and the name of an unread column is nearly a name of the cell's column
+-- whether the cell's column is misnamed: the table lacks it, and an unread column nearly has one of its names
 abbrev pub lacks_near : Columns → List (List ℕ) → Cell → Bool
 lacks_near columns head cell = not (is_some (column_of columns cell)) && is_some (near_column columns head cell)
 

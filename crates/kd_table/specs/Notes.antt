@@ -26,7 +26,8 @@ use Rattle.kd_table.specs.declared.columns.Columns.{Columns}
 
 -- ---- The port of the notes.
 
--- Some text was written to the port of the notes. If the port had failed before, it has still failed.
+-- The call only appended text to the port of the notes. If the port had failed before the call, it has failed after the
+-- call, too.
 pub record Tells (notes : Port) : Type 0 where
   pub text : List ℕ
   pub written : Appends notes.had notes.has text
@@ -39,8 +40,8 @@ pub record TellsText (notes : Port) (text : List ℕ) : Type 0 where
 
 -- ---- What is shown of a cell: of a cell with more than 60 bytes, only the start.
 
--- The byte of a cell as it is shown. `?` stands for a byte that can't be printed and, in a long cell, for each byte
--- outside of ASCII.
+-- The byte that a note shows for a byte of a cell: `?` if the byte can't be printed. In a long cell, `?` also stands
+-- for each byte outside of ASCII.
 abbrev pub shown_byte : Bool → ℕ → ℕ
 shown_byte is_long byte = if nat_lt byte 32 || byte == 127 || is_long && nat_lt 127 byte then 63 else byte
 
@@ -102,14 +103,15 @@ row_number number (Some day) = (decimal number ++ codes " (day ") ++ (decimal da
 abbrev pub row_place : ℕ → Option ℕ → List ℕ
 row_place number day = codes "row " ++ row_number number day
 
--- the name of the option that replaces a cell; empty if there is none
+-- the name of the option that replaces a blank cell, such as `--model`; empty if the cell has no option
 abbrev pub option_name : Cell → List ℕ
 option_name cells.Model = codes "--model"
 option_name cells.Reflector = codes "--reflector"
 option_name cells.Window = codes "--window"
 option_name cell = []
 
--- the name of a cell's column in the table; if there is no such column, the name of its option
+-- the name of a cell's column in the table. If the table lacks the column, the name of the cell's option, such as
+-- `--model`.
 abbrev pub cell_name : Columns → List (List ℕ) → Cell → List ℕ
 cell_name columns head cell =
     option_map_or (λ place. shown (cell_at (Some place) head)) (column_of columns cell) (option_name cell)
@@ -130,8 +132,8 @@ pub data TellsCells (options : OptionTexts) (columns : Columns) (head : List (Li
       (flat_map (line_at (cell_place columns head place cell)) words ++ note)
 
 -- The notes on a row: on columns that the table lacks, then on the row's cells, then on the row as a whole. If the row
--- isn't a day, there is at least one note on the row or on a cell of it. There may be none if the table lacks a column
--- that the row needs.
+-- isn't a day, there is at least one note on the row or on one of its cells. There may be no note if the table lacks a
+-- column that the row needs.
 pub record TellsRow (options : OptionTexts) (columns : Columns) (head : List (List ℕ)) (number : ℕ)
     (row : List (List ℕ)) (note : List ℕ) : Type 0 where
   pub missing : List (List ℕ)
@@ -188,8 +190,8 @@ TellsRefused options table notes = (text : List ℕ) × TellsTable options table
 
 -- ---- Reading row by row. No public contract cites these definitions.
 
--- The notes on a row's cells, and on the row as a whole, were appended. If the row isn't a day, and the table has each
--- column that the row needs, there is at least one note.
+-- `new` is `old`, followed by the notes on a row's cells and on the row as a whole. If the row isn't a day, and the
+-- table has each column that the row needs, there is at least one note.
 pub record TellsPlacedRow (options : OptionTexts) (columns : Columns) (head : List (List ℕ)) (place : List ℕ)
     (row : List (List ℕ)) (old new : List ℕ) : Type 0 where
   pub of_cells : List ℕ
@@ -199,8 +201,8 @@ pub record TellsPlacedRow (options : OptionTexts) (columns : Columns) (head : Li
   pub some : IsNoDay (row_values options columns row) → has_columns options columns row ≡ true
       → 0 < length of_cells + length words
 
--- The notes on the rows under the first row `head` were appended. If all these rows are blank, a line about the whole
--- table was appended, too.
+-- `new` is `old`, followed by the notes on the rows under the first row `head`. If all these rows are blank, a line
+-- about the whole table follows.
 pub record HasRowsNote (options : OptionTexts) (columns : Columns) (head : List (List ℕ)) (table old new : List ℕ)
     : Type 0 where
   pub rows : List (List (List ℕ))

@@ -1,10 +1,10 @@
--- The texts of the options, which replace blank or missing cells.
+-- The texts of the options `--model`, `--reflector` and `--window`, which replace blank or missing cells.
 -- Test: tests/cases/curator-sheet.toml
 use Rattle.std.specs.Prelude.{List, ℕ}
 use Rattle.std.specs.Borrow.{Bor}
 use Rattle.kd_table.specs.declared.options.TableOptions.{TableOptions}
 
--- The texts of the options; an empty text replaces nothing.
+-- The texts of the options `--model`, `--reflector` and `--window`. An empty text replaces no cell.
 abbrev pub OptionTexts : Type 0
 OptionTexts = TableOptions (List ℕ)
 

@@ -1,4 +1,4 @@
--- The rows of a table up to the place to which the table was read. No public contract cites this definition.
+-- The rows of a table that an iterator has read so far. No public contract cites this definition.
 use Rattle.std.specs.Prelude.{◌≡◌, ◌<◌, ℕ, List, Some}
 use Rattle.std.specs.Borrow.{Bor}
 use Rattle.csv.specs.Reading.{Reached, Ready, source_of, strip_bom}
@@ -7,7 +7,7 @@ use Rattle.csv.specs.declared.parser.State.TheVariants as st
 use Rattle.csv.specs.declared.reader.Trim.TheVariants as trim
 use Rattle.kd_table.specs.Rows.{separated, separator_of}
 
--- `rows` are the rows of the table up to the place to which the table was read.
+-- `rows` are the rows of the table that the iterator `records` has read so far.
 pub record IsReadTo (table : List ℕ) (records : ByteRecordsIntoIter (Bor (List ℕ))) (rows : List (List (List ℕ)))
     : Type 0 where
   pub untrimmed : records.rdr.trim ≡ trim.None

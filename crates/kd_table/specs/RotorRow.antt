@@ -21,7 +21,7 @@ wheels_with (Some wheel ∷ wheels) (ring ∷ rings) (letter ∷ letters) =
     option_map (λ rest. record { wheel = wheel; ring = ring; letter = letter } ∷ rest) (wheels_with wheels rings letters)
 wheels_with _ _ _ = None
 
--- the wheels of a row, with their rings and window letters. An option may replace blank window letters.
+-- the wheels of a row, with their rings and window letters. The option `--window` replaces blank window letters.
 abbrev pub seated_in : OptionTexts → Columns → List (List ℕ) → Option (List SheetWheel)
 seated_in options columns row = do
   wheels ← wheels_in (cell_at columns.wheels row)
@@ -29,14 +29,14 @@ seated_in options columns row = do
   window ← letters_in (cell_or options.window columns.window row)
   wheels_with wheels rings window
 
--- The plugged pairs of a row. `None` if the table doesn't have the column of pairs. Otherwise a table with a mistyped
--- name of this column would be taken for days without pairs.
+-- The plugged pairs of a row. `None` if the table lacks the column of pairs. A missing column doesn't mean a day
+-- without pairs, as the column's name may be mistyped.
 abbrev pub plugs_in : Columns → List (List ℕ) → Option (List (ℕ × ℕ))
 plugs_in columns row = do
   place ← columns.plugs
   pairs_in (cell_at (Some place) row)
 
--- the values of a rotor machine's day in a row. An option may replace a blank reflector.
+-- the values of a rotor machine's day in a row. The option `--reflector` replaces a blank reflector.
 unfoldable pub rotor_values : OptionTexts → Columns → List (List ℕ) → Model → Option RotorDay
 rotor_values options columns row model = do
   number ← number_in (cell_at columns.day row)

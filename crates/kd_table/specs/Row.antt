@@ -15,7 +15,7 @@ use Rattle.kd_table.specs.Steps.{◌>>=◌}
 use Rattle.kd_table.specs.declared.columns.Columns.{Columns}
 use Rattle.kd_table.specs.Options.{OptionTexts}
 
--- the columns that are read, except those of pins, which `columns.pins` has
+-- the places of all columns that are read, except the pin columns, which are in `columns.pins`
 abbrev pub places_of : Columns → List (Option ℕ)
 places_of c =
     c.day ∷ c.model ∷ c.reflector ∷ c.wheels ∷ c.rings ∷ c.plugs ∷ c.window ∷ c.groups ∷ c.list ∷ c.bars ∷ []
@@ -33,7 +33,7 @@ is_blank_row columns row =
     list_all (λ column. is_blank (cell_at column row)) (places_of columns)
     && list_all (λ column. is_blank (cell_at column row)) columns.pins
 
--- the values of a day of this model in a row
+-- the values of a row, read as a day of this model
 abbrev pub values_of_model : OptionTexts → Columns → List (List ℕ) → Model → Option Day
 values_of_model options columns row M209 = option_map Pin (pin_values options columns row)
 values_of_model options columns row model = option_map Rotor (rotor_values options columns row model)
@@ -44,7 +44,7 @@ fits_columns columns row =
     nat_le columns.count (length row)
     && list_all (λ place. is_blank (cell_at (Some place) row)) (range_with_len columns.count (length row - columns.count))
 
--- the values of the day in a row's cells
+-- the values of a row's cells, read as a day of the row's model
 abbrev pub cell_values : OptionTexts → Columns → List (List ℕ) → Option Day
 cell_values options columns row = do
   model ← model_named (cell_or options.model columns.model row)
@@ -59,7 +59,7 @@ pub record IsDayOfRow (options : OptionTexts) (columns : Columns) (row : List (L
   pub values : row_values options columns row ≡ Some day
   pub legal : IsLegalDay day
 
--- There are no values, or there is no legal day with these values.
+-- A row has no values (`None`), or its values aren't a legal day.
 abbrev pub IsNoDay : Option Day → Type 0
 IsNoDay None = ⊤
 IsNoDay (Some day) = ¬ IsLegalDay day

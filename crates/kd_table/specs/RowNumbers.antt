@@ -37,16 +37,15 @@ row_numbers table = numbers_from (separator_of table) (AtStart false) 1 (strip_b
 
 -- ---- Row by row. No public contract cites these definitions.
 
--- the numbers of the remaining rows
+-- the numbers of the rows that are still to be read, except empty rows
 abbrev pub numbers_left : RowNumbers → List ℕ
 numbers_left rows = numbers_from rows.separator (AtStart false) rows.number rows.rest.now
 
--- No bytes remain, or the number of the row is so small that it won't overflow.
+-- No bytes are left, or the numbers of the rows that are left are too small to overflow 64 bits.
 abbrev pub IsCounted : RowNumbers → Type 0
 IsCounted rows = (rows.rest.now ≡ []) ⊎ (rows.number + length rows.rest.now ≤ 2 ^ 64 - 2)
 
--- `number` is the first item of the list `before`, and the list `after` has the later items of this list. If the list
--- `before` is empty, the list `after` is empty, too, and `number` may be any number.
+-- The list `before` begins with `number`, and `after` is the rest of `before`; or both lists are empty.
 abbrev pub IsNext : List ℕ → ℕ → List ℕ → Type 0
 IsNext before number after = (before ≡ number ∷ after) ⊎ ((before ≡ []) × (after ≡ []))
 
@@ -55,14 +54,13 @@ abbrev pub StartsRow : List ℕ → Type 0
 StartsRow [] = Unit {0}
 StartsRow (byte ∷ bytes) = IsFalse (ends_line byte)
 
--- The bytes begin with `count` line ends; the bytes `left` come after these.
+-- The bytes are `count` line ends, and then the bytes `left`.
 pub record AreLineEnds (bytes : List ℕ) (count : ℕ) (left : List ℕ) : Type 0 where
   pub same : (separator number : ℕ) → numbers_from separator (AtStart false) number bytes
       ≡ numbers_from separator (AtStart false) (number + count) left
   pub shorter : count + length left ≤ length bytes
 
--- The bytes begin with a row and its line end; the bytes `left` come after these. If there are no bytes, `left` is
--- empty, too.
+-- The bytes are a row and its line end, and then the bytes `left`. If there are no bytes, `left` is empty, too.
 pub data IsRowBefore (separator : ℕ) (bytes left : List ℕ) : Type 0 where
   NoRow : bytes ≡ [] → left ≡ [] → IsRowBefore separator bytes left
   OneRow : ((number : ℕ) → numbers_from separator (AtStart false) number bytes

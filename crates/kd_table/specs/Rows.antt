@@ -16,8 +16,8 @@ is_separator byte = byte == 44 || byte == 59 || byte == 9
 abbrev pub separator_of : List ℕ → ℕ
 separator_of table = option_map_or (λ byte. byte) (find is_separator table) 44
 
--- The settings of the library's reader. `separator` stands between cells. In a quoted cell, two quotes stand for one
--- quote. CR, LF or both end a row.
+-- The settings by which the library `csv` reads a table. `separator` stands between cells. In a quoted cell, two quotes
+-- stand for one quote. CR, LF or both end a row.
 abbrev pub separated : ℕ → Config
 separated separator = record default_config { delimiter = separator }
 

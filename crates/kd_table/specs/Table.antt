@@ -48,7 +48,8 @@ pub record HasRefusedRow (options : OptionTexts) (columns : Columns) (rows : Lis
 abbrev pub AreRows : List ℕ → List (List (List ℕ)) → Type 0
 AreRows table rows = AreRecords (separated (separator_of table)) st.StartRecord (strip_bom table) rows
 
--- The table means these days: its rows have these days, and there is at least one day. No column is misnamed.
+-- The table means these days: its rows have these days, and there is at least one day. The table's quotes are right,
+-- and no column is misnamed.
 pub record TableMeans (options : OptionTexts) (table : List ℕ) (days : List Day) : Type 0 where
   pub quoted : is_well_quoted table ≡ true
   pub head : List (List ℕ)
@@ -69,7 +70,7 @@ pub data IsRefusedTable (options : OptionTexts) (table : List ℕ) : Type 0 wher
       → AreDaysOfRows options (columns_of head) rows [] → IsRefusedTable options table
   NoFirstRow : AreRows table [] → IsRefusedTable options table
 
--- whether the answer is `Device`, the fault of a sink that failed
+-- whether the result is the error `Device`: the sink failed
 abbrev pub is_device : {T : Type 0} → Result T SpreadsheetFault → Bool
 is_device (Ok done) = false
 is_device (Err Refused) = false
@@ -78,8 +79,8 @@ is_device (Err NoMemory) = false
 
 -- ---- Reading row by row. No public contract cites these definitions.
 
--- The state after reading the rows under the first row. The last argument says whether one of these rows is refused. If
--- none is refused, the rows have these days.
+-- If the last argument is `false`, the rows under the first row have these days. If it is `true`, one of these rows is
+-- refused.
 abbrev pub IsBodyRead : OptionTexts → Columns → List (List (List ℕ)) → List Day → Bool → Type 0
 IsBodyRead options columns rows days false = AreDaysOfRows options columns rows days
 IsBodyRead options columns rows days true = HasRefusedRow options columns rows

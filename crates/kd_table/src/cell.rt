@@ -39,7 +39,7 @@ pub enum Cell {
     Bars,
 }
 
-/// The cells for a rotor machine's day, except the day and the model.
+/// The cells that a rotor machine's day has besides its number and its model.
 static ROTOR_CELLS: [Cell; 6] = [
     Cell::Reflector,
     Cell::Wheels,
@@ -49,7 +49,7 @@ static ROTOR_CELLS: [Cell; 6] = [
     Cell::Groups,
 ];
 
-/// The cells for a Converter's day, except the day and the model.
+/// The cells that a Converter's day has besides its number and its model.
 static PIN_CELLS: [Cell; 9] = [
     Cell::List,
     Cell::Window,
@@ -62,7 +62,7 @@ static PIN_CELLS: [Cell; 9] = [
     Cell::Bars,
 ];
 
-/// The cells for a day of `model`, except the day and the model.
+/// The cells that a day of `model` has besides its number and its model.
 pub fn cells_of(model: Model) -> &'static [Cell]
     ensures { result.now ≡ cells_of model }
 {
@@ -96,7 +96,7 @@ pub fn column_of(columns: &Columns, cell: Cell) -> Option<usize>
     }
 }
 
-/// The text of the option that replaces `cell`, if `cell` is blank; empty if no option replaces it.
+/// The text of the option of `cell` (`--model`, `--reflector` or `--window`); empty if `cell` has no option.
 pub fn option_of<'a>(options: &TableOptions<&'a [u8]>, cell: Cell) -> &'a [u8]
     ensures { result.now ≡ option_of (texts_of options.now) cell }
 {
@@ -108,7 +108,7 @@ pub fn option_of<'a>(options: &TableOptions<&'a [u8]>, cell: Cell) -> &'a [u8]
     }
 }
 
-/// The text of `cell` or, if `cell` is blank, the text of its option.
+/// The text of `cell` or, if `cell` is blank, the text of its option, such as `--model`.
 pub fn text_of<'a>(
     options: &TableOptions<&'a [u8]>,
     columns: &Columns,
@@ -120,7 +120,7 @@ pub fn text_of<'a>(
     cell_or(option_of(options, cell), row, column_of(columns, cell))
 }
 
-/// Whether the table has the column of `cell`, or the option of `cell` isn't blank.
+/// Whether the table has the column of `cell`, or the option of `cell` (such as `--model`) isn't blank.
 pub fn has_text(options: &TableOptions<&[u8]>, columns: &Columns, cell: Cell) -> bool
     ensures { result ≡ has_text (texts_of options.now) columns.now cell }
 {
@@ -194,7 +194,7 @@ pub fn has_columns(options: &TableOptions<&[u8]>, columns: &Columns, row: &ByteR
     has_each_column(options, columns, known)
 }
 
-/// The day in the cell `text`; `None` if the text isn't a day.
+/// The day's number in the cell `text`; `None` if `text` isn't a number from 1 to 31.
 pub fn day_in(text: &[u8]) -> Option<u8>
     ensures { result ≡ day_in text.now }
 {

@@ -10,7 +10,7 @@ use crate::items::is_blank;
 use crate::names::is_named;
 use csv::ByteRecord;
 
-/// The greatest number of columns that are read.
+/// How many columns of a table are looked at: its first 64.
 pub const COLUMNS: usize = 64;
 
 /// The number of a table's columns, and the places of the columns that are read. Places are counted from 0. A column
@@ -122,7 +122,7 @@ fn names_column(cell: Cell, text: &[u8]) -> bool
         || is_named(short_name(cell), text)
 }
 
-/// The first column, among `count` columns from place `place` on, whose name is a name of the column of `cell`.
+/// The first of `count` columns, from `place` on, whose name is one of the three names for `cell`.
 fn column_from(head: &ByteRecord, cell: Cell, place: usize, count: usize) -> Option<usize>
     requires { place + count ≤ 64 }
     ensures { result ≡ find (λ at. names_column cell (cell_at (Some at) (fields_of head.now)))
@@ -137,7 +137,7 @@ fn column_from(head: &ByteRecord, cell: Cell, place: usize, count: usize) -> Opt
     column_from(head, cell, place + 1, count - 1)
 }
 
-/// The first column whose name is a name of the column of `cell`.
+/// The place of the column of `cell`: the first of 64 columns with one of its three names.
 fn column_named(head: &ByteRecord, cell: Cell) -> Option<usize>
     ensures { result ≡ column_named cell (fields_of head.now) }
 {

@@ -12,7 +12,7 @@ use kd_sheet::writing::item_text::ItemString;
 use kd_sheet::writing::lines::{FileString, push_list_line, push_text_line};
 use kd_tables::{Device, Model, Sink, put_all};
 
-/// Appends the line of a key whose text has `count` letters to fill in.
+/// Appends the line of the TOML key `key`. Its value is a text of `count` question marks.
 #[tactic(auto, unfolding(crate::specs::EmptySheet::unknown_line))]
 fn push_unknown(text: &mut FileString, key: Key, count: u8)
     requires room { array_string_len text.old + 24 ≤ 2048 }
@@ -32,7 +32,7 @@ fn push_unknown(text: &mut FileString, key: Key, count: u8)
     push_text_line(text, key, letters);
 }
 
-/// Appends the line of a key whose array has `N` items to fill in. Each item is written as `item`.
+/// Appends the line of the TOML key `key`. Its value is an array of `N` items, each written as `item`.
 #[tactic(auto, unfolding(crate::specs::EmptySheet::unknown_items_line))]
 fn push_unknown_items<const N: usize>(text: &mut FileString, key: Key, item: &str)
     requires room { array_string_len text.old + 36 * N + 15 ≤ 2048 }
@@ -86,7 +86,8 @@ fn push_empty_day(text: &mut FileString, model: Model, number: u8)
     }
 }
 
-/// The section of a day. If `started`, an empty line stands before it.
+/// The section of a day to fill in: `[[day]]` and the day's lines. If `started`, an empty line stands before the
+/// section.
 fn empty_section(started: bool, model: Model, number: u8) -> FileString
     ensures { result.bytes ≡ section_text started (empty_day_lines model number) }
 {

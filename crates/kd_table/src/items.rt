@@ -39,15 +39,15 @@ pub fn normal(byte: u8) -> u8
     if is_gap(byte) { 32 } else { capital(byte) }
 }
 
-/// A value that a word in a cell can mean.
+/// A type whose values are read from the words of a cell, such as a letter or a wheel.
 pub trait FromWord {
-    /// Which gaps are kept, and which bytes are words by themselves.
+    /// Which bytes of a cell stay as they are, even if they are gaps, and which bytes are words by themselves.
     ghost bytes: { Bytes };
 
     /// The value of a word; `None` if the word has no value.
     ghost parse: { List ℕ → Option Self };
 
-    /// Whether `byte` is kept, even if it is a gap.
+    /// Whether `byte` stays as it is, even if it is a gap.
     fn is_kept(byte: u8) -> bool
         ensures { result ≡ bytes.keeps byte };
 
@@ -55,7 +55,7 @@ pub trait FromWord {
     fn is_alone(byte: u8) -> bool
         ensures { result ≡ bytes.alone byte };
 
-    /// Reads a word.
+    /// Reads `word` as a value of this type; `None` if `word` can't be read.
     fn read_word(word: &[u8]) -> Option<Self>
         ensures { result ≡ parse word.now };
 }

@@ -39,7 +39,7 @@ pub fn is_near_name(name: &[u8], known: &str) -> bool
     is_near(slips, name, known.as_bytes())
 }
 
-/// Whether `name` is nearly a name of the column of `cell`.
+/// Whether `name` is nearly equal to one of the three names of the column of `cell`.
 fn is_near_column(cell: Cell, name: &[u8]) -> bool
     ensures { result ≡ is_near_column cell name.now }
 {
@@ -48,29 +48,28 @@ fn is_near_column(cell: Cell, name: &[u8]) -> bool
         || is_near_name(name, short_name(cell))
 }
 
-/// Whether the column at `place` isn't read, and its name is nearly a name of the column of `cell`.
+/// Whether the column at `place` isn't read, but nearly has one of the names of the column of `cell`.
 fn is_meant(columns: &Columns, head: &ByteRecord, cell: Cell, place: usize) -> bool
     ensures { result ≡ is_meant columns.now (fields_of head.now) cell place }
 {
     !is_column_read(columns, place) && is_near_column(cell, cell_at(head, Some(place)))
 }
 
-/// The first column that isn't read, and whose name is nearly a name of the column of `cell`.
+/// The first column that isn't read, but nearly has one of the names of the column of `cell`.
 pub fn near_column(columns: &Columns, head: &ByteRecord, cell: Cell) -> Option<usize>
     ensures { result ≡ near_column columns.now (fields_of head.now) cell }
 {
     (0..COLUMNS).find(|place| is_meant(columns, head, cell, *place))
 }
 
-/// Whether the table lacks the column of `cell`, and an unread column's name is nearly a name of this column.
+/// Whether the column of `cell` is misnamed: the table lacks it, and an unread column nearly has one of its names.
 fn lacks_near(columns: &Columns, head: &ByteRecord, cell: Cell) -> bool
     ensures { result ≡ lacks_near columns.now (fields_of head.now) cell }
 {
     column_of(columns, cell).is_none() && near_column(columns, head, cell).is_some()
 }
 
-/// Whether, for one of `cells`, the table lacks the cell's column, and the name of an unread column is nearly a name of
-/// this column.
+/// Whether the column of one of `cells` is missing, though an unread column nearly has one of its names.
 fn lacks_near_any(columns: &Columns, head: &ByteRecord, cells: &[Cell]) -> bool
     ensures { result ≡ list_any (lacks_near columns.now (fields_of head.now)) cells.now }
 {

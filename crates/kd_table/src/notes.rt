@@ -45,7 +45,7 @@ use words::Words;
 /// The note on a table whose quotes are wrong.
 const OPEN_QUOTE: &[u8] = b"a quote isn't closed, or something follows the closing quote of a cell";
 
-/// Writes a note, unless `notes` fails.
+/// Writes `note` to the sink `notes`. A failure of the sink is ignored.
 pub fn put_note<N: Sink>(notes: &mut N, note: &[u8])
     ensures told { Tells (port N.taken N.has_failed notes.old notes.new) }
     ensures text { TellsText (port N.taken N.has_failed notes.old notes.new) note.now }
@@ -53,10 +53,10 @@ pub fn put_note<N: Sink>(notes: &mut N, note: &[u8])
     let _ = put_all(notes, note);
 }
 
-/// The note on a table in which all rows under the first row are blank.
+/// The note on a table without rows, or with only blank rows under the first row.
 const NO_DAY: &str = "the table has no row with a day";
 
-/// The note on a table with a misnamed column, if there are no other words about it.
+/// The note on a table with a misnamed column, if no other line says what is wrong with the columns.
 const MISNAMED: &str = "the name of a column is nearly that of another, which isn't there";
 
 /// Appends the notes on unread columns, on misnamed columns, and on missing columns that every table needs.
@@ -92,7 +92,7 @@ fn push_body_row(
     push_row(note, found, head, number, row)
 }
 
-/// Whether `row` and all rows before it are blank. `blank` says whether all rows before it are.
+/// Whether `row` and all rows before it are blank. `blank` says whether all rows before `row` are blank.
 fn is_still_blank(blank: bool, head: &Head<'_>, row: &ByteRecord) -> bool
     ensures { result ≡ (blank && is_blank_row head.now.columns (fields_of row.now)) }
 {

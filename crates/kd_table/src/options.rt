@@ -1,6 +1,7 @@
-//! Texts that replace blank or missing cells.
+//! The texts of command-line options that replace blank or missing cells.
 
-/// Texts that replace blank or missing cells. An empty text replaces nothing.
+/// The texts of the options `--model`, `--reflector` and `--window`, which replace blank or missing cells. An empty
+/// text replaces no cell.
 #[derive(Drop)]
 pub struct TableOptions<T> {
     /// The name of the model.

@@ -31,7 +31,7 @@ fn pins_at<const N: usize>(
     pins_of_text(ring, text.as_slice())
 }
 
-/// The pins of all six wheels. `one`, `two` and `three` are the pins of the first three wheels.
+/// The pins of all six wheels. Wheels 1 to 3 have the pins `w1`, `w2` and `w3`. The pins of wheels 4 to 6 are in `row`.
 fn pins_after(
     columns: &Columns,
     row: &ByteRecord,
@@ -54,7 +54,7 @@ fn pins_after(
     })
 }
 
-/// The pins of all six wheels.
+/// The pins of all six wheels in a row; `None` if the pins of a wheel can't be read.
 #[tactic(auto, unfolding(crate::specs::PinRow::pins_in))]
 fn pins_in(columns: &Columns, row: &ByteRecord) -> Option<PinSet>
     ensures { result ≡ pins_in columns.now.pins (fields_of row.now) }

@@ -44,8 +44,8 @@ fn ends_cell(separator: u8, byte: u8) -> bool
     byte == separator || byte == 13 || byte == 10
 }
 
-/// The state of quotes after `byte`, which isn't in a quoted cell: `CellStart` if `byte` ends a cell, and otherwise
-/// `otherwise`.
+/// The state of quotes after `byte`, which isn't in a quoted cell. `CellStart` if `byte` ends the cell; if not, the
+/// state `otherwise`.
 fn after_unquoted(separator: u8, byte: u8, otherwise: Quoting) -> Quoting
     ensures { result ≡ (if ends_cell separator byte then Quoting.CellStart else otherwise) }
 {

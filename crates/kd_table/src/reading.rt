@@ -12,7 +12,7 @@ use csv::ByteRecord;
 use kd_state::SheetDay;
 use std::alloc::Global;
 
-/// What was read in the rows under the first row.
+/// The days in the rows under the first row, and whether one of these rows was refused.
 #[derive(Drop)]
 pub struct Reading {
     /// The days of the rows. No two days have the same number.
@@ -60,7 +60,7 @@ fn read_body_row(
     Ok(refused)
 }
 
-/// Reads the rows under the first row.
+/// Reads the rows under the first row: their days, and whether one of the rows is refused.
 pub fn read_body(
     alloc: Global,
     options: &TableOptions<&[u8]>,

@@ -17,7 +17,7 @@ use csv::ByteRecord;
 use kd_state::SheetDay;
 use kd_tables::Model;
 
-/// The columns that are read, except those of pins.
+/// The places of all columns that are read, except the pin columns.
 pub fn places_of(columns: &Columns) -> [Option<usize>; 10]
     ensures { result ≡ places_of columns.now }
 {
@@ -62,7 +62,7 @@ pub fn is_column_read(columns: &Columns, place: usize) -> bool
     is_among(place, &places_of(columns)) || is_among(place, &columns.pins)
 }
 
-/// Whether `row` is blank in these columns.
+/// Whether `row` is blank in each of `columns`.
 fn has_nothing(row: &ByteRecord, columns: &[Option<usize>]) -> bool
     ensures { result ≡ list_all (λ column. is_blank (cell_at column (fields_of row.now))) columns.now }
 {

@@ -32,7 +32,7 @@ struct Taken {
     note: Vec<u8>,
 }
 
-/// Reads the rows `rows` of a table, under the first row `names`.
+/// Reads the rows of a table as days. `names` is the first row, and `rows` are the rows under it.
 fn take_rows(
     alloc: Global,
     options: &TableOptions<&[u8]>,
@@ -108,7 +108,7 @@ fn tell_refused<N: Sink>(
 }
 
 /// Writes the key sheet with the days of `table`. If the table isn't refused, `notes` gets a line for each unread
-/// column, and a warning for each day that has fewer pairs or groups than another day of its model.
+/// column. It also gets a warning for each day that has fewer pairs or groups than another day of its model.
 ///
 /// On `Refused`, the table is refused: nothing is written, and `notes` gets lines about the table's faults. On
 /// `Device`, the sink has taken a prefix of the sheet. On `NoMemory`, nothing is written, and lines may be missing in

@@ -27,7 +27,7 @@ pub enum Refusal {
     Device,
     /// The first line of a card isn't a card's head.
     BadHead,
-    /// A line is missing, or isn't what must come next, such as a setting or the line `SUM`.
+    /// A line of a list or a card is missing, has a wrong form, or is out of order.
     BadLine,
     /// A card has more than 192 settings.
     TooMany,
@@ -98,7 +98,7 @@ pub enum Refusal {
 }
 
 impl Refusal {
-    /// The refusal's number and name.
+    /// The refusal's number and name, for example `6 Device`.
     pub fn name(self) -> &'static str
         ensures value { result.now ≡ refusal_name self }
         ensures short { length result.now ≤ 20 }

@@ -1,4 +1,4 @@
--- The statements of this crate's laws. Typing on a machine's table gives the letters that the machine's keys give.
+-- The statements of this crate's laws. Typing on a machine's table gives the letters that the machine itself gives.
 use Rattle.std.specs.Prelude.{◌≡◌, ◌<◌, List, ℕ, All}
 use Rattle.kd_enigma.specs.Cipher.{RotorKey, enigma_cipher, key_turned}
 use Rattle.kd_drum.specs.Converter.{PinKey, converter_cipher, pin_key_turned}
@@ -6,8 +6,8 @@ use Rattle.kd_typing.specs.PinTable.{pin_table, printed_text}
 use Rattle.kd_typing.specs.TableText.{lines_text, pin_lines, pin_table_in, rotor_lines, rotor_table_in}
 use Rattle.kd_typing.specs.RotorTable.{CanShow, rotor_table, typed_by}
 
--- Typing on the table of a key gives the ciphertext of a machine with this key, whatever letters the windows show at
--- the start.
+-- Typing on the table of a rotor machine gives the machine's own ciphertext, whatever letters the windows show at the
+-- start.
 abbrev pub TypingOnRotorTable : Type 0
 TypingOnRotorTable =
     (key : RotorKey) (window text : List ℕ) → CanShow key window → All (λ letter. letter < 26) text

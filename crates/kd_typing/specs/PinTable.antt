@@ -51,16 +51,18 @@ printed_text table letters (letter ∷ text) =
 
 -- ---- The table of a key.
 
--- whether a wheel is in the set of wheels with number `number`
+-- Whether a set of wheels has this wheel. The set's number has six binary digits, for wheels 1 to 6; 1 means that the
+-- set has the wheel.
 abbrev pub is_in_row : ℕ → ℕ → Bool
 is_in_row number wheel = (nat_le 1 wheel && nat_le wheel 6) && nat_eq (number / 2 ^ (6 - wheel) % 2) 1
 
--- how many bars have a lug at some wheel of the set with number `number`
+-- How many bars have a lug at some wheel of a set. The set's number has six binary digits, for wheels 1 to 6; 1 means
+-- that the set has the wheel.
 abbrev pub bars_met_in_row : List (ℕ × ℕ) → ℕ → ℕ
 bars_met_in_row bars number = count_by (λ bar. is_in_row number bar.0 || is_in_row number bar.1) bars
 
--- The letters that are printed for A to Z while the wheels of the set with number `number`, and no others, have an
--- effective acting pin.
+-- The letters that are printed for A to Z while exactly the wheels of a set have an effective acting pin. The set's
+-- number has six binary digits, for wheels 1 to 6; 1 means that the set has the wheel.
 unfoldable pub pin_row : PinKey → ℕ → List ℕ
 pin_row key number = map (λ letter. (25 + bars_met_in_row key.bars number - letter) % 26) alphabet
 

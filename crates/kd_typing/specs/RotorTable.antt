@@ -27,7 +27,7 @@ pub record RotorTable : Type 0 where
 
 -- ---- Typing on a table.
 
--- the items of all slots except the right slot, whose item `right_slot` has
+-- the items of all slots except the rightmost slot
 abbrev pub core_slots : {X : Type 0} → List X → List X
 core_slots slots = take (length slots - 1) slots
 
@@ -48,8 +48,8 @@ abbrev pub window_by : RotorTable → List ℕ → List ℕ
 window_by table window =
     with_last_moved (slice_index table.steps (26 * letter_in window 1 + letter_in window 0)) window
 
--- The letter that lights up for `key` while the windows show `window`. This letter's own key would lead the current
--- into the core at the place where the current of `key` comes out.
+-- The letter that lights up for `key` while the windows show `window`. The current of `key` comes out of the core at
+-- some place. This letter's own key leads the current into the core at the same place.
 abbrev pub lamp_by : RotorTable → List ℕ → ℕ → ℕ
 lamp_by table window key =
     let into = slice_index_or table.into (letter_in window 0) [] in

@@ -41,7 +41,8 @@ pub(crate) fn around_all(
     }
 }
 
-/// The path in through a wheel, through `core`, and back through the wheel. The wheel's window shows `letter`.
+/// The current's path: in through a wheel, through `core`, and back through the wheel. The wheel's window shows
+/// `letter`.
 fn around_one(core: &[Letter; 26], seated: SheetWheel, letter: Letter) -> [Letter; 26]
     ensures { result ≡ around_one core.now seated letter }
 {

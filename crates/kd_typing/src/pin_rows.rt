@@ -67,7 +67,9 @@ impl PinRows {
     }
 }
 
-/// How many bars have a lug at some wheel of the set with number `number`.
+/// How many bars have a lug at some wheel of the set with the number `number`.
+///
+/// The number has six binary digits, for wheels 1 to 6; 1 means that the set has the wheel.
 fn bars_met(bars: &[Reading; 27], number: usize) -> u8
     ensures value { result ≡ bars_met_in_row bars.now number }
     ensures most { result ≤ 27 }
@@ -81,7 +83,9 @@ fn bars_met(bars: &[Reading; 27], number: usize) -> u8
     met
 }
 
-/// Whether a bar with the reading `bar` has a lug at some wheel of the set with number `number`.
+/// Whether a bar with the reading `bar` has a lug at some wheel of the set with the number `number`.
+///
+/// The number has six binary digits, for wheels 1 to 6; 1 means that the set has the wheel.
 fn is_met(bar: Reading, number: usize) -> bool
     ensures { result ≡ (is_in_row number bar.0 || is_in_row number bar.1) }
 {
@@ -89,7 +93,9 @@ fn is_met(bar: Reading, number: usize) -> bool
     is_in_row(number, smaller) || is_in_row(number, larger)
 }
 
-/// Whether `wheel` is from 1 to 6, and is in the set with number `number`.
+/// Whether `wheel` is from 1 to 6, and is in the set with the number `number`.
+///
+/// The number has six binary digits, for wheels 1 to 6; 1 means that the set has the wheel.
 fn is_in_row(number: usize, wheel: u8) -> bool
     ensures { result ≡ is_in_row number wheel }
 {

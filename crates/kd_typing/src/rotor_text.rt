@@ -34,7 +34,8 @@ impl RotorRows {
         draw_windows(sink, self.wheels());
     }
 
-    /// The line of digits. Each digit says how many wheels move at a key press.
+    /// A line with a digit for each pair of letters in the middle and the right window: how many wheels move at the
+    /// next key press.
     fn steps_line(&self) -> ArrayString<676>
         ensures { result.bytes ≡ digits_text (rotor_table self.now).steps }
     {

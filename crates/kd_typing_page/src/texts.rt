@@ -3,8 +3,8 @@
 
 use kd_pictures::texts::Text;
 
-/// The file's title; its value is the model. Then the policy: it names, by their SHA-256, the only script and the only
-/// style sheet that the page may use. Then the start of the body.
+/// The file's title; its value is the model. The next text is the policy: it names, by their SHA-256, the only script
+/// and the only style sheet that the page may use. The text after the policy is the start of the body.
 pub const TITLE: Text = ("~: typing", "~: Tippen");
 
 pub const POLICY: &str =
@@ -12,8 +12,8 @@ pub const POLICY: &str =
 
 pub const BODY: &str = "</style>\n<body>\n";
 
-/// The head of a rotor machine's page, and the head of a Converter's page. The value is the model. The windows or
-/// wheels follow.
+/// The head of a rotor machine's page; its value is the model. The next text is the head of a Converter's page. The
+/// windows or wheels follow the head.
 pub const ROTOR_HEAD: Text = (
     "<main class=enigma>\n<header><h1>~ <small>Press a key: a lamp shows the letter.</small></h1></header>\n<p id=off>This page needs JavaScript: without it no key works. If this is a preview, open the file in a browser.</p>\n<div>\n<div class=windows role=group aria-label=\"Windows\">\n",
     "<main class=enigma>\n<header><h1>~ <small>Taste drücken: Die Lampe zeigt den Buchstaben.</small></h1></header>\n<p id=off>Diese Seite braucht JavaScript: Ohne JavaScript wirkt keine Taste. Ist dies nur eine Vorschau, die Datei in einem Browser öffnen.</p>\n<div>\n<div class=windows role=group aria-label=\"Fenster\">\n",
@@ -24,8 +24,8 @@ pub const PIN_HEAD: Text = (
     "<main class=alphabet>\n<header><h1>~ <small>Buchstaben drücken: Die Maschine druckt einen.</small></h1></header>\n<p id=off>Diese Seite braucht JavaScript: Ohne JavaScript wirkt keine Taste. Ist dies nur eine Vorschau, die Datei in einem Browser öffnen.</p>\n<div>\n<div class=windows role=group aria-label=\"Räder\">\n",
 );
 
-/// The window of a slot: the text before its letters, the letters, and the text after the letters. The letters are the
-/// same for all slots.
+/// The start of a slot's window, before its letters. The next two texts are the letters, which are the same for all
+/// slots, and the end of the window.
 pub const WINDOW: Text = (
     "<div class=wheel><button type=button value=1 aria-label=\"slot ~: next letter\">▲</button><label><span>slot ~</span><select autocomplete=off aria-label=\"slot ~: window\">",
     "<div class=wheel><button type=button value=1 aria-label=\"Platz ~: nächster Buchstabe\">▲</button><label><span>Platz ~</span><select autocomplete=off aria-label=\"Platz ~: Fenster\">",
@@ -39,7 +39,7 @@ pub const WINDOW_END: Text = (
     "</select><small></small></label><button type=button value=-1 aria-label=\"Platz ~: voriger Buchstabe\">▼</button></div>\n",
 );
 
-/// A pin wheel: the text before its letters, the text for a letter, and the text after the letters.
+/// The start of a pin wheel, before its letters. The next two texts are for one letter, and for the end of the wheel.
 pub const WHEEL: Text = (
     "<div class=wheel><button type=button value=1 aria-label=\"wheel ~: next letter\">▲</button><label><span>wheel ~</span><select autocomplete=off aria-label=\"wheel ~: letter\">",
     "<div class=wheel><button type=button value=1 aria-label=\"Rad ~: nächster Buchstabe\">▲</button><label><span>Rad ~</span><select autocomplete=off aria-label=\"Rad ~: Buchstabe\">",
@@ -52,17 +52,18 @@ pub const WHEEL_END: Text = (
     "</select><small></small></label><button type=button value=-1 aria-label=\"Rad ~: voriger Buchstabe\">▼</button></div>\n",
 );
 
-/// The end of the windows, and the lamps.
+/// The closing tag of the windows, and then the lamps.
 pub const LAMPS: &str =
     "</div>\n<div id=lamps aria-hidden=true>\n<div class=row><b data-lamp=Q><span>Q</span></b><b data-lamp=W><span>W</span></b><b data-lamp=E><span>E</span></b><b data-lamp=R><span>R</span></b><b data-lamp=T><span>T</span></b><b data-lamp=Z><span>Z</span></b><b data-lamp=U><span>U</span></b><b data-lamp=I><span>I</span></b><b data-lamp=O><span>O</span></b></div>\n<div class=row><b data-lamp=A><span>A</span></b><b data-lamp=S><span>S</span></b><b data-lamp=D><span>D</span></b><b data-lamp=F><span>F</span></b><b data-lamp=G><span>G</span></b><b data-lamp=H><span>H</span></b><b data-lamp=J><span>J</span></b><b data-lamp=K><span>K</span></b></div>\n<div class=row><b data-lamp=P><span>P</span></b><b data-lamp=Y><span>Y</span></b><b data-lamp=X><span>X</span></b><b data-lamp=C><span>C</span></b><b data-lamp=V><span>V</span></b><b data-lamp=B><span>B</span></b><b data-lamp=N><span>N</span></b><b data-lamp=M><span>M</span></b><b data-lamp=L><span>L</span></b></div>\n</div>\n";
 
-/// The end of the pin wheels, the knob, and the field for the last letters on the printed tape.
+/// The closing tag of the pin wheels, then the knob, then the field for the last letters on the printed tape.
 pub const KNOB: Text = (
     "</div>\n<fieldset class=knob><legend>Knob</legend><label><input type=radio name=knob value=C autocomplete=off checked><span><b>C</b> encipher</span></label><label><input type=radio name=knob value=D autocomplete=off><span><b>D</b> decipher</span></label></fieldset>\n<div id=strip class=strip aria-hidden=true></div>\n",
     "</div>\n<fieldset class=knob><legend>Knopf</legend><label><input type=radio name=knob value=C autocomplete=off checked><span><b>C</b> verschlüsseln</span></label><label><input type=radio name=knob value=D autocomplete=off><span><b>D</b> entschlüsseln</span></label></fieldset>\n<div id=strip class=strip aria-hidden=true></div>\n",
 );
 
-/// The line for reports. Then the keys of a rotor machine, and the keys of a Converter.
+/// The line for reports, and the start of the keys. The next two texts are the keys of a rotor machine, and the keys of
+/// a Converter.
 pub const KEYS: Text = (
     "<p id=told role=status></p>\n<div id=keys role=group aria-label=\"Keys\">\n",
     "<p id=told role=status></p>\n<div id=keys role=group aria-label=\"Tasten\">\n",
@@ -74,7 +75,8 @@ pub const ROTOR_KEYS: &str =
 pub const PIN_KEYS: &str =
     "<div class=row><button type=button value=A><span>A</span></button><button type=button value=B><span>B</span></button><button type=button value=C><span>C</span></button><button type=button value=D><span>D</span></button><button type=button value=E><span>E</span></button><button type=button value=F><span>F</span></button><button type=button value=G><span>G</span></button><button type=button value=H><span>H</span></button><button type=button value=I><span>I</span></button><button type=button value=J><span>J</span></button><button type=button value=K><span>K</span></button><button type=button value=L><span>L</span></button><button type=button value=M><span>M</span></button><button type=button value=N><span>N</span></button><button type=button value=O><span>O</span></button><button type=button value=P><span>P</span></button><button type=button value=Q><span>Q</span></button><button type=button value=R><span>R</span></button><button type=button value=S><span>S</span></button><button type=button value=T><span>T</span></button><button type=button value=U><span>U</span></button><button type=button value=V><span>V</span></button><button type=button value=W><span>W</span></button><button type=button value=X><span>X</span></button><button type=button value=Y><span>Y</span></button><button type=button value=Z><span>Z</span></button></div>\n";
 
-/// The buttons, the tape, and the field for a whole text.
+/// The buttons, the tape, and the field for a whole text, on a rotor machine's page. The next text is for a Converter's
+/// page.
 pub const ROTOR_TAPE: Text = (
     "</div>\n<p class=buttons><button type=button id=undo>Undo</button><button type=button id=back>To the start</button><button type=button id=copy>Copy</button><button type=button id=clear>Clear</button></p>\n</div>\n<section>\n<h2>Tape <small>letters: <b id=count>0</b></small></h2>\n<div id=tape tabindex=0 role=group aria-label=\"Tape\"></div>\n<details id=whole><summary>Type a whole text</summary>\n<textarea id=text aria-label=\"Text\" autocomplete=off spellcheck=false></textarea>\n<button type=button id=go>Type it</button> <span class=note>A to Z; spaces and line ends are left out.</span></details>\n",
     "</div>\n<p class=buttons><button type=button id=undo>Rückgängig</button><button type=button id=back>Zum Anfang</button><button type=button id=copy>Kopieren</button><button type=button id=clear>Löschen</button></p>\n</div>\n<section>\n<h2>Streifen <small>Buchstaben: <b id=count>0</b></small></h2>\n<div id=tape tabindex=0 role=group aria-label=\"Streifen\"></div>\n<details id=whole><summary>Einen ganzen Text eingeben</summary>\n<textarea id=text aria-label=\"Text\" autocomplete=off spellcheck=false></textarea>\n<button type=button id=go>Eintippen</button> <span class=note>A bis Z; Zwischenräume und Zeilenenden fallen weg.</span></details>\n",
@@ -85,7 +87,8 @@ pub const PIN_TAPE: Text = (
     "</div>\n<p class=buttons><button type=button id=undo>Rückgängig</button><button type=button id=back>Zum Anfang</button><button type=button id=copy>Kopieren</button><button type=button id=clear>Löschen</button></p>\n</div>\n<section>\n<h2>Streifen <small>Buchstaben: <b id=count>0</b></small></h2>\n<div id=tape tabindex=0 role=group aria-label=\"Streifen\"></div>\n<details id=whole><summary>Einen ganzen Text eingeben</summary>\n<textarea id=text aria-label=\"Text\" autocomplete=off spellcheck=false></textarea>\n<button type=button id=go>Eintippen</button> <span class=note>A bis Z; bei C wird jeder Zwischenraum zu Z, Zeilenenden fallen weg.</span></details>\n",
 );
 
-/// The setting of a rotor machine: the words before its reflector and its wheels, and the word before its cables.
+/// The setting of a rotor machine: the words before its reflector and its wheels. The next text is the word before its
+/// cables.
 pub const ROTOR_SETTING: Text = (
     "<details><summary>How the machine is set</summary><p>At the start, from the left: ",
     "<details><summary>Wie die Maschine eingestellt ist</summary><p>Am Anfang, von links: ",
@@ -93,8 +96,9 @@ pub const ROTOR_SETTING: Text = (
 
 pub const CABLES: Text = (".<br>Cables: ", ".<br>Steckerverbindungen: ");
 
-/// The setting of a Converter: the words before the letters of its wheels, before the effective pins, before the pins
-/// of each wheel, and before the bars. Then the text for a bar, and the end of the setting.
+/// The setting of a Converter: the words before the letters of its wheels. The next three texts stand before the
+/// effective pins, before the pins of each wheel, and before the bars. Then come the text of a bar, and the end of the
+/// setting.
 pub const PIN_SETTING: Text = (
     "<details><summary>How the machine is set</summary><p>Letters at the start: ",
     "<details><summary>Wie die Maschine eingestellt ist</summary><p>Buchstaben am Anfang: ",
@@ -110,8 +114,8 @@ pub const BAR: &str = " <b>~-~</b>";
 
 pub const SETTING_END: &str = ".</p></details>\n</section>\n</main>\n";
 
-/// The data for the script: the text before the letters that the machine shows. Then the script's words for a rotor
-/// machine, and for a Converter. The table stands after these words.
+/// The start of the data for the script, before the letters that the machine shows. The next two texts are the script's
+/// words for a rotor machine, and for a Converter. The table stands after these words.
 pub const START: &str = "<script type=\"application/json\" id=data>{\"start\": \"";
 
 pub const ROTOR_WORDS: Text = (
@@ -124,7 +128,7 @@ pub const PIN_WORDS: Text = (
     "\", \"words\": {\"lit\": \"Buchstabe %s, gedruckt: %s\", \"blank\": \"Zwischenraum\", \"nokey\": \"Die Maschine hat keine Taste „%s“: nichts getippt.\", \"space\": \"Bei D fällt ein Zwischenraum weg.\", \"bad\": \"Nichts getippt: Zeichen %s ist „%s“. Ä als AE, ß als SS, Zahlen in Worten schreiben.\", \"long\": \"Nichts getippt: Der Text hat mehr als 5000 Buchstaben.\", \"empty\": \"Es ist kein Buchstabe zu tippen.\", \"typed\": \"Getastete Buchstaben: %s.\", \"undone\": \"Zurückgenommen: %s. Die Fenster zeigen %s.\", \"nothing\": \"Auf dem Streifen steht kein Buchstabe.\", \"back\": \"Die Fenster zeigen %s, wie in der Datei.\", \"cleared\": \"Der Streifen ist leer.\", \"copied\": \"Kopierte Buchstaben: %s.\", \"byhand\": \"Der Browser kann nicht kopieren. Die Buchstaben sind unten markiert.\"}}</script>\n<script type=\"text/plain\" id=table>",
 );
 
-/// The end of the table. Then the end of the script and of the file.
+/// The end of the table, and the start of the script. The next text is the end of the script and of the file.
 pub const SCRIPT_HEAD: &str = "</script>\n<script>";
 
 pub const FOOT: &str = "</script>\n";

@@ -96,8 +96,8 @@ fn decipher_pin_body(
 
 /// Deciphers `letters`, the body of the part with the heading `heading`.
 ///
-/// A body that is too long may be cut short, if `letters` are still more than any heading allows. The fault is
-/// `CountWrong` either way.
+/// If a body is too long, `letters` may lack its end, but must be more letters than any heading allows. The fault is
+/// then `CountWrong`, as it is for the whole body.
 pub(crate) fn decipher_body(
     day: &SheetDay,
     heading: &Heading,

@@ -17,13 +17,13 @@ use arrayvec::ArrayVec;
 use kd_state::{SheetDay, is_word};
 use kd_tables::Letter;
 
-/// The number of a body's letters that are kept.
+/// The reader keeps at most this number of a body's letters.
 ///
 /// A body has at most 520 letters. One letter more shows that the body is too long. Four letters more may be the `PART`
 /// of the next heading.
 const KEPT_LETTERS: usize = 525;
 
-/// The number of letters of the next heading line that are kept with a body's letters: the four letters of `PART`.
+/// The number of letters in `PART`. If a heading line follows a body, these letters are kept with the body's letters.
 pub(crate) const HEADING_LETTERS: usize = 4;
 
 /// The number of bytes of a line that are kept: enough to see whether the line is a heading line.
@@ -72,10 +72,10 @@ impl PartBody {
         keep_byte(&mut self.line, byte);
     }
 
-    /// Deciphers the body into `output`, but leaves out the body's last letters; `others` is their number.
+    /// Deciphers the body's letters into `output`, without the last `others` letters.
     ///
-    /// These last letters belong to the next heading. Not inlined: otherwise every byte read would pay for this
-    /// function's stack frame.
+    /// The last `others` letters belong to the next heading line. Not inlined: otherwise every byte read would pay for
+    /// this function's stack frame.
     #[inline(never)]
     pub(crate) fn decipher_into(
         &self,

@@ -19,7 +19,7 @@ use kd_tables::Letter;
 pub(crate) struct PartWriter {
     /// The letters collected for the next part, at most `part_size`.
     letters: ArrayVec<Letter, 500>,
-    /// How many letters the text has so far.
+    /// How many letters of the text have been read.
     count: usize,
     /// How many parts have been made.
     written: u8,

@@ -55,7 +55,7 @@ impl ItemText for Standing {
     }
 }
 
-/// A wheel of a day: the wheel's name, without ring and letter.
+/// A wheel of a day is written as the wheel's name, without ring and letter.
 impl ItemText for SheetWheel {
     ghost item_text = { λ w. wheel_text w.wheel };
 
@@ -75,7 +75,7 @@ impl ItemText for (Letter, Letter) {
     }
 }
 
-/// A group of three letters.
+/// A group is written as a text of three letters.
 impl ItemText for [Letter; 3] {
     ghost item_text = { letters_text };
 

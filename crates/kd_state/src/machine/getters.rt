@@ -79,7 +79,7 @@ impl Machine {
         }
     }
 
-    /// Whether the pin at `letter` of pin wheel `wheel` is effective. `None` if there is no pin there.
+    /// Whether the pin at `letter` of pin wheel `wheel` is effective. `None` if there is no such pin.
     ///
     /// Pin wheels are counted from 1.
     pub fn pin_at(&self, wheel: u8, letter: Letter) -> Option<bool>

@@ -16,7 +16,7 @@ pub(crate) fn is_on_wheel(wheel: u8, letter: Letter) -> bool
     place_on_wheel(wheel, letter).is_some()
 }
 
-/// Whether the pin at `letter` of pin wheel `wheel` is effective. `None` if there is no pin there.
+/// Whether the pin at `letter` of pin wheel `wheel` is effective. `None` if there is no such pin.
 pub(crate) fn pin_at(pins: &PinSet, wheel: u8, letter: Letter) -> Option<bool>
     ensures { result ≡ pin_at pins.now wheel letter }
 {

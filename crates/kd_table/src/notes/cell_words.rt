@@ -87,7 +87,7 @@ fn count_words(lines: &mut Words, found: usize, count: usize, one: &str, many: &
     lines.end();
 }
 
-/// Says what is wrong with a day.
+/// Says that `text` is blank, or isn't a day from 1 to 31. Says nothing if `text` is a day.
 pub fn day_words(lines: &mut Words, text: &[u8]) {
     if is_blank(text) {
         lines.tell(NOTHING);

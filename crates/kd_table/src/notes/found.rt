@@ -1,4 +1,4 @@
-//! What was found in the rows so far, for the notes on later rows.
+//! The days and the models in the rows so far, for the notes on later rows.
 use super::cell_words::day_words;
 use super::head::Head;
 use super::head_words::missing_of_model;
@@ -9,7 +9,7 @@ use arrayvec::ArrayVec;
 use csv::ByteRecord;
 use kd_tables::Model;
 
-/// What was found in the rows so far, for the notes on later rows.
+/// The days and the models in the rows so far, for the notes on later rows.
 #[derive(Drop)]
 pub struct Found {
     /// For each day, the number of the first row with this day; 0 if no row has this day.

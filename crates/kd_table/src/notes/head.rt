@@ -4,8 +4,8 @@ use crate::options::TableOptions;
 use csv::ByteRecord;
 use std::alloc::Global;
 
-/// The values that are the same for the notes on each row of a table: the options, the columns, and the first row,
-/// which has the columns' names.
+/// The options, the columns and the first row of a table, for the notes on each row. The first row has the columns'
+/// names.
 #[derive(Drop)]
 pub struct Head<'a> {
     alloc: Global,

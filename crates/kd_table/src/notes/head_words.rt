@@ -23,7 +23,7 @@ static OFTEN_NAMED: [Cell; 5] = [
 ];
 
 /// Names the misnamed columns, and the columns that every table needs, but this table lacks. If the first row has no
-/// column names, and none is nearly such a name, says why.
+/// column names, not even misnamed ones, says why.
 pub fn head_words(head: &Head<'_>) -> Words {
     let mut lines = Words::new();
     for cell in &ALL_CELLS {
@@ -47,8 +47,8 @@ pub fn missing_of_model(head: &Head<'_>, model: Model) -> Words {
     lines
 }
 
-/// Asks whether a column with nearly the right name is meant to be the column of `cell`. Says nothing if the table has
-/// the column of `cell`, or if there is no such column.
+/// Asks whether an unread column is meant to be the column of `cell`. Says nothing if the table has the column of
+/// `cell`, or if no unread column nearly has its name.
 fn tell_near(lines: &mut Words, head: &Head<'_>, cell: Cell) {
     if column_of(head.columns(), cell).is_none()
         && let Some(column) = near_column(head.columns(), head.names(), cell)
@@ -103,7 +103,7 @@ fn says_separator(cell: &[u8]) -> bool {
     is_named("sep=", start)
 }
 
-/// The name of the column of `cell` that `name` nearly is.
+/// The name of the column of `cell` that `name` nearly equals: English, German or short German.
 fn meant_name(cell: Cell, name: &[u8]) -> &'static str {
     if is_near_name(name, english_name(cell)) {
         english_name(cell)
@@ -151,7 +151,7 @@ fn name_of(head: &Head<'_>, cell: Cell) -> &'static str {
     }
 }
 
-/// Whether a column that most tables have has a German name in this table.
+/// Whether this table has a German name for one of the columns that most tables have.
 fn is_german(head: &Head<'_>) -> bool {
     for cell in &OFTEN_NAMED {
         let name = cell_at(head.names(), column_of(head.columns(), *cell));

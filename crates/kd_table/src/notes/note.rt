@@ -54,8 +54,8 @@ pub fn push_words(note: &mut Vec<u8>, place: &[u8], words: &Words) -> Result<(),
     push_lines(note, place, words.as_slice())
 }
 
-/// Appends the lines of `words`, with the place before each line. If there are no words, but a line has to be there
-/// (`is_due`), appends the line `otherwise`.
+/// Appends the lines of `words`, with the place before each line. If there are no words and `is_due` is true, appends
+/// the line `otherwise`.
 pub fn push_due_words(
     note: &mut Vec<u8>,
     place: &[u8],
@@ -76,7 +76,8 @@ pub fn push_due_words(
     Ok(())
 }
 
-/// Appends the bytes as they are shown.
+/// Appends `bytes`, with `?` for each byte that can't be printed. If `is_long`, `?` also stands for each byte outside
+/// of ASCII.
 fn push_shown_bytes(note: &mut Vec<u8>, is_long: bool, bytes: &[u8]) -> Result<(), SpreadsheetFault>
     ensures { IfOk result (λ _. note.new.items
         ≡ note.old.items ++ map (shown_byte is_long) bytes.now) }
@@ -88,7 +89,8 @@ fn push_shown_bytes(note: &mut Vec<u8>, is_long: bool, bytes: &[u8]) -> Result<(
     Ok(())
 }
 
-/// Appends a cell as it is shown. If the cell is long, only its start is shown.
+/// Appends the text of `cell`, with `?` for each byte that can't be printed. Of a cell with more than 60 bytes, appends
+/// only the start, and then `...`.
 pub fn push_shown(note: &mut Vec<u8>, cell: &[u8]) -> Result<(), SpreadsheetFault>
     ensures { IfOk result (λ _. note.new.items ≡ note.old.items ++ shown cell.now) }
 {
@@ -135,7 +137,7 @@ pub fn row_place(alloc: Global, number: u64, day: Option<u8>) -> Result<Vec<u8>,
     Ok(place)
 }
 
-/// The name of the option that replaces a cell; empty if there is none.
+/// The name of the option that replaces a blank `cell`, such as `--model`; empty if `cell` has no option.
 pub fn option_name(cell: Cell) -> &'static str
     ensures { result.now ≡ option_name cell }
 {
@@ -147,7 +149,8 @@ pub fn option_name(cell: Cell) -> &'static str
     }
 }
 
-/// Appends the name of a cell's column in the table. If there is no such column, appends the name of its option.
+/// Appends the name of the cell's column in the table. If the table lacks the column, appends the name of the cell's
+/// option, such as `--model`.
 fn push_cell_name(place: &mut Vec<u8>, head: &Head<'_>, cell: Cell) -> Result<(), SpreadsheetFault>
     ensures { IfOk result (λ _. place.new.items
         ≡ place.old.items ++ cell_name head.now.columns head.now.names cell) }

@@ -6,7 +6,7 @@ ghost use Rattle.kd_table.specs.RowNumbers.{ends_line, numbers_from, numbers_lef
 
 use crate::quotes::Quoting;
 
-/// The rest of a table, and the number of its first row.
+/// The rows of a table that are still to be read, and the number of the first of these rows.
 #[derive(Drop)]
 pub struct RowNumbers<'a> {
     separator: u8,
@@ -15,7 +15,7 @@ pub struct RowNumbers<'a> {
 }
 
 impl<'a> RowNumbers<'a> {
-    /// The whole of `table`, whose first row has the number 1.
+    /// Begins at the start of `table`, whose first row has the number 1.
     pub fn new(separator: u8, table: &'a [u8]) -> Self
         ensures left { numbers_left result ≡ numbers_from separator (AtStart false) 1 table.now }
         ensures counted { IsCounted result }
@@ -27,7 +27,7 @@ impl<'a> RowNumbers<'a> {
         }
     }
 
-    /// The number of the next row that isn't empty.
+    /// Moves past the next row that isn't empty, and returns the row's number.
     pub fn next_row(&mut self) -> u64
         requires { IsCounted self.old }
         ensures next { IsNext (numbers_left self.old) result (numbers_left self.new) }

@@ -13,7 +13,7 @@ use kd_slips::counts::{DayCounts, counts_of, few_lines};
 use kd_state::SheetDay;
 use std::alloc::Global;
 
-/// The numbers of pairs and groups of these days.
+/// For each of `days`, its number of pairs and its number of groups.
 fn counts_of_days(alloc: Global, days: &[SheetDay]) -> Result<Vec<DayCounts>, SpreadsheetFault>
     ensures { IfOk result (λ counts. counts.items ≡ map counts_of days.now) }
 {

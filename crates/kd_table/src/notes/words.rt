@@ -8,10 +8,10 @@ use itoa::Buffer;
 /// The greatest number of bytes that are shown of a cell.
 const SHOWN: usize = 60;
 
-/// The greatest number of bytes that lines of words may have.
+/// Once the lines have this many bytes, further lines are left out.
 const ROOM: usize = 2048;
 
-/// The last line, which stands there if there is no room for all lines.
+/// The last line, if further lines are left out because there is no room.
 const MORE: &[u8] = b"\nfurther faults aren't told";
 
 /// Lines of words, with line ends between them. If there is no room for a line, this line and all later lines are left
@@ -115,7 +115,7 @@ impl Words {
     }
 }
 
-/// The byte of a cell as it is shown. `?` stands for a byte that can't be printed and, in a long cell, for each byte
+/// The byte that a note shows for `byte`: `?` if `byte` can't be printed. In a long cell, `?` also stands for each byte
 /// outside of ASCII.
 pub fn shown_byte(is_long: bool, byte: u8) -> u8
     ensures { result ≡ shown_byte is_long byte }

@@ -14,7 +14,7 @@ use thiserror::Error;
 pub struct Device;
 
 impl Device {
-    /// The refusal's number and name.
+    /// The text of the refusal: `6 Device`.
     pub fn text(&self) -> Text
         ensures { result.bytes ≡ refusal_name Refusal.Device }
     {
