@@ -75,7 +75,7 @@ abbrev pub IsPartTest : Day → Option PartNumbers → List (Option ℕ) → Gro
 IsPartTest s None body test = test ≡ NotTested
 IsPartTest s (Some numbers) body test = IsBodyTest s numbers.letters body test
 
--- The answer for the body of a part with the heading `h`.
+-- The answer for the body of a part with the heading `h`: the text, or the first reason why it can't be read.
 abbrev pub IsDamagedBodyAnswer : Day → Heading → List ℕ → AnswerRule PartDamage DamagedText
 IsDamagedBodyAnswer s h body = do
   _ ← Demands (All (λ byte. IsTrue (is_body_byte byte)) body) BadByte

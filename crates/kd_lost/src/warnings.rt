@@ -54,7 +54,7 @@ fn front_letters(day: &SheetDay) -> usize
     }
 }
 
-/// The letters, if none is lost.
+/// The letters of `received`; `None` if one of them is lost.
 fn known_letters(received: &[Option<Letter>]) -> Option<ArrayVec<Letter, 3>>
     requires { length received.now ≤ 3 }
     ensures { MatchOption result
