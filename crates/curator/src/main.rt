@@ -19,7 +19,8 @@ fn main(rt: HostRuntime) -> ExitCode {
 
 /// Runs the program on the host's files, folders and standard output, and returns the exit status.
 ///
-/// The call is here, and not in `main`: the prover can't handle a lifetime that `main` infers in the call's type.
+/// `run_curator` is called here, and not in `main`. In `main`, the call's type would have an inferred lifetime, which
+/// the prover can't handle.
 fn run_on_host<E: Sink>(
     rt: &HostRuntime,
     language: Language,

@@ -30,9 +30,9 @@ pub record IsSolvedUpTo (n : ℕ) (cost : List (List ℕ)) (prices : List ℤ)
   pub seated : (i : ℕ) → i < next → IsRowAssigned holders i
   pub count : count_by is_some holders ≡ next
   pub cheapest : (i j : ℕ) → IsColumnTakenBy holders j i → IsCheapestColumn n cost prices i j
-  -- each free column has price 0; some column has price 0, even if no column is free
+  -- each free column has price 0; if no column is free, some column still has price 0
   pub free : (j : ℕ) → j < n → IsColumnFree holders j → price_at prices j ≡ pos 0
   pub zero : (j : ℕ) × (j < n) × (price_at prices j ≡ pos 0)
-  -- no price is above 0; no price is below -4 times the number of rows that have columns
+  -- each price is at most 0, and at least -4 times the number of rows that have columns
   pub high : (j : ℕ) → j < n → price_at prices j ≤ℤ pos 0
   pub low : (j : ℕ) → j < n → pos 0 ≤ℤ (price_at prices j +ℤ pos (4 * next))

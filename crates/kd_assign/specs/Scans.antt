@@ -1,4 +1,4 @@
--- How often columns are compared with rows, while `n` trees give `n` rows their columns.
+-- How many comparisons of a column with a row are made, while `n` trees give `n` rows their columns.
 use Rattle.std.specs.Prelude.{ℕ, zero, suc, ◌+◌, ◌-◌, ◌*◌, ◌/◌, ◌≤◌}
 
 -- The number of comparisons, `scans`, is at least `n * n`: one for each cell of the table. It is at most 1 + 4 + ... +
@@ -9,7 +9,8 @@ pub record IsScanCount (n scans : ℕ) : Type 0 where
 
 -- ---- Of one tree. No public contract cites this definition.
 
--- the number of comparisons for a tree of `rows` rows: `n` for the first row, `n - 1` for the second, and so on
+-- the number of comparisons for a tree of `rows` rows, in a table of `n` columns: `n` for the first row, `n - 1` for
+-- the second, and so on
 abbrev pub scans_of_tree : ℕ → ℕ → ℕ
 scans_of_tree n zero = 0
 scans_of_tree n (suc rows) = scans_of_tree n rows + (n - rows)

@@ -23,8 +23,8 @@ ArePages l sheet m (plan ∷ plans) text = (n : Parts) × (more : List ℕ) × L
 abbrev pub listed_day : DayPlan → ListedDay
 listed_day plan = record { day = plan.day; settings = length plan.settings.items }
 
--- The text is the file with the pages of these days in language `l`: the list of the days, then the pages. `sheet` is
--- the name of the key sheet's file. The first page is for machine `m`.
+-- The text is the file with the pages of the planned days `first` and `others`, in language `l`. The list of the days
+-- comes first, then the pages. `sheet` is the name of the key sheet's file. The first page is for machine `m`.
 pub record IsBooklet (l : Language) (sheet : List ℕ) (m : Parts) (first : DayPlan) (others : List DayPlan)
     (text : List ℕ) : Type 0 where
   pub pages : List ℕ

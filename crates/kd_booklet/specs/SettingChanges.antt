@@ -22,7 +22,7 @@ abbrev pub lug_at : Parts → ℕ → Lug → Option Place
 lug_at m bar Left = option_map (λ standing. standing.0) (machine_standing m bar)
 lug_at m bar Right = option_map (λ standing. standing.1) (machine_standing m bar)
 
--- A list of settings gives a thing the value `due`, which the thing didn't have before the list.
+-- After a list of settings, a thing has the value `due`. Before the list, the thing had another value.
 abbrev pub Becomes : {A : Type 0} → A → A → A → Type 0
 Becomes before after due = (before ≢ due) × (after ≡ due)
 
@@ -35,9 +35,9 @@ WindowTurns (Rotor m) n number letter =
 WindowTurns (Pin m) n number letter =
     Becomes (machine_pin_letter (Pin m) number) (machine_pin_letter n number) (Some letter)
 
--- `m` is the machine before a list of settings, and `n` is the machine after the list. On `n`, the thing that the
--- setting sets is as the setting says; on `m`, it isn't. A page marks this difference, unless the thing is a
--- Converter's letter.
+-- `m` is the machine before a list of settings, and `n` is the machine after the list. The setting sets one thing. On
+-- `n`, this thing is as the setting says; on `m`, the thing is different. A page marks this difference, unless the
+-- thing is a Converter's letter.
 abbrev pub Changes : Parts → Parts → Setting → Type 0
 Changes m n (RingTo wheel letter) = Becomes (machine_ring m wheel) (machine_ring n wheel) (Some letter)
 Changes m n (SeatReflector reflector) = Becomes (machine_reflector m) (machine_reflector n) (Some reflector)

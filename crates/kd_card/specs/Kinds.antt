@@ -37,7 +37,7 @@ IsPairInOrder (Some pair) = (pair.0 < pair.1) × (pair.1 < 26)
 
 -- ---- the four sorts of kinds
 
--- The form of kinds of one sort on a card: of cables, columns, bars or rows.
+-- How a card writes kinds of one sort: of cables, of columns, of bars or of rows.
 -- - `word`: the first word of each line.
 -- - `kind`: a kind's key (letters, a standing or a reading), its count and its price.
 -- - `text`: the text of a key, such as `AB`.
@@ -50,7 +50,7 @@ pub record KindFormat (K X : Type 0) : Type 1 where
   pub InForm : X → Type 0
   pub order : X → List ℕ
 
--- the form of kinds of cables on a card; the key of a kind is its cables' letters
+-- how a card writes kinds of cables; the key of a kind is the letters of its cables
 abbrev pub cable_format : KindFormat CableKind (Option ℕ × Option ℕ)
 cable_format = record {
   word = codes "CABLE";
@@ -60,7 +60,7 @@ cable_format = record {
   order = λ ends. one_unless (is_some ends.0) ∷ cable_letters ends;
 }
 
--- the form of kinds of columns on a card; the key of a kind is its columns' pair, or `None`
+-- how a card writes kinds of columns; the key of a kind is the pair of its columns, or `None` for empty columns
 abbrev pub pair_format : KindFormat PairKind (Option (ℕ × ℕ))
 pair_format = record {
   word = codes "PAIR";
@@ -70,7 +70,7 @@ pair_format = record {
   order = λ pair. one_unless (is_some pair) ∷ column_letters pair;
 }
 
--- the form of kinds of bars on a card; the key of a kind is the places of the two lugs
+-- how a card writes kinds of bars; the key of a kind is the places of the two lugs
 abbrev pub bar_format : KindFormat BarKind (Place × Place)
 bar_format = record {
   word = codes "BAR";
@@ -80,7 +80,7 @@ bar_format = record {
   order = λ standing. place_rank standing.0 ∷ place_rank standing.1 ∷ [];
 }
 
--- the form of kinds of rows on a card; the key of a kind is the two numbers of the reading
+-- how a card writes kinds of rows; the key of a kind is the two numbers of the reading
 abbrev pub row_format : KindFormat RowKind (ℕ × ℕ)
 row_format = record {
   word = codes "ROW";
@@ -143,8 +143,8 @@ pub record IsGroup {K X : Type 0} (format : KindFormat K X) (number : ℕ) (kind
 abbrev pub expansion : {X : Type 0} → List (KindOf X) → List (X × ℤ)
 expansion kinds = flat_map (λ kind. replicate kind.count (kind.key, kind.price)) kinds
 
--- If each kind's key and price are repeated as often as its count says, the result is `keys` with their `prices`, in
--- some order.
+-- Each kind's key and price are repeated as often as the kind's count says. The result is `keys` with their `prices`,
+-- in some order.
 -- Code: `kinds_of` sorts keys with their prices, and counts equal neighbours. For each key, `prices_of` takes its
 -- kind's price, and lowers the kind's count.
 pub record AreKindsOf {K X : Type 0} (format : KindFormat K X) (keys : List X) (prices : List ℤ) (kinds : List K)

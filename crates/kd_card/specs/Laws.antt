@@ -62,8 +62,8 @@ ProvingPricesShow =
     (machine : Parts) (day : Day) (settings : List Setting) (prices : PriceParts) → version_of prices ≡ ByKind
     → Proves machine day settings prices → ShowShortest machine day settings prices
 
--- If a card with prices by number proves itself, none of its prices can be raised alone. In each row and in each column
--- of the table of costs, one cell's cost is the sum of its row's price and its column's price.
+-- If a card with prices by number proves itself, none of its prices can be raised alone. Each row and each column of
+-- the table of costs has a tight cell. In a tight cell, the prices of row and column add up to exactly the cost.
 abbrev pub ProvingPricesAreTight : Type 0
 ProvingPricesAreTight =
     (machine : Parts) (day : Day) (settings : List Setting) (prices : PriceParts) → IsMachine machine → IsLegalDay day

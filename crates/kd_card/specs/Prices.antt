@@ -77,8 +77,8 @@ abbrev pub IsPriceTightAt : List (List ℕ) → PriceParts → ℕ → ℕ → T
 IsPriceTightAt costs prices i j =
     (price_at (machine_prices prices) i +ℤ price_at (day_prices prices) j) ≡ pos (cost_at costs i j)
 
--- In each row and in each column of the table of costs, one cell's cost is the sum of its row's price and its column's
--- price.
+-- Each row and each column of the table of costs has a tight cell. In a tight cell, the prices of row and column add up
+-- to exactly the cost.
 pub record ArePricesTight (costs : List (List ℕ)) (prices : PriceParts) : Type 0 where
   pub column_of : (i : ℕ) → i < table_size prices → (j : ℕ) × (j < table_size prices) × IsPriceTightAt costs prices i j
   pub row_of : (j : ℕ) → j < table_size prices → (i : ℕ) × (i < table_size prices) × IsPriceTightAt costs prices i j

@@ -11,7 +11,7 @@ use thiserror::Error;
 pub enum CardFault {
     /// The first line has no LF, or isn't like `CARD 2 DAY 31`. The version is 1 or 2, and the day is from 1 to 31.
     BadHead,
-    /// The line with this number is missing, has no LF, or doesn't have the form that is expected there.
+    /// The line with this number is missing, has no LF, has a wrong form, or is out of order.
     BadLine(usize),
     /// There are more than 192 settings.
     TooMany,

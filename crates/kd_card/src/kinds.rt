@@ -56,8 +56,7 @@ pub struct RowKind {
     pub price: i16,
 }
 
-/// A kind: the key of equal cables, columns, bars or rows (letters, standing or reading), their count, and the price of
-/// each.
+/// A kind of cables, columns, bars or rows: its key (letters, standing or reading), its count, and the price of each.
 #[derive(Clone, Copy, Default)]
 pub struct KindOf<T> {
     pub key: T,
@@ -73,7 +72,7 @@ pub trait Kind: Copy + Default {
     /// The key of a kind: what its cables, columns, bars or rows have in common, such as their letters.
     type Key: Copy + Default;
 
-    /// The form of the kinds of this type on a card, and their order.
+    /// How a card writes the kinds of this type, and in which order.
     ghost format: { KindFormat Self Self.Key };
 
     /// The first word of a kind's line on a card: `CABLE`, `PAIR`, `BAR` or `ROW`.
@@ -372,7 +371,7 @@ fn two_letters(text: &[u8]) -> Option<(Letter, Letter)>
     }
 }
 
-/// Whether `kind` comes after the kind `last` in the order of a card's lines. If `last` is `None`, any kind does.
+/// Whether `kind` comes after the kind `last` in the order of a card's lines; `true` if `last` is `None`.
 pub(crate) fn comes_after<K: Kind>(last: Option<K>, kind: &K) -> bool
     ensures { IsTrue result ↔ ComesAfter K.format last kind.now }
 {

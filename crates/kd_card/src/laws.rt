@@ -70,8 +70,8 @@ pub fn proving_prices_show()
 
 /// If a card with prices by number proves itself, no price can be raised alone: the prices would no longer fit.
 ///
-/// The reason: in each row and in each column of the table of costs, one cell's cost is the sum of its row's price and its
-/// column's price.
+/// The reason: each row and each column of the table of costs has a tight cell. In a tight cell, the prices of row and
+/// column add up to exactly the cost.
 #[tactic(auto, using(crate::proofs::Months::proving_prices_are_tight))]
 pub fn proving_prices_are_tight()
     ensures { ProvingPricesAreTight }

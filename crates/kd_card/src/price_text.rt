@@ -47,11 +47,10 @@ pub(crate) fn price_of_text(text: &[u8]) -> Option<i16>
     (price.unsigned_abs() <= 9999 && is_written_so).then_some(price)
 }
 
-/// Splits `text` into the first word, the rest of the first line (`None` if this line has no space), and the next
-/// lines.
+/// Splits `text` into three pieces: the first word, the rest of the first line, and the next lines.
 ///
-/// If `text` is empty, the fault is `PriceMissing`. If the first line, which is line `line` of the card, has no LF, the
-/// fault is `BadLine`.
+/// The rest of the first line is `None` if this line has no space. If `text` is empty, the fault is `PriceMissing`. If
+/// the first line, which is line `line` of the card, has no LF, the fault is `BadLine`.
 pub(crate) fn split_first_word(
     text: &[u8],
     line: usize,

@@ -63,7 +63,7 @@ pub enum PriceParts {
     BarKinds(ArrayVec<BarKind, 27>, ArrayVec<RowKind, 27>),
 }
 
-/// Valid prices of a card: each price is from -9999 to 9999, and any kinds are valid.
+/// Valid prices of a card: each price is from -9999 to 9999. If the prices are by kind, the kinds are valid, too.
 #[derive(Drop)]
 pub struct Prices {
     parts: PriceParts,

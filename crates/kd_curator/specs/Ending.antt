@@ -57,7 +57,7 @@ abbrev pub blame_of : Result (Unit {0}) Stop → Option Blame
 blame_of (Err (stops.Refused refused)) = refused.blame
 blame_of _ = None
 
--- the program's answer, if its command gave this answer; a refusal becomes a `Stop`
+-- the program's answer, made from its command's answer; a refusal becomes a `Stop`
 abbrev pub stop_after : Result (Unit {0}) Refused → Result (Unit {0}) Stop
 stop_after (Ok done) = Ok done
 stop_after (Err refused) = Err (stops.Refused refused)

@@ -40,10 +40,10 @@ unborrowed_names names = map (λ name. name.now) names
 
 -- ---- What inner functions read. No public contract cites these definitions.
 
--- the texts `before`, and then the texts of the files that were read; or the fault of a file that can't be read
+-- the texts `before`, followed by the texts of the files; or the fault, if a file couldn't be read
 abbrev pub behind : List (List ℕ) → Result (List (List ℕ)) FileFault → Result (List (List ℕ)) FileFault
 behind before read = result_map_both (λ texts. before ++ texts) (λ fault. fault) read
 
--- the list `texts`, if all files could be read; otherwise the fault
+-- the list `texts`; or the fault, if a file couldn't be read
 abbrev pub all_read : List (List ℕ) → Result (Unit {0}) FileFault → Result (List (List ℕ)) FileFault
 all_read texts answer = result_map_both (λ done. texts) (λ fault. fault) answer

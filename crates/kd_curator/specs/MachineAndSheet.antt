@@ -42,8 +42,8 @@ holds_of test (Err fault) = false
 unfoldable pub is_other_file : Needed → List ℕ → Bool
 is_other_file needed bytes = holds_of (is_other_document needed) (document_of bytes)
 
--- The remark on a file with a fault. The first argument says whether a machine file or a key sheet is needed. The
--- second argument says whether the file is the wrong one of these two.
+-- The remark on a file with a fault. The first argument says which sort of file is needed: a machine file or a key
+-- sheet. The second argument says whether the file is of the other sort.
 abbrev pub file_remark : Needed → Bool → Remark
 file_remark needs.Machine false = MachineFile
 file_remark needs.Machine true = SheetForMachine

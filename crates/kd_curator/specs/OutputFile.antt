@@ -91,9 +91,9 @@ pub data RunsTo (l : Language) (words : List (List ℕ)) (known : Option (List �
 abbrev pub IsMeantBySome : NamedCommand → Type 0
 IsMeantBySome command = (words : List (List ℕ)) × IsCommandLineOf words command
 
--- How the files change by a command that wrote `bytes` to a new file. `failed` says whether a write failed. The second
--- truth value says whether the whole output was written. If it was, and the result is `Ok`, there is a new file with
--- the name `name`. Otherwise, the files are as before.
+-- How the files change by a command that wrote `bytes` to a new file. The first truth value, `failed`, says whether a
+-- write failed. The second truth value says whether the whole output was written. If the second is `true` and the
+-- result is `Ok`, there is a new file `name` with these bytes. Otherwise, the files are as before.
 abbrev pub EndsFile : Option FilesByName → Option FilesByName → List ℕ → Option (List ℕ) → Bool → Bool
     → Result (Unit {0}) NewFileFault → Type 0
 EndsFile before after name bytes failed true (Ok done) = AddsFile before after name bytes

@@ -104,8 +104,8 @@ IsFlushed left first answer =
     ((answer ≡ first) × (left ≡ [])) ⊎ ((answer ≡ Err (stops.Refused refused_device)) × (1 ≤ length left))
 
 -- The program's answer after a command that gave the answer `first`. The first argument says whether the gathered bytes
--- were then passed on to the sink. If they were, but the sink didn't take all of them, the answer is `Device`.
--- Otherwise it is `first`.
+-- were then passed on to the sink. If bytes were passed on, and the sink didn't take all of them, the answer is
+-- `Device`. Otherwise, the answer is `first`.
 abbrev pub AnswersAfter : Bool → List ℕ → Result (Unit {0}) Stop → Result (Unit {0}) Stop → Type 0
 AnswersAfter true left first answer = IsFlushed left first answer
 AnswersAfter false left first answer = answer ≡ first

@@ -55,8 +55,8 @@ refused_in place remark fault = record { day = None; blame = blame_on place rema
 abbrev pub refused_unread : ℕ → FileFault → WhyUnread → Refused
 refused_unread place fault why = record { day = None; blame = unread_blame place fault why; fault = faults.Unread fault }
 
--- The remark on the file that has a fault of a message: on the machine file, which is the command's first file, or on
--- the order, which is the third. `None` if memory ran out.
+-- The remark on the file that has the fault: the machine file, which is the command's first file, or the order, which
+-- is its third file. `None` if memory ran out.
 abbrev pub message_blame : FormFault → Option Blame
 message_blame forms.NoMemory = None
 message_blame forms.NotReady = blame_on 0 MachineFile

@@ -18,7 +18,7 @@ use Rattle.kd_curator.specs.Refusals.{has_written, refused_device, refused_messa
 use Rattle.kd_curator.specs.declared.fault.PageFault.TheVariants.{NotWhole, NoSuchDay}
 use Rattle.kd_curator.specs.declared.fault.Refused.{Refused}
 
--- The machine is ready, and is on the day's key. `parts` are the parts of the form, as they are read.
+-- The machine is ready, and is on the day's key. The form has at most 255 parts, and reading them gives `parts`.
 pub record IsFormRead (m : Parts) (s : Day) (form : List ℕ) (parts : List DamagedPart) : Type 0 where
   pub ready : IsReadyOnKey m s
   pub read : AreFormParts s form parts

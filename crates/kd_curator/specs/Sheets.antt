@@ -17,7 +17,7 @@ use Rattle.kd_curator.specs.declared.fault.Refused.{Refused}
 
 -- The cases of the command `sheet`, for a table:
 -- - `Sheet`: the key sheet with the days of the table was written. If the sink failed, only a prefix of the key sheet
---   was written. If the whole key sheet was written, it is read back as these days.
+--   was written. If the whole key sheet was written, reading the key sheet gives these days.
 -- - `Faulty`: the table is refused.
 -- - `NoMemory`: memory ran out.
 pub data MakesSheet (options : OptionTexts) (table : List ℕ) (sink : Port) (answer : Result (Unit {0}) Refused)

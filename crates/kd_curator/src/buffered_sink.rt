@@ -7,7 +7,7 @@ ghost use Rattle.kd_tables.specs.Ports.{Puts};
 use arrayvec::ArrayVec;
 use kd_tables::{Failed, Sink};
 
-/// The greatest number of bytes that are gathered.
+/// How many bytes a `BufferedSink` gathers, at most, before it passes them on.
 const ROOM: usize = 4096;
 
 /// A sink that gathers bytes. It passes the gathered bytes on to another sink when it is full, and at `flush`.
@@ -29,7 +29,7 @@ impl<W: Sink + Drop> BufferedSink<W> {
         }
     }
 
-    /// Returns the other sink. Gathered bytes that weren't passed on to this sink are lost.
+    /// Returns the sink for which bytes are gathered. Gathered bytes that weren't passed on to that sink are lost.
     pub(crate) fn into_sink(self) -> W
         ensures { result ≡ self.sink }
     {
@@ -37,7 +37,8 @@ impl<W: Sink + Drop> BufferedSink<W> {
         sink
     }
 
-    /// Passes on all gathered bytes. If the other sink fails, the bytes that it didn't take stay gathered.
+    /// Passes all gathered bytes on to the sink for which they are gathered. If that sink fails, the bytes that it
+    /// didn't take stay gathered.
     pub(crate) fn flush(&mut self) -> Result<(), Failed>
         ensures kept { Keeps (append_known (W.taken self.old.sink) self.old.gathered.items)
             (append_known (W.taken self.new.sink) self.new.gathered.items) }

@@ -23,8 +23,7 @@ pub enum PageFault {
     NoSuchDay,
     /// The machine and the sheet's day are of different models.
     OtherModel,
-    /// The machine isn't ready or isn't on the day's key, or the message has this fault, or memory ran out for the
-    /// message.
+    /// A fault of the machine or of the order, such as `NotReady` or `EmptyText`, or lack of memory for the message.
     Message(FormFault),
     /// A spreadsheet's table has faults. Notes on standard error name them.
     FaultyTable,
@@ -118,8 +117,8 @@ impl Refused {
     }
 }
 
-/// The remark on the file that has this fault: on the machine file, which is the command's first file, or on the order,
-/// which is the third. `None` if memory ran out.
+/// The remark on the file that has the fault: the machine file, which is the command's first file, or the order, which
+/// is its third file. `None` if memory ran out.
 fn message_blame(fault: FormFault) -> Option<Blame>
     ensures { result ≡ message_blame fault }
 {

@@ -129,7 +129,7 @@ pub(crate) fn read_contents<'n, F: Files<'n>>(
     Ok(())
 }
 
-/// The bytes of the file at this place.
+/// The bytes of the command's file at place `place`, counted from 0.
 pub(crate) fn text_at(contents: &[FileBytes], place: usize) -> &[u8]
     requires { place < length contents.now }
     ensures { result.now ≡ text_at contents.now place }
@@ -137,7 +137,7 @@ pub(crate) fn text_at(contents: &[FileBytes], place: usize) -> &[u8]
     contents[place].as_slice()
 }
 
-/// The name of the file at this place; empty if there is no such file.
+/// The name of the command's file at place `place`, counted from 0; empty if there is no such file.
 pub(crate) fn name_at<'n>(names: &[&'n str], place: usize) -> &'n str
     ensures { result.now ≡ text_at (unborrowed_names names.now) place }
 {

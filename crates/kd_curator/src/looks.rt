@@ -44,7 +44,7 @@ fn look_at_all<W: Sink>(
     look_at(alloc, files.as_slice(), sink)
 }
 
-/// Appends the files with these names and contents.
+/// Appends to `files` a file for each of `names`, with the file's bytes from `contents`.
 fn push_files<'f>(
     files: &mut Vec<NamedFile<'f>>,
     names: &[&'f str],

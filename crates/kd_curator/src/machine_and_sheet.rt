@@ -85,8 +85,8 @@ fn refused_file(
     }
 }
 
-/// The remark on a file with a fault. `needed` says whether a machine file or a key sheet is needed. `is_other` says
-/// whether the file is the wrong one of these two.
+/// The remark on a file with a fault. `needed` says which sort of file is needed: a machine file or a key sheet.
+/// `is_other` says whether the file is of the other sort.
 fn file_remark(needed: Needed, is_other: bool) -> Remark
     ensures { result ≡ file_remark needed is_other }
 {

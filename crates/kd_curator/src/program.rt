@@ -46,9 +46,10 @@ use std::convert::AsStr;
 ///
 /// Returns the exit status and the sink. The status is 0 for success, 2 if the words don't mean a command, and 1 for a
 /// refusal. With status 1 or 2, a text that says why is written to `errors`. If the text is about a file, it ends with
-/// the file's name, as the words have it. Before this text, notes may be written to `errors`: by the command `sheet` on
-/// a table, and by the command `receive` on a form. Each file is read once, in the order of the command line. If a file
-/// can't be read, `new_files` is asked why, no later file is asked for, and nothing is written to `sink`.
+/// the file's name as in `words`. Before this text, notes may be written to `errors`: by the command `sheet` on a
+/// table, and by the command `receive` on a form. Each file is read once, in the order of the command line. If a file
+/// can't be read, `new_files` is asked for the reason. In this case, no later file is asked for, and nothing is written
+/// to `sink`.
 ///
 /// If the words name an output file, nothing is written to `sink`. The output goes to a new file in `new_files`. The
 /// new file gets the output file's name exactly if the whole output was written.
@@ -120,8 +121,8 @@ fn run_to_file<'n, F: Files<'n>, N: NewFiles, E: Sink>(
 
 /// Publishes the new file `file` as `name`, if `answer` says that the whole output was written.
 ///
-/// Otherwise removes the file, which was begun under the name `other`. Then the fault `Device` says that a write to the
-/// file failed.
+/// Otherwise removes the file, which was begun under the name `other`. In this case, returns `Device` exactly if a
+/// write to the file failed.
 fn end_file<N: NewFiles>(
     answer: &Result<(), Stop>,
     new_files: &mut N,
@@ -206,7 +207,7 @@ fn run_command<'n, F: Files<'n>, N: NewFiles, W: Sink, E: Sink>(
     Stop::of_answer(answer)
 }
 
-/// The refusal for the file at place `place` of `names`, which couldn't be read. `folders` knows why.
+/// The refusal for the file at place `place` of `names`, which couldn't be read. `folders` gives the reason.
 fn refused_unread<N: NewFiles>(
     names: &[&str],
     place: usize,
@@ -226,8 +227,8 @@ fn refused_unread<N: NewFiles>(
     }
 }
 
-/// Answers a command line that means no command. If it asks for help or for the version, shows this text. Otherwise
-/// stops for the reason `none`.
+/// Answers a command line that means no command. If the command line asks for help or for the version, writes the text
+/// that it asks for. Otherwise stops for the reason `none`.
 fn answer_other_words<W: Sink>(none: NoCommand, sink: &mut W) -> Result<(), Stop>
     ensures carried { (l : Language) (words : List (List ℕ)) (known : Option (List ℕ → Option (List ℕ)))
         → HasNoCommand words none

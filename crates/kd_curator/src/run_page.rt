@@ -22,7 +22,7 @@ use std::alloc::Global;
 /// Writes the pages of `days` in one HTML file, in `language`. The first page starts from the machine in the file
 /// `machine`.
 ///
-/// The pages show the name of the key sheet: `name`, the name of its file, without folder and ending. If `days` is
+/// `name` is the name of the key sheet's file. The pages show this name without its folder and its ending. If `days` is
 /// `None`, the pages are for all days that the sheet has for the machine's model. Faults are tested in this order:
 /// faults of the machine file, faults of the sheet, and then, day by day, `NoSuchDay` and `OtherModel`. For all of
 /// these faults, nothing is written. For `Device`, only a prefix of the file is written.

@@ -10,7 +10,7 @@ use kd_key_table::{Language, TableForm, write_tables};
 use kd_tables::Sink;
 use std::alloc::Global;
 
-/// Writes the tables of the key sheet `sheet` in `form`. A page is in `language`.
+/// Writes the tables of the key sheet `sheet` as `form` says: as a page in `language`, or as a CSV table.
 ///
 /// For a fault of the sheet, nothing is written. For `Device`, only a prefix of the tables is written.
 pub(crate) fn run_table<W: Sink>(

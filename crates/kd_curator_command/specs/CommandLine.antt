@@ -61,7 +61,7 @@ lettered name letter = record (new_rule name) { short = Some letter; value_names
 abbrev pub output_option : Rule
 output_option = lettered (codes "output") 111
 
--- the command with one more argument
+-- the grammar of a command, with one more argument
 abbrev pub with_rule : Shape → Rule → Shape
 with_rule shape rule = record shape { rules = shape.rules ++ rule ∷ [] }
 
@@ -174,13 +174,13 @@ abbrev pub HasArguments : List Row → Task → Type 0
 HasArguments rows (tasks.Page days language) = HasDays rows days × HasLanguage rows language
 HasArguments rows (tasks.List day) = HasDay rows day
 
--- `said` has the name of a command, and the values of its arguments. They ask for the task `task`.
+-- The command name and the argument values in `said` ask for the task `task`.
 pub record IsTaskOf (said : List ℕ × List Row) (task : Task) : Type 0 where
   pub name : said.0 ≡ task_name task
   pub arguments : HasArguments said.1 task
 
--- `said` has the name of a command, and the values of its arguments. They ask for the task `its_task`, with this
--- machine file and this key sheet.
+-- The command name and the argument values in `said` ask for the task `its_task`, with this machine file and this key
+-- sheet.
 pub record IsTaskWith (said : List ℕ × List Row) (machine_file key_sheet : List ℕ) (its_task : Task) : Type 0 where
   pub machine : first_of (codes "MACHINE") said.1 ≡ Some machine_file
   pub sheet : first_of (codes "SHEET") said.1 ≡ Some key_sheet
@@ -319,7 +319,7 @@ is_help DisplayHelp = true
 is_help DisplayVersion = true
 is_help _ = false
 
--- The command line asks for help or for the version, and `clap` finds no other fault in it.
+-- The command line asks for help or for the version, and has no fault that `clap` finds.
 abbrev pub AsksForHelp : List (List ℕ) → Type 0
 AsksForHelp words = (kind : ErrorKind) × (fault_of curator_grammar words ≡ kind ∷ []) × IsTrue (is_help kind)
 

@@ -17,9 +17,9 @@ pub(crate) enum Sort<'a> {
     Needed,
     /// An argument that may be left out.
     Optional,
-    /// An option with a value. Help calls the value by this name.
+    /// An option with a value. The string is the value's name in the help.
     Valued(&'a str),
-    /// An option of one letter, with a value. Help calls the value by this name.
+    /// An option of one letter, with a value. The string is the value's name in the help.
     Lettered(char, &'a str),
     /// An option that takes no value.
     Flag,
@@ -278,7 +278,7 @@ fn optional<'a>(alloc: Global, name: &'a str, help: &'a str) -> Arg<'a>
     Arg::new(alloc, name).help(help)
 }
 
-/// An option with a value. Help calls the value `value`.
+/// An option with a value. `value` is the value's name in the help.
 fn option<'a>(alloc: Global, name: &'a str, value: &'a str, help: &'a str) -> Arg<'a>
     ensures rule { rule_of result ≡ option_rule name.entry.now }
     ensures local { result.global ≡ false }
@@ -289,7 +289,7 @@ fn option<'a>(alloc: Global, name: &'a str, value: &'a str, help: &'a str) -> Ar
         .help(help)
 }
 
-/// An option of one letter, with a value. Help calls the value `value`.
+/// An option of one letter, with a value. `value` is the value's name in the help.
 fn lettered<'a>(
     alloc: Global,
     name: &'a str,

@@ -1,4 +1,4 @@
-//! The command line of the curator: eight commands, and the command that a line's words mean.
+//! The command line of the curator: the grammar of its eight commands, and the parser.
 #![tactic(auto)]
 
 mod command;

@@ -1,6 +1,6 @@
-//! `UpToThree`: one, two or three things of a kind, for example the files of the command `look`.
+//! `UpToThree`: one, two or three values of one type, for example the files of the command `look`.
 
-/// One, two or three things of a kind, in order.
+/// One, two or three values of one type, in order.
 #[derive(Drop)]
 pub struct UpToThree<T> {
     pub first: T,

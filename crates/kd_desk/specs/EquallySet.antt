@@ -1,5 +1,5 @@
--- Machines that are equally set for a day decipher each other's texts. The definition `IsShortestCard` has this promise
--- of a card, and others.
+-- Machines that are equally set for a day decipher each other's texts. The definition `IsShortestCard` includes this
+-- promise.
 use Rattle.std.specs.Prelude.{◌≡◌, ◌<◌, ℕ, List, All}
 use Rattle.kd_state.specs.declared.machine.parts.Parts.{Parts}
 use Rattle.kd_state.specs.Machine.{IsMachine}

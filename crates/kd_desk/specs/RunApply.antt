@@ -16,7 +16,7 @@ use Rattle.kd_desk.specs.Settings.{AreSettings, IsSettingsFault}
 -- One of these cases holds:
 -- - The bytes are neither a list nor a card, and the answer is the fault of the bytes.
 -- - The machine refuses a setting, and the answer names the first refused line.
--- - The settings lead to a machine `n`, and the machine file of `n` is written. This file is read as exactly `n`.
+-- - The settings lead to a machine `n`, and the machine file of `n` is written. Reading this file gives exactly `n`.
 pub data Applies (m : Parts) (bytes : List ℕ) (sink : Port) (answer : Result (Unit {0}) DeskFault) : Type 0 where
   NoSettings : (fault : DeskFault) → IsSettingsFault bytes fault → answer ≡ Err fault → Applies m bytes sink answer
   RefusedLine : (settings : List Setting) (fault : IllegalAt) → AreSettings bytes settings

@@ -24,7 +24,7 @@ pub fn bytes_give_one_list_or_one_fault()
     ensures one_fault { SettingsHaveOneFault }
 {}
 
-/// Cards and machine files, written for one day of a sheet after another, set the machine to each of these days.
+/// If cards and machine files are written for one day after another, they set the machine to each of these days.
 ///
 /// Each card's settings lead from the machine of one file to the machine of the next file. The next file's machine is
 /// set as the day says, shows the day's letters, and enciphers as the day asks. No fewer settings lead to the day.

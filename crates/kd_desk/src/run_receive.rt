@@ -14,7 +14,7 @@ use std::alloc::Global;
 /// Receives `form` on the machine in the file `machine`, and writes the form's text.
 ///
 /// The machine must be on the key of day `number` of the key sheet `sheet`. The form is streamed: a part's text is
-/// written once the next part begins. Before the form is read, faults are tested in this order: faults of the machine
+/// written when the next part begins. Before the form is read, faults are tested in this order: faults of the machine
 /// file, faults of the sheet, `NoSuchDay`, `NotReady`, `NotOnKey`. At these faults, nothing of the form has been read,
 /// and nothing has been written.
 ///

@@ -14,7 +14,7 @@ use std::alloc::Global;
 /// Sends `order` on the machine in the file `machine`, and writes the order's form.
 ///
 /// The machine must be on the key of day `number` of the key sheet `sheet`. The order is streamed: a part is written
-/// once the first letter of the next part is read. Before the order is read, faults are tested in this order: faults of
+/// when the first letter of the next part is read. Before the order is read, faults are tested in this order: faults of
 /// the machine file, faults of the sheet, `NoSuchDay`, `NotReady`, `NotOnKey`. At these faults, nothing of the order
 /// has been read, and nothing has been written.
 ///

@@ -20,7 +20,7 @@ pub record PinKey : Type 0 where
   pub letters : List ℕ
   pub bars : List (ℕ × ℕ)
 
--- the key, with its wheels turned so that they show these letters
+-- the key after the six wheels are turned to other letters
 abbrev pub pin_key_turned : PinKey → List ℕ → PinKey
 pin_key_turned key letters = record key { letters = letters }
 
@@ -40,7 +40,8 @@ is_acting_after pins letters count wheel =
     (nat_le 1 wheel && nat_le wheel 6) && is_effective (pins_on pins wheel)
     ((shown_place letters wheel + count + acting_offset wheel) % length (ring_of wheel))
 
--- the number of bars met after `count` letters. A bar is met if it has a lug at a wheel with an effective acting pin.
+-- the number of bars that the wheels meet for the letter after the first `count` letters. A bar is met if it has a lug
+-- at a wheel with an effective acting pin.
 abbrev pub bars_met : PinKey → ℕ → ℕ
 bars_met key count =
     let acts = is_acting_after key.pins key.letters count in count_by (λ bar. acts bar.0 || acts bar.1) key.bars

@@ -1,4 +1,5 @@
--- The six wheels as the code keeps them, and the key that they make. No public contract cites this file.
+-- The six pin wheels as the code has them, and the key of a Converter with these wheels. No public contract cites this
+-- file.
 use Rattle.std.specs.Prelude.{◌≡◌, ℕ, List, [], ◌∷◌}
 use Rattle.kd_tables.specs.Rings.{ring_of}
 use Rattle.kd_pins.specs.PinWheel.{TurnedWheel, IsWheel, letter_shown}

@@ -7,7 +7,8 @@ pub fn enciphering_twice_gives_back()
     ensures { ConverterTwiceGivesBack }
 {}
 
-/// A text can be enciphered in chunks. Each chunk starts from the letters that the wheels show after the chunk before.
+/// A text can be enciphered in chunks. Each chunk starts from the letters that the wheels show after the previous
+/// chunk.
 #[tactic(auto, using(crate::proofs::Ciphers::cipher_in_turn))]
 pub fn chunks_are_enciphered_in_turn()
     ensures cipher { ConverterCipherOfChunks }

@@ -8,8 +8,8 @@ use Rattle.kd_step.specs.Stepper.{Stepping}
 use Rattle.kd_enigma.specs.CurrentPath.{SeatedWheel, around_wheels}
 use Rattle.kd_enigma.specs.Cipher.{RotorKey, IsPlugboard, path}
 
--- the list without its last item. In a list with an item for each slot, the last item is the right wheel's, and the
--- others are the slow wheels'.
+-- the list without its last item. If the list has an item for each slot, the items of all wheels but the right one
+-- remain.
 abbrev pub slow_slots : {X : Type 0} → List X → List X
 slow_slots slots = take (length slots - 1) slots
 

@@ -84,7 +84,7 @@ impl<const S: usize> Enigma<S> {
         }
     }
 
-    /// Enciphers one letter: the wheels step, and then a lamp lights up.
+    /// Enciphers or deciphers one letter: steps the wheels, and returns the letter whose lamp lights up.
     #[tactic(auto, using(crate::proofs::Ciphers::path_turned), unfolding(crate::specs::Cipher::path))]
     pub fn press(&mut self, letter: Letter) -> Letter
         ensures cipher { enigma_cipher self.old (letter ∷ []) ≡ result ∷ [] }

@@ -43,7 +43,8 @@ pub fn keys_with_pairs_lead_back()
     ensures cipher { PairedKeysGiveBack }
 {}
 
-/// A text can be enciphered in chunks. Each chunk starts from the letters that the windows show after the chunk before.
+/// A text can be enciphered in chunks. Each chunk starts from the letters that the windows show after the previous
+/// chunk.
 #[tactic(auto, using(crate::proofs::Ciphers::cipher_in_turn, crate::proofs::Ciphers::key_in_turn))]
 pub fn chunks_are_enciphered_in_turn()
     ensures cipher { EnigmaCipherOfChunks }

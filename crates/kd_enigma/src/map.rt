@@ -59,7 +59,7 @@ impl Map {
         Map::from_table(&shift_table(by))
     }
 
-    /// Composes two permutations: first this one, then `second`.
+    /// Composes two permutations: `self` is applied first, then `second`.
     #[tactic(auto, using(crate::proofs::Maps::followed_by_is_safe, crate::proofs::Maps::followed_by_is))]
     pub(crate) fn then(self, second: Map) -> Self
         ensures { result ≡ followed_by self second }

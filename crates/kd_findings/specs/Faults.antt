@@ -32,7 +32,7 @@ use Rattle.kd_findings.specs.declared.place.Place.{Place}
 abbrev pub in_file : Key → Place
 in_file key = record { entry = None; day = None; key = key }
 
--- the place of a key in the same entry as another place, or at the top of the same file
+-- the place of the key in the first argument's entry; if the first argument has no entry, at the top of the file
 abbrev pub at_key : Place → Key → Place
 at_key place key = record place { key = key }
 
@@ -44,7 +44,7 @@ at_place place fault = option_to_list (option_map (λ one. (place, one)) fault)
 abbrev pub fault_at : {A : Type 0} → Place → Result A SheetFault → List (Place × SheetFault)
 fault_at place reading = at_place place (result_err reading)
 
--- the fault at the key `model`; if there is none, the faults at the keys that this model needs
+-- the fault at the key `model`; if the model can be read, the faults at the keys that this model needs
 abbrev pub after_model : Place → (Model → List (Place × SheetFault)) → Result Model SheetFault → List (Place × SheetFault)
 after_model place faults (Ok model) = faults model
 after_model place faults (Err fault) = (place, fault) ∷ []
@@ -95,7 +95,7 @@ first_fault faults = option_map (λ fault. fault.1) (slice_get faults 0)
 
 -- ---- What inner functions answer. No public contract cites this definition.
 
--- the number of the wrong list item that a check of the value found; `None` if the check didn't find this fault
+-- the number of the list item in which a check found this fault; `None` if the check found the fault in no item
 abbrev pub told_item : SheetFault → Result (Unit {0}) Slip → Option ℕ
 told_item fault (Err (slips.Fault found item words)) = if (fault_eq.ghosts).eq found fault then item else None
 told_item fault checked = None

@@ -91,8 +91,8 @@ abbrev pub faults_after : List Data → List Data → List (Place × SheetFault)
 faults_after earlier [] = []
 faults_after earlier (item ∷ rest) = entry_faults earlier item ++ faults_after (earlier ++ item ∷ []) rest
 
--- `faults` are the faults of the first entries in `items`. If there are fewer than 300 faults, all entries are judged.
--- A month of 31 days, with at most 8 keys for each day, has fewer faults.
+-- `faults` are the faults of the entries in `items`. After 300 faults, later entries may be left out. A month of 31
+-- days, with at most 8 keys for each day, has fewer than 300 faults.
 pub record AreSheetFaults (items : List Data) (faults : List (Place × SheetFault)) : Type 0 where
   pub count : ℕ
   pub within : count ≤ length items

@@ -1,4 +1,4 @@
--- Texts that are made of pieces. Then the words for a place in a file.
+-- Texts that are made of pieces, and the words for a place in a file.
 use Rattle.std.specs.Prelude.{codes, ◌≡◌, ◌≢◌, ◌⊎◌, ℕ, ◌++◌, List, [], ◌∷◌, Option, Some, None, decimal, slice_index, EachIndex}
 use Rattle.std.specs.Option.{option_map_or}
 

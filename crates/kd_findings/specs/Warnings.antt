@@ -18,7 +18,7 @@ use Rattle.kd_findings.specs.Kind.{is_machine_file}
 use Rattle.kd_findings.specs.Texts.{ArePieces, IsInOneLine, entry_words}
 use Rattle.kd_findings.specs.Unread.{UnreadKey, unread_keys}
 
--- the start of a warning: the file's name, and the day or the entry
+-- the start of a warning: the file's name and, for a key in an entry, the entry's day or number
 unfoldable pub warning_start : List ℕ → Option ℕ → Option ℕ → List ℕ
 warning_start name day entry = name ++ entry_words day entry ++ codes ": warning: "
 

@@ -39,8 +39,7 @@ fn named_elsewhere(keys: &[Key], name: &str) -> Option<Key> {
     None
 }
 
-/// The key in `keys` that `name` may mean. A key whose own name is nearly `name` comes before a key for which `name` is
-/// another name.
+/// The key in `keys` that `name` may mean. If no key has nearly this name, the table `OTHER_NAMES` decides.
 pub fn meant_key(keys: &[Key], name: &str) -> Option<Key> {
     match keys
         .iter()

@@ -1,5 +1,5 @@
 //! Finds all faults of machine files and key sheets, and explains each fault in words. Each fault has a place. The
-//! crate also warns about things that may not have been meant.
+//! crate also warns about keys that the desk doesn't read, and about cables with letters in falling order.
 //!
 //! The desk stops at a file's first fault. This crate judges each key separately, with the desk's own readers.
 #![tactic(auto)]

@@ -49,7 +49,7 @@ fn has_model(version: Option<u8>, model: Model) -> bool
     }
 }
 
-/// The model of a machine file, or the fault with which the desk refuses it.
+/// The model of a machine file, or the fault of the key `model`.
 #[tactic(auto, unfolding(crate::specs::Faults::file_model))]
 fn file_model(table: &Table) -> Result<Model, SheetFault>
     ensures { result ≡ file_model (table_view table.now) }

@@ -64,7 +64,7 @@ fn has_leading_zero(line: &[u8]) -> bool {
     })
 }
 
-/// The likely mistake in `line`. The parser found a fault there; its message is `message`.
+/// The likely mistake in `line`, in which the parser found a fault. `message` is the parser's message.
 fn hint(line: &[u8], message: &str) -> &'static str {
     let quotes = line.iter().filter(|byte| **byte == b'"').count();
     if message == "invalid UTF-8" {

@@ -38,7 +38,7 @@ impl Place {
         }
     }
 
-    /// The place of `key`, in the same entry as this place or at the top of the same file.
+    /// The place of `key` in this place's entry. If this place has no entry, `key` is at the top of the file.
     pub fn at(self, key: Key) -> Self
         ensures { result ≡ at_key self key }
     {

@@ -57,7 +57,7 @@ fn have_number(items: &[Value], number: u8) -> bool
     }
 }
 
-/// The day of an entry, or the fault with which the desk refuses it. `earlier` are the items before the entry.
+/// The day of an entry, or the fault of the key `day`. `earlier` are the items before the entry.
 #[tactic(auto, unfolding(crate::specs::SheetFaults::new_day))]
 fn new_day(earlier: &[Value], table: &Table) -> Result<u8, SheetFault>
     ensures { result ≡ new_day (map view earlier.now) (table_view table.now) }
@@ -255,7 +255,7 @@ fn judge_entry(
     }
 }
 
-/// Finds the faults of a key sheet's entries. Once there are 300 faults, no later entry is judged.
+/// Finds the faults of a key sheet's entries. After 300 faults, no later entry is judged.
 pub fn sheet_faults(alloc: Global, items: &[Value]) -> Result<Vec<Finding>, AllocError>
     ensures { IfOk result (λ list. AreSheetFaults (map view items.now) (faults_of list.items)) }
 {

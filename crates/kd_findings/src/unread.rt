@@ -126,7 +126,7 @@ pub struct Unread<'t> {
     pub meant: Meant,
 }
 
-/// The thing that may have been meant by an unread key.
+/// What a person may have meant by an unread key.
 #[derive(Clone, Copy)]
 pub enum Meant {
     /// A key that the desk knows.
@@ -137,7 +137,7 @@ pub enum Meant {
     Unknown,
 }
 
-/// The thing that may have been meant by the key `name` with the value `value`. `keys` are the known keys of its table.
+/// What a person may have meant by the key `name` with the value `value`. `keys` are the known keys of the key's table.
 fn meant_by(keys: &[Key], name: &str, value: &Value) -> Meant {
     if (value.is_table() || value.is_array()) && is_near(1, name.as_bytes(), b"day") {
         return Meant::Entries;

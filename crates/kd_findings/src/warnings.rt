@@ -1,4 +1,4 @@
-//! Warnings about things that the desk accepts, but that may not have been meant.
+//! Warnings about keys that the desk doesn't read, and about cables with letters in falling order.
 ghost use Rattle.std.specs.Prelude.{◌≡◌, ◌++◌, IfOk, OnOk, map};
 ghost use Rattle.std.specs.List.{flat_map};
 ghost use Rattle.std.specs.String.{string_bytes};
@@ -18,7 +18,7 @@ use kd_tables::Model;
 use std::alloc::{AllocError, Global};
 use toml::{Table, Value};
 
-/// Appends the start of a warning: the file's name, and the day or the entry.
+/// Appends the start of a warning: the file's name and, for a key in an entry, the entry's day or number.
 #[tactic(auto, using(std::proofs::Common::append_assoc), unfolding(crate::specs::Warnings::warning_start))]
 fn push_start(
     text: &mut String,

@@ -33,7 +33,8 @@ pub record AreFewLetters (letters : List ℕ) : Type 0 where
 
 -- ---- the last part
 
--- A heading line can have this byte at this place, counted from 0: the line begins with `PART ` and a digit.
+-- A heading line can have the byte `byte` at place `place`, counted from 0. Places 0 to 5 have `PART ` and a digit, and
+-- later places can have any byte.
 abbrev pub FitsHeadingAt : ℕ → ℕ → Type 0
 FitsHeadingAt place byte = (place < 5 → byte ≡ slice_index (codes "PART ") place)
     × (place ≡ 5 → (48 ≤ byte) × (byte ≤ 57))

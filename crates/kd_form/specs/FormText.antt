@@ -91,8 +91,8 @@ IsReceiveFault s form fault = IsFormAnswer s form (Err fault)
 -- ---- Which faults no further bytes can change, and what is written before a fault.
 -- Test: tests/cases/desk-messages.toml, tests/refusals
 
--- The first unread part, which begins at `p`, has `fault`, and no further bytes can change this. Either another part
--- follows. Or the part's heading line is complete, and the fault is in this line or in a byte of the body.
+-- The first unread part, which begins at `p`, has `fault`, and no further bytes can change this. If this part is the
+-- form's last, its heading line is complete, and the fault is in this line or in a byte of the body.
 abbrev pub IsPartFaultForGood : Day → FormFault → PartsProperty
 IsPartFaultForGood s fault p [] = ⊥
 IsPartFaultForGood s fault p (part ∷ []) =

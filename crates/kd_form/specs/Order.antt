@@ -39,8 +39,8 @@ pub record IsOrder (s : Day) (order : List ℕ) (keys : List Keys) (head text : 
   pub joined : order ≡ head ++ text
   pub is_head : IsOrderHead s keys head
 
--- What is wrong with `bytes`, which should satisfy `Is`. `Incomplete`: they satisfy `Is` once some more bytes are
--- appended. `Mismatch`: they don't satisfy `Is`, whatever bytes are appended.
+-- What is wrong with `bytes`, which should satisfy `Is`. `Incomplete`: with some more bytes appended, they satisfy
+-- `Is`. `Mismatch`: they don't satisfy `Is`, whatever bytes are appended.
 abbrev pub IsPatternFault : (List ℕ → Type 0) → List ℕ → PatternFault → Type 0
 IsPatternFault Is bytes Incomplete = (more : List ℕ) × (more ≢ []) × Is (bytes ++ more)
 IsPatternFault Is bytes Mismatch = (more : List ℕ) → ¬ (Is (bytes ++ more))

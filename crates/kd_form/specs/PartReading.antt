@@ -48,7 +48,7 @@ pub record PartContent : Type 0 where
   pub body : List ℕ
 
 -- The result of cutting a part that starts at `p` into heading and body. The heading must be valid, with the right part
--- number and the expected number of parts. Each byte of the body must be allowed.
+-- number and the expected number of parts. Each byte of the body must be a capital letter, a space, CR or LF.
 abbrev pub IsContentAnswer : Day → PartStart → List ℕ → AnswerRule FormFault PartContent
 IsContentAnswer s p part = do
   content ← Finds (λ content. HasHeading s part content.heading content.body) (BadHeading p.number)

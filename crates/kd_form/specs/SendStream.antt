@@ -11,7 +11,7 @@ use Rattle.kd_form.specs.Sending.{text_letters, OrderParts, IsHeadAnswer, IsOrde
 use Rattle.kd_form.specs.Sending.{ArePartTextsMade, IsFormOf}
 use Rattle.kd_form.specs.Streams.{Message}
 
--- `front` is the prefix of `text` before the first byte that isn't allowed.
+-- `front` is the prefix of `text` before the first byte that isn't allowed in a text.
 pub record IsAllowedPrefix (text front : List ℕ) : Type 0 where
   pub rest : List ℕ
   pub joined : text ≡ front ++ rest
@@ -19,7 +19,7 @@ pub record IsAllowedPrefix (text front : List ℕ) : Type 0 where
   pub ends : (byte : ℕ) (more : List ℕ) → rest ≡ byte ∷ more → IsFalse (is_text_byte byte)
 
 -- After `letters` letters of the text have been read, `written` parts can be written. There are `parts` parts, and each
--- has at most `size` letters. A part can be written once a letter of the next part has been read.
+-- has at most `size` letters. A part can be written as soon as a letter of the next part has been read.
 pub record IsWritableCount (size parts letters written : ℕ) : Type 0 where
   pub writable : (written ≡ 0) ⊎ ((written < parts) × (size * written < letters))
   pub most : (other : ℕ) → other < parts → size * other < letters → other ≤ written

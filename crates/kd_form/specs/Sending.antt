@@ -91,7 +91,7 @@ IsHeadAnswer s order = do
   Yields parts
 
 -- The result of reading the bytes of an order. The order's head must be right, and each byte of the order's text must
--- be allowed.
+-- be a capital letter, a space, CR or LF.
 abbrev pub IsReadAnswer : Day → List ℕ → AnswerRule FormFault OrderParts
 IsReadAnswer s order = do
   parts ← IsHeadAnswer s order

@@ -56,7 +56,8 @@ is_device_interruption _ = false
 
 -- ---- bytes, one after another
 
--- `text` is incomplete: a proper prefix of what had to be written after some prefix of `bytes` was read.
+-- `text` is incomplete: a proper prefix of the text `due`. All of `due` had to be written after a prefix of `bytes` was
+-- read.
 pub record IsPrefixOfDue (m : Message) (bytes text : List ℕ) : Type 0 where
   pub front : List ℕ
   pub due : List ℕ
@@ -70,8 +71,8 @@ HasBeenFed m new bytes text (Ok _) = HasReadSoFar m new bytes text
 HasBeenFed m new bytes text (Err (Refused fault)) = HasFaultForGood m bytes text fault
 HasBeenFed m new bytes text (Err Device) = IsPrefixOfDue m bytes text
 
--- A call fed the reader the last of `bytes`. `text` had been written before the call. The call wrote the reader's
--- further output to `sink`.
+-- A call fed bytes to the reader. `bytes` are all bytes of the message up to the end of the call. `text` had been
+-- written before the call. In the call, the reader's further output was written to `sink`.
 pub record IsFed (m : Message) (new : List ℕ → List ℕ → Type 0) (bytes text : List ℕ) (sink : Port)
     (answer : Result (Unit {0}) Interruption) : Type 0 where
   pub made : List ℕ
@@ -87,8 +88,8 @@ IsFeedAllAnswer m old new more sink answer =
 
 -- ---- the end
 
--- The message has ended. Either all text that had to be written by then was written, or the sink failed and only a
--- proper prefix of this text was written.
+-- The message has ended. Either all text for the message was written, or the sink failed and only a proper prefix of
+-- this text was written.
 abbrev pub HasBeenEnded : Message → List ℕ → List ℕ → Result (Unit {0}) Interruption → Type 0
 HasBeenEnded m bytes text (Ok _) = IsMessageAnswer m bytes text (Ok tt)
 HasBeenEnded m bytes text (Err (Refused fault)) = IsMessageAnswer m bytes text (Err fault)

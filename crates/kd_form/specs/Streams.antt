@@ -38,8 +38,9 @@ IsMessageAnswer m bytes text answer =
 -- Code: `stream_message` reads a message chunk by chunk. The readers of orders and forms take the chunks byte by byte.
 -- Test: tests/cases/desk-messages.toml
 
--- `text` is all that has to be written at some moment of the call. `ByThen`: this moment is after some prefix of
--- `read`, which has no fault. `ByTheEnd`: this moment is the end of the message, because the source ends after `read`.
+-- `text` is all that must have been written at some moment of the call. `ByThen`: at this moment, a prefix of `read`
+-- has been read, and this prefix has no fault. `ByTheEnd`: this moment is the end of the message, because the source
+-- ends after `read`.
 pub data IsDue (m : Message) (source : Port) (read text : List ℕ) : Type 0 where
   ByThen : (front : List ℕ) → StartsWith read front → IsOpen m front text → IsDue m source read text
   ByTheEnd : (answer : Result (Unit {0}) FormFault) → IsAtEnd source.has → IsMessageAnswer m read text answer

@@ -23,11 +23,12 @@ typed_letters bytes = letters_from None bytes
 abbrev pub cipher_text : (List ℕ → List ℕ) → List ℕ → List ℕ
 cipher_text enciphers bytes = letters_text (enciphers (typed_letters bytes))
 
--- The fault is `BadByte`, with the position of the first byte that isn't allowed, counted from 1.
+-- The fault is `BadByte`, with the position of the first byte that isn't allowed in a text, counted from 1.
 abbrev pub IsTextFault : List ℕ → FormFault → Type 0
 IsTextFault bytes fault = IsBytesAnswer 1 bytes (Err fault)
 
--- the rules for typed texts, as a `Message`. All letters before the first byte that isn't allowed are enciphered.
+-- the rules for typed texts, as a `Message`. All letters before the first byte that isn't allowed in a text are
+-- enciphered.
 abbrev pub text_message : (List ℕ → List ℕ) → Message
 text_message enciphers = record {
   stands = IsTextFault;

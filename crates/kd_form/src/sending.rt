@@ -48,11 +48,11 @@ pub fn send(
 
 /// Reads an order from `source`, and writes the order's form to `sink`, part by part.
 ///
-/// At most one part is held, and nothing is allocated. `NotReady` and `NotOnKey` are returned before anything is read
-/// or written. A fault that further bytes can't change is returned at once, before the rest of the source is read.
-/// Other faults are found at the order's end. A part is written once the first letter of the next part has been read.
-/// So parts of a refused order may have been written. At most 1,048,576 bytes are read, and then one more, which shows
-/// whether the source has ended.
+/// At most one part is held in memory, and nothing is allocated. `NotReady` and `NotOnKey` are returned before anything
+/// is read or written. A fault that further bytes can't change is returned at once, before the rest of the source is
+/// read. Other faults are found at the order's end. A part is written as soon as the first letter of the next part has
+/// been read. So parts of a refused order may have been written. At most 1,048,576 bytes are read, and then one more,
+/// which shows whether the source has ended.
 pub fn send_stream<R: Source, W: Sink>(
     machine: &Machine,
     day: &SheetDay,

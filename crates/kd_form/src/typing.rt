@@ -17,9 +17,9 @@ use kd_tables::{Letter, Sink, Source, put_all};
 
 /// Types the text from `source` on `machine`, and writes the ciphertext to `sink`, then LF.
 ///
-/// `NotReady` is returned before anything is read or written. The first byte that isn't allowed is refused once it is
-/// found, before further chunks are read. Before the refusal, the ciphertext of all letters before this byte is
-/// written. If the sink fails to take this ciphertext, the fault is `Device`. At most 1,048,576 bytes are read, and
+/// `NotReady` is returned before anything is read or written. The first byte that isn't a capital letter, a space, CR
+/// or LF is refused before further chunks are read. Before the refusal, the ciphertext of all letters before this byte
+/// is written. If the sink fails to take this ciphertext, the fault is `Device`. At most 1,048,576 bytes are read, and
 /// then one more, which shows whether the source has ended.
 pub fn type_stream<R: Source, W: Sink>(
     machine: &Machine,
@@ -51,7 +51,8 @@ pub(crate) struct Typist {
     read: usize,
     /// The letters of the current chunk, enciphered in place.
     ///
-    /// `letters` and `lamps` are kept, so that they needn't be filled with placeholders for each chunk.
+    /// The reader keeps `letters` and `lamps` from chunk to chunk, so that it needn't fill them with placeholders each
+    /// time.
     letters: ArrayVec<Letter, CHUNK>,
     /// The lamps that lit up for the current chunk, as capital letters.
     lamps: ArrayVec<u8, CHUNK>,

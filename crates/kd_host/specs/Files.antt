@@ -40,9 +40,9 @@ IsOpenAnswer meant known answer = result_map_both known (λ fault. fault) answer
 
 -- The list `read` has the bytes that were read from a source.
 -- - With `Ok`, these are all bytes of the source.
--- - With `ReadTooLong`, they are one more than a file may have.
--- - With `Device`, the next read failed, and they are at most as many as a file may have.
--- - With `NoMemory`, memory ran out, and they are at most one more than a file may have.
+-- - With `ReadTooLong`, the list has one byte more than a file may have.
+-- - With `Device`, the next read failed, and the list has at most as many bytes as a file may have.
+-- - With `NoMemory`, memory ran out, and the list has at most one byte more than a file may have.
 abbrev pub IsReadWholeAs : Port → List ℕ → Result (List ℕ) FileFault → Type 0
 IsReadWholeAs source read (Ok bytes) = (bytes ≡ read) × (length read ≤ read_limit) × IsAtEnd source.has
     × KeepsFailureFlag source

@@ -1,5 +1,5 @@
 -- The key list of a Converter's day, as the manual shows it: the lugs of the bars, the effective pins, and the
--- 26-letter check. Words are in language `l`.
+-- 26-letter check. In the definitions, `l` is the language of the words.
 -- Source: War Department TM 11-380.
 use Rattle.std.specs.Prelude.{decimal, ℕ, ◌+◌, nat_lt, Bool, if◌then◌else◌, List, [], ◌∷◌, ◌++◌, flat_map, replicate}
 use Rattle.std.specs.Prelude.{slice_get, Option, Some, None}

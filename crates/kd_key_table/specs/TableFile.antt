@@ -26,13 +26,13 @@ tables_of l month =
     month_table l EnigmaI month ++ month_table l M3 month ++ month_table l M4 month
     ++ flat_map (λ number. key_list_of l (day_of month number)) DAYS
 
--- the whole page
+-- the HTML page with the tables of all days
 unfoldable pub page_text : Language → List (Option Day) → List ℕ
 page_text l month =
     file_head l ++ text_in l TITLE ++ STYLE.now ++ MORE_STYLE.now ++ WIDE_BODY.now ++ no_days l (has_days month)
     ++ tables_of l month ++ FOOT.now
 
--- The file in this form. A page is in language `l`; a CSV table is the same in all languages.
+-- the file with the tables, in this form; a page is in this language, a CSV table is the same in all languages
 abbrev pub file_text : Language → TableForm → List (Option Day) → List ℕ
 file_text l Page month = page_text l month
 file_text l Csv month = csv_text month

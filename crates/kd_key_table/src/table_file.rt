@@ -66,7 +66,7 @@ fn draw_page<W: Sink>(sink: &mut W, language: Language, sheet: &Sheet)
     draw(sink, FOOT);
 }
 
-/// Writes that the sheet has no days. Writes nothing if it has some.
+/// Writes that the sheet has no days. If the sheet has a day, writes nothing.
 fn draw_no_days<W: Sink>(sink: &mut W, language: Language, sheet: &Sheet)
     ensures { Draws W.taken W.has_failed sink.old sink.new (no_days language (has_days sheet.now)) }
 {

@@ -15,8 +15,8 @@ pub const NO_DAYS: Text = (
     "<p>Die Schlüsseltafel hat keine Tage.</p>\n",
 );
 
-/// The start of the head of a month's table; its value is the model. The next two texts say which days the table has:
-/// one day, or the first to the last day.
+/// The start of the head of a month's table, with the model. The next two texts say which days the table has: one day,
+/// or the first to the last day.
 pub const MONTH: Text = (
     "<article class=sheet>\n<header>\n<h1>~: key table <small>",
     "<article class=sheet>\n<header>\n<h1>~: Schlüsseltafel <small>",
@@ -52,8 +52,8 @@ pub const NOTHING: &str = "-";
 /// The separator of two words in a cell.
 pub const SPACE: &str = " ";
 
-/// The start of the head of a Converter's key list; its values are the model and the day. The list's two letters
-/// follow. The next text stands after the letters, and names the columns.
+/// The start of the head of a Converter's key list, with the model and the day. The list's two letters follow. The next
+/// text stands after the letters, and names the columns.
 pub const KEY_LIST: Text = (
     "<article class=list>\n<header>\n<h1>~, day ~: key list ",
     "<article class=list>\n<header>\n<h1>~, Tag ~: Schlüsselliste ",
@@ -78,8 +78,7 @@ pub const INEFFECTIVE: &str = "<td>-";
 
 pub const NO_PIN: &str = "<td>";
 
-/// The words before the 26-letter check. The next text stands after the check, and ends before the letters of the
-/// wheels on this day.
+/// The words before the 26-letter check. The next text stands between the check and the day's window letters.
 pub const CHECK: Text = (
     "</table>\n<h2>26-letter check</h2>\n<pre><b>",
     "</table>\n<h2>26-Buchstaben-Probe</h2>\n<pre><b>",

@@ -19,19 +19,19 @@ pub(crate) trait CellWord<Kind> {
         ensures { Draws W.taken W.has_failed sink.old sink.new (text self.now) };
 }
 
-/// The word is the whole value.
+/// A kind of word in a table's cell: the whole value.
 pub(crate) struct Whole;
 
-/// The word is the letter of a wheel in the ground setting.
+/// A kind of word in a table's cell: the letter of a wheel in the ground setting.
 pub(crate) struct Ground;
 
-/// The word is the name of a wheel.
+/// A kind of word in a table's cell: the name of a wheel.
 pub(crate) struct Name;
 
-/// The word is the ring of a wheel, as a letter.
+/// A kind of word in a table's cell: the ring of a wheel, as a letter.
 pub(crate) struct RingLetter;
 
-/// The word is the ring of a wheel, as a number.
+/// A kind of word in a table's cell: the ring of a wheel, as a number.
 pub(crate) struct RingNumber;
 
 impl CellWord<Whole> for Letter {

@@ -36,13 +36,13 @@ abbrev pub has_any_key : Members → Bool
 has_any_key no_members = false
 has_any_key (member name value rest) = true
 
--- Whether the document has the thing that is looked for: an entry, a key of the document or of an entry, or any key.
+-- Whether the document has the entry or the key to look for. For `AnyKey`, any key of the document will do.
 unfoldable pub has_value : Sought → Members → Bool
 has_value (soughts.Entry entry) document = is_some (table_at document (Some entry))
 has_value (soughts.Key entry key) document = option_map_or (is_given key) (table_at document entry) false
 has_value soughts.AnyKey document = has_any_key document
 
--- whether the text is a document with the thing that is looked for
+-- whether the text is a document with the entry or key to look for
 abbrev pub reads_value : Sought → List ℕ → Bool
 reads_value sought text = option_map_or (has_value sought) (result_ok (document_of text)) false
 
@@ -50,13 +50,13 @@ reads_value sought text = option_map_or (has_value sought) (result_ok (document_
 abbrev pub ends_line : List ℕ → ℕ → Bool
 ends_line text index = slice_index text index == 10 || index + 1 == length text
 
--- Whether a line ends after the byte at `index`, and the text up to this byte is a document with the thing that is
--- looked for.
+-- Whether a line ends after the byte at `index`, and the text up to this byte is a document with the entry or key to
+-- look for.
 unfoldable pub has_value_at : List ℕ → Sought → ℕ → Bool
 has_value_at text sought index = ends_line text index && reads_value sought (take (index + 1) text)
 
--- The number of the first line such that the text, cut off after this line, is a document with the thing to look for.
--- Only lines that end before the byte with this index are tried.
+-- The number of the first line such that the text up to its end is a document with the entry or key to look for. Only
+-- lines that end before the byte with this index are tried.
 abbrev pub line_before : List ℕ → ℕ → Sought → Option ℕ
 line_before text end sought = option_map (line_at text) (find (has_value_at text sought) (range_with_len 0 end))
 
@@ -65,19 +65,19 @@ line_before text end sought = option_map (line_at text) (find (has_value_at text
 abbrev pub is_too_long : List ℕ → Bool
 is_too_long text = nat_lt 65536 (length text) || nat_lt 2048 (count_by (λ byte. byte == 10) text)
 
--- The number of the first line such that the text, cut off after this line, is a document with the thing to look for.
--- `None` if there is no such line, or the text is too long.
+-- The number of the first line such that the text up to its end is a document with the entry or key to look for. `None`
+-- if there is no such line, or the text is too long.
 abbrev pub line_number : List ℕ → Sought → Option ℕ
 line_number text sought = if is_too_long text then None else line_before text (length text) sought
 
--- The thing to look for if a key is missing. If an entry lacks the key, it is this entry. If the document lacks the key
--- `day`, it is the document's first key. `None` if the document lacks another key.
+-- The entry or key to look for if a key is missing. For an entry without the key, the entry itself. For a document
+-- without the key `day`, any key of the document. `None` if the document lacks another key.
 abbrev pub sought_without : Option ℕ → Key → Option Sought
 sought_without (Some entry) key = Some (soughts.Entry entry)
 sought_without None keys.Day = Some soughts.AnyKey
 sought_without None key = None
 
--- the thing to look for, to find the line of a fault
+-- the entry or key to look for, to find the line of a fault
 abbrev pub sought_for : Place → SheetFault → Option Sought
 sought_for place (Missing key) = sought_without place.entry key
 sought_for place fault = Some (soughts.Key place.entry place.key)
@@ -96,18 +96,18 @@ line_of text finding = line_of_fault text finding.place finding.fault
 unfoldable pub line_so_far : List ℕ → ℕ → Finding → Option ℕ
 line_so_far text end finding = option_and_then (line_before text end) (sought_for finding.place finding.fault)
 
--- the first line or, if it isn't known, the second line
+-- the line in the first argument or, if this argument is `None`, the line in the second argument
 abbrev pub or_line : Option ℕ → Option ℕ → Option ℕ
 or_line (Some line) later = Some line
 or_line None later = later
 
--- `line`, if the document has the thing to look for; otherwise `None`
+-- `line`, if the document has the entry or key to look for; otherwise `None`
 unfoldable pub line_in : Members → ℕ → Finding → Option ℕ
 line_in document line finding =
     option_and_then (λ sought. if has_value sought document then Some line else None)
     (sought_for finding.place finding.fault)
 
--- `line`, if the text is a document with the thing to look for; otherwise `None`
+-- `line`, if the text is a document with the entry or key to look for; otherwise `None`
 abbrev pub line_in_text : List ℕ → ℕ → Finding → Option ℕ
 line_in_text text line finding =
     option_and_then (λ document. line_in document line finding) (result_ok (document_of text))

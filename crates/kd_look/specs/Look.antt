@@ -38,7 +38,7 @@ abbrev pub AreReports : List NamedText → List ℕ → Type 0
 AreReports [] text = text ≡ []
 AreReports (file ∷ rest) text = BeginsWith (IsReport file.name file.bytes) (λ others. AreReports rest others) text
 
--- the file's name, and the file's content, if it has no fault
+-- the file's name, and the file's content; the content is `None` if the file has a fault
 abbrev pub known_text : NamedText → KnownFile
 known_text file = record { name = file.name; file = result_ok (file_of file.bytes) }
 

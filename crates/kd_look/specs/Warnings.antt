@@ -56,8 +56,8 @@ counts_in month = flat_map (counts_on month) (range_with_len 1 31)
 unfoldable pub few_day_words : List ℕ → List (Option Day) → List ℕ
 few_day_words name month = few_lines (name ++ codes ": warning: ") (counts_in month)
 
--- The text has the warnings about a sheet's days: about days that are alike, then about days that have fewer pairs or
--- groups than another day of their model.
+-- The text has the warnings about a sheet's days. First come the warnings about days that differ only in their numbers.
+-- Then come the warnings about days that have fewer pairs or groups than another day of their model.
 pub record WarnsOfMonth (name : List ℕ) (month : List (Option Day)) (text : List ℕ) : Type 0 where
   pub alike : List ℕ
   pub of_alike : WarnsOfDays name alike

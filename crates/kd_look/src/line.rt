@@ -21,7 +21,7 @@ const MOST_BYTES: usize = 65_536;
 /// each line end.
 const MOST_LINES: usize = 2_048;
 
-/// The thing to look for in a document, to find the line of a fault.
+/// The entry or key to look for in a document, to find the line of a fault.
 #[derive(Clone, Copy)]
 enum Sought {
     /// The entry of a key sheet with this number, counted from 1.
@@ -82,9 +82,9 @@ fn has_value(document: &Table, sought: Sought) -> bool
     }
 }
 
-/// The thing to look for if `key` is missing.
+/// The entry or key to look for if `key` is missing.
 ///
-/// If an entry lacks the key, it is this entry. If the document lacks the key `day`, it is the document's first key.
+/// For an entry without the key, the entry itself. For a document without the key `day`, any key of the document.
 /// `None` if the document lacks another key.
 fn sought_without(entry: Option<usize>, key: Key) -> Option<Sought>
     ensures { result ≡ sought_without entry key }
@@ -96,7 +96,7 @@ fn sought_without(entry: Option<usize>, key: Key) -> Option<Sought>
     }
 }
 
-/// The thing to look for, to find the line of `finding`.
+/// The entry or key to look for, to find the line of `finding`.
 fn sought_for(finding: &Finding) -> Option<Sought>
     ensures { result ≡ sought_for finding.now.place finding.now.fault }
 {
@@ -107,7 +107,7 @@ fn sought_for(finding: &Finding) -> Option<Sought>
     }
 }
 
-/// `line`, if `document` has the thing to look for; otherwise `None`.
+/// `line`, if `document` has the entry or key to look for; otherwise `None`.
 #[tactic(auto, unfolding(crate::specs::Line::line_in))]
 fn line_in(document: &Table, line: usize, finding: &Finding) -> Option<usize>
     ensures { result ≡ line_in (table_view document.now) line finding.now }
@@ -120,7 +120,7 @@ fn line_in(document: &Table, line: usize, finding: &Finding) -> Option<usize>
     }
 }
 
-/// The line `known`, if there is one. Otherwise `line`, if `document` has the thing to look for.
+/// The line `known`, if there is one. Otherwise `line`, if `document` has the entry or key to look for.
 fn known_line(
     known: Option<usize>,
     document: &Table,
@@ -135,8 +135,8 @@ fn known_line(
     }
 }
 
-/// Returns `lines`, the lines of `findings`. A finding without a line gets `line`, if `document` has the thing to look
-/// for.
+/// Returns `lines`, the lines of `findings`. A finding without a line gets `line`, if `document` has the entry or key
+/// to look for.
 fn next_lines(
     alloc: Global,
     document: &Table,
@@ -157,7 +157,7 @@ fn next_lines(
 }
 
 /// Returns `lines`, the lines of `findings`. A finding without a line gets `line`, if `text` is a document with the
-/// thing to look for.
+/// entry or key to look for.
 fn lines_with(
     alloc: Global,
     text: &[u8],
@@ -224,7 +224,7 @@ fn no_lines(alloc: Global, findings: &[Finding]) -> Result<Vec<Option<usize>>, A
     Ok(lines)
 }
 
-/// The line of each of `findings`. Each line is looked for in the whole of `text`.
+/// The line of each of `findings` in `text`, whatever the length of `text`.
 fn seek_lines(
     alloc: Global,
     text: &[u8],
@@ -246,8 +246,8 @@ fn seek_lines(
 
 /// The line of each of `findings`, found by cutting off `text` after each line in turn.
 ///
-/// It is the first line such that the cut text is a document with the thing to look for. `None` if there is no such
-/// line, or `text` is too long.
+/// A finding's line is the first line such that the cut text is a document with the entry or key to look for. `None` if
+/// there is no such line, or `text` is too long.
 pub fn lines_of(
     alloc: Global,
     text: &[u8],

@@ -12,7 +12,7 @@ use kd_state::Machine;
 use kd_tables::{Letter, Wheel};
 use std::alloc::AllocError;
 
-/// A sort of things. A machine has several things of a sort, numbered from 1.
+/// A sort of things on a machine, such as cables. The things of a sort are numbered from 1.
 #[derive(Clone, Copy)]
 pub enum Thing {
     Slot,

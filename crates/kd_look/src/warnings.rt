@@ -1,4 +1,4 @@
-//! Warnings about things in a file that the desk accepts, but that may not have been meant.
+//! Warnings about a file: about a byte order mark, about the file's keys, and about a key sheet's days.
 ghost use Rattle.std.specs.Prelude.{◌≡◌, ◌++◌, [], IfOk, MatchResult, OnOk};
 ghost use Rattle.std.specs.String.{string_bytes};
 ghost use Rattle.kd_sheet.specs.Document.{document_of};

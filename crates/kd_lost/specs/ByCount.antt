@@ -1,5 +1,5 @@
--- How a part is read by count, if the letter count in its heading is wrong or damaged. The number of letters that came
--- is used in place of the heading's count.
+-- How a part is read *by count*: with the number of received letters in place of the letter count in its heading. A
+-- part may be read by count if its letter count is wrong or damaged.
 -- Test: tests/cases/curator-messages.toml
 use Rattle.std.specs.Prelude.{decimal, ◌≡◌, ℕ, ◌+◌, ◌==◌, not, Bool, true, false, if◌then◌else◌, is_some}
 use Rattle.std.specs.Prelude.{List, [], ◌∷◌, ◌++◌, drop, Option, None, Some, IfSome, Result, Ok, Err}
@@ -46,8 +46,8 @@ abbrev pub heading_count : Option PartNumbers → ℕ
 heading_count (Some numbers) = numbers.letters
 heading_count None = 0
 
--- whether line `short` explains a wrong count: with 50 letters on this line, the body would have `counted` letters
--- instead of `came`
+-- Whether the short line `short` explains a wrong count: the heading says `counted` letters, but the body has `came`
+-- letters. It does if the body would have `counted` letters with 50 letters on this line.
 abbrev pub explains : ℕ → ℕ → ShortLine → Bool
 explains counted came short = counted + short.letters == came + 50
 
@@ -85,16 +85,19 @@ pub record IsFoundIn (s : Day) (part : List ℕ) (numbers : Option PartNumbers) 
   pub is_its : found ≡ text_of answer
   pub shown : IfSome found (IsPartShown s part)
 
--- The numbers of a part. They are `given` if the received heading is valid. If it is damaged, but the part has a text
--- by count, they are `counted`, the numbers in the heading with the new count. Otherwise there are none.
+-- The numbers of a part, which may have been read by count:
+-- - if the received heading is valid: `given`, the numbers in this heading
+-- - if the received heading is damaged, but the part has a text by count: `counted`, the numbers in the heading with
+--   the new count
+-- - in all other cases: none
 abbrev pub numbers_by_count : Option PartNumbers → Option PartNumbers → Option DamagedText → Option PartNumbers
 numbers_by_count (Some given) counted found = Some given
 numbers_by_count None counted (Some shown) = counted
 numbers_by_count None counted None = None
 
--- Reading `part` by count gives the text `found` and the numbers `numbers`. `given` are the numbers in the received
--- heading. The first argument says whether the heading's count may be wrong. Only then is the part read by count, with
--- `came` as its letter count. Otherwise `found` is `None`, and `numbers` are `given`.
+-- Reading `part` by count gives the text `found` and the numbers `numbers`. The first argument says whether the
+-- heading's count may be wrong. If so, the part is read with `came` as its letter count. Otherwise `found` is `None`,
+-- and `numbers` are `given`, the numbers in the received heading.
 abbrev pub GivesByCount : Bool → Day → List ℕ → ℕ → Option PartNumbers → Option PartNumbers → Option DamagedText → Type 0
 GivesByCount false s part came given numbers found = (found ≡ None) × (numbers ≡ given)
 GivesByCount true s part came given numbers found =

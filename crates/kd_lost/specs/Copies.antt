@@ -35,8 +35,8 @@ chosen_copies start end =
     slice_index_or start 0 None ∷ slice_index_or start 1 None ∷ slice_index_or end 0 None ∷ slice_index_or end 1 None
     ∷ []
 
--- The answer for the keys, which stand before and after the text. The chosen letter comes first, as number 0. The
--- external letters follow, numbered by their wheels.
+-- The answer for the keys of a Converter's part, from their copies before and after the text. The chosen letter comes
+-- first, as number 0. The external letters follow, with the numbers of their wheels.
 abbrev pub IsKeysAnswer : List (Option ℕ) → List (Option ℕ) → AnswerRule PartDamage PinKeys
 IsKeysAnswer start end = do
   chosen ← IsKeyLetterAnswer 0 (chosen_copies start end)

@@ -100,7 +100,7 @@ pub record IsReadOf (s : Day) (part : List ℕ) (read : DamagedPart) : Type 0 wh
 abbrev pub IsReadAt : Day → PlacedPart → DamagedPart → Type 0
 IsReadAt s part read = IsReadOf s part.bytes read × (read.line ≡ part.line)
 
--- For each part in the first list, the second list has, in the same order, what can be read of this part.
+-- The second list has what can be read of each part in the first list, in the same order.
 abbrev pub AreReadOf : Day → List PlacedPart → List DamagedPart → Type 0
 AreReadOf s [] [] = Unit {0}
 AreReadOf s (part ∷ parts) (read ∷ reads) = IsReadAt s part read × AreReadOf s parts reads
@@ -121,8 +121,8 @@ abbrev pub AreReadWith : Day → List DamagedPart → List ℕ → List DamagedP
 AreReadWith s copies form reads = AreReadOf s (completed_parts copies 0 (damaged_parts_of form)) reads
 
 -- `parts` are the parts of the form. First, each part is read alone. If all parts are of one message, each part is read
--- again, with letters from its copies in place of lost letters. If any part then has fewer letters, or another number,
--- `parts` are the parts as they were read alone.
+-- again, with letters from its copies in place of lost letters. If the second reading gives any part fewer letters, or
+-- another number, `parts` come from the first reading.
 pub record AreFormParts (s : Day) (form : List ℕ) (parts : List DamagedPart) : Type 0 where
   pub alone : List DamagedPart
   pub read : AreReadOf s (damaged_parts_of form) alone
@@ -141,8 +141,10 @@ letters_in (Err damage) = []
 abbrev pub shown_letters : List DamagedPart → List (Option ℕ)
 shown_letters reads = flat_map (λ (read : DamagedPart). letters_in read.text) reads
 
--- The byte that is written for a letter of a text: `?` for a lost letter, a space for the letter `for_space`, otherwise
--- the capital letter. `for_space` may be `None`.
+-- The byte that is written for a letter of a text:
+-- - for a lost letter: `?`
+-- - for the letter `for_space`, if this isn't `None`: a space
+-- - for any other letter: the capital letter
 abbrev pub shown_byte : Option ℕ → Option ℕ → ℕ
 shown_byte for_space None = 63
 shown_byte for_space (Some letter) = plaintext_byte for_space letter

@@ -32,8 +32,11 @@ abbrev pub body_of : List ℕ → List ℕ
 body_of [] = []
 body_of (byte ∷ bytes) = if byte == 10 then bytes else body_of bytes
 
--- The byte that is read in place of `byte`: a capital for a small letter, a space for a tab, B for a lost letter,
--- otherwise `byte` itself. B can't complete a damaged word `PART`.
+-- The byte that is read in place of `byte`:
+-- - for a small letter: its capital letter
+-- - for a tab: a space
+-- - for a lost letter: B, which can't complete a damaged word `PART`
+-- - for any other byte: the byte itself
 abbrev pub filled_byte : ℕ → ℕ
 filled_byte byte = if is_lost byte then 66 else meant_byte byte
 
@@ -69,8 +72,8 @@ AreNumbersRead s line numbers =
     MatchOption numbers ((h : Heading) → ¬ (IsDamagedHeading s line h))
     (λ given. (h : Heading) × IsDamagedHeading s line h × (given ≡ numbers_of h))
 
--- `test` says whether the group or the list letters in `body` are the day's. Without numbers in the heading, they aren't
--- tested.
+-- `test` says whether the group or the list letters in `body` are the day's. If the heading is damaged, and so has no
+-- numbers, `test` is `NotTested`.
 abbrev pub IsPartTest : Day → Option PartNumbers → List (Option ℕ) → GroupTest → Type 0
 IsPartTest s None body test = test ≡ NotTested
 IsPartTest s (Some numbers) body test = IsBodyTest s numbers.letters body test

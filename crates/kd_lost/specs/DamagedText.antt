@@ -59,14 +59,14 @@ abbrev pub front_letters : Day → ℕ
 front_letters (Rotor s) = 5
 front_letters (Pin s) = 10
 
--- The last two letters of a Converter's body. If other than `counted` letters came, they count as lost: the body's end
--- may be missing.
+-- The last two letters of a Converter's body. The heading says that the body has `counted` letters. If the body has
+-- another number of letters, its end may be missing. Then the last two letters count as lost.
 abbrev pub last_letters : ℕ → List (Option ℕ) → List (Option ℕ)
 last_letters counted body =
     if length body == counted then drop (length body - 2) body else None ∷ None ∷ []
 
--- `test` is the result of comparing the group or the list letters in `body`, the letters of a part, with the day's. The
--- part may be one that isn't read. Its heading counts `counted` letters.
+-- `test` is the result of comparing the group or the list letters in `body` with the day's. `body` has the letters of a
+-- part, even of a part that can't be read. The part's heading says that there are `counted` letters.
 pub data IsBodyTest (s : Day) (counted : ℕ) (body : List (Option ℕ)) (test : GroupTest) : Type 0 where
   FrontMissing : length body < front_letters s → test ≡ tests.NotTested → IsBodyTest s counted body test
   GroupTested : (d : RotorDay) → s ≡ Rotor d → front_letters s ≤ length body
@@ -106,8 +106,8 @@ AreTextKeys s None received keys =
     × IsWindow (sheet_key s) pin.indicator.external
     × IsInternalKey (enciphered_choice s pin.indicator) pin.internal.items
 
--- The letters that the windows or the pin wheels show before the text is deciphered: the message key on a rotor
--- machine, the internal key on the Converter M-209.
+-- The letters in the windows or on the pin wheels before the text is deciphered. On a rotor machine, they are the
+-- message key. On the Converter M-209, they are the internal key.
 abbrev pub text_window : Day → TextKeys → List ℕ
 text_window s (text_keys.Rotor i) = deciphered_key s i
 text_window s (text_keys.Pin pin) = pin.internal.items

@@ -1,6 +1,6 @@
 -- Which lines of a damaged form are taken for headings. Such a line begins like `PART`. It also has a digit or a slash
--- anywhere, or a lost sign at the start of its second word. So a wrong sign in a body begins no part, but a heading begins
--- a part even if some of the heading's signs are lost or wrong.
+-- anywhere, or a lost sign at the start of its second word. So a wrong sign in a body doesn't begin a part. A heading
+-- begins a part even if some of its signs are lost or wrong.
 -- Test: tests/cases/curator-messages.toml
 use Rattle.std.specs.Prelude.{codes, ℕ, ◌+◌, ◌==◌, ◌&&◌, ◌||◌, nat_le, Bool, false, true, if◌then◌else◌, List, [], ◌∷◌}
 use Rattle.std.specs.Prelude.{Option, None, Some, drop, is_some, length, map, not, slice_get, take}
@@ -72,13 +72,13 @@ begins_apart front back bytes =
     is_letter (slice_get bytes (length front))
     && (right_signs front bytes == length front && right_signs back (drop (length front + 1) bytes) == length back)
 
--- whether the first five signs of `bytes` are `PART` with one more letter before its T
+-- whether `bytes` begin with `PART` with an extra letter before the P, the A, the R or the T
 abbrev pub has_five : List ℕ → Bool
 has_five bytes =
     begins_apart [] (codes "PART") bytes || begins_apart (codes "P") (codes "ART") bytes
     || begins_apart (codes "PA") (codes "RT") bytes || begins_apart (codes "PAR") (codes "T") bytes
 
--- whether `bytes` begin with `PART` with one more letter before its T, and no sixth letter follows
+-- Whether `bytes` begin with `PART` with an extra letter before the P, the A, the R or the T. No sixth letter follows.
 abbrev pub begins_with_five : List ℕ → Bool
 begins_with_five bytes = has_five bytes && not (is_letter (slice_get bytes 5))
 
@@ -88,8 +88,13 @@ has_digit_line [] = false
 has_digit_line (byte ∷ bytes) =
     if byte == 10 then false else (nat_le 47 byte && nat_le byte 57) || has_digit_line bytes
 
--- Whether the first line of `bytes` begins like `PART`, after any blanks. Some letters of this word may be lost, and
--- one may be wrong. Or one letter is missing, or added before the T.
+-- Whether the first line of `bytes` begins like `PART`, after any blanks. The word is complete, or has one of these
+-- faults:
+-- - One or two letters are lost or wrong, but at most one is wrong.
+-- - One letter is missing.
+-- - An extra letter stands before the P, the A, the R or the T.
+-- - Two neighbouring letters are exchanged.
+-- - A blank stands between two letters.
 abbrev pub is_part_line : List ℕ → Bool
 is_part_line bytes =
     begins_with_part (after_blanks bytes) || begins_with_three (after_blanks bytes)
@@ -125,7 +130,7 @@ abbrev pub is_blank_at : Option ℕ → Bool
 is_blank_at None = false
 is_blank_at (Some byte) = is_blank byte
 
--- whether the first word has three or four signs; it may be `PART` then, but no group of five letters
+-- whether the first word of `bytes` has three or four signs, so that it may be `PART`, but not a group of five letters
 abbrev pub has_short_word : List ℕ → Bool
 has_short_word bytes = is_blank_at (slice_get bytes 3) || is_blank_at (slice_get bytes 4)
 

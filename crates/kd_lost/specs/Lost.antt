@@ -23,8 +23,8 @@ pub data MayHaveBeen (byte sent : ℕ) : Type 0 where
   AnyLetter : IsTrue (is_lost byte) → IsTrue (is_capital sent) → MayHaveBeen byte sent
   AsReceived : IsFalse (is_lost byte) → sent ≡ meant_byte byte → MayHaveBeen byte sent
 
--- `whole` is a completion of the bytes `received`: each byte of `whole` may have been sent where the byte at its place
--- was received.
+-- `whole` is a completion of the bytes `received`. At each place, the byte of `whole` may have been sent where the byte
+-- of `received` was received.
 abbrev pub IsCompletion : List ℕ → List ℕ → Type 0
 IsCompletion [] [] = Unit {0}
 IsCompletion (byte ∷ received) (sent ∷ whole) = MayHaveBeen byte sent × IsCompletion received whole

@@ -86,7 +86,7 @@ count_signs heading = first_word (later_words (later_words heading))
 abbrev pub same_count : List ℕ → List ℕ → Bool
 same_count one other = length one == length other && signs_agree one other
 
--- whether two parts may have equally many letters: equally many came, or the counts in their headings agree
+-- whether two parts may have equally many letters: equally many were received, or the counts in their headings agree
 abbrev pub counts_agree : DamagedPart → DamagedPart → Bool
 counts_agree one other =
     one.came == other.came || same_count (count_signs one.heading.bytes) (count_signs other.heading.bytes)
@@ -95,7 +95,8 @@ counts_agree one other =
 abbrev pub heading_repeats : DamagedPart → DamagedPart → Bool
 heading_repeats one other = counts_agree one other && keys_agree one other
 
--- whether `one` isn't read, and is of another day than `other`, as its group or its list letters show
+-- Whether part `one` isn't read, and its group or its list letters are of another day. The group or the list letters of
+-- part `other` aren't of another day.
 abbrev pub is_stranger : DamagedPart → DamagedPart → Bool
 is_stranger one other =
     is_none (shown_text one) && (is_of_other_day one && not (is_of_other_day other))
@@ -108,9 +109,11 @@ days_agree one other = not (is_stranger one other) && not (is_stranger other one
 abbrev pub frames_agree : DamagedPart → DamagedPart → Bool
 frames_agree one other = heading_repeats one other && days_agree one other
 
--- Whether two parts may be one part, sent twice. Their bodies agree, and so do the counts and the keys in their
--- headings, and their days. If both parts are read, their texts agree. If one part is read, the other part doesn't have
--- more letters.
+-- Whether two parts may be one part, sent twice. All of these conditions must hold:
+-- - The letters of the two bodies agree, up to the end of the shorter body.
+-- - The counts, the keys and the days of the two parts agree.
+-- - If both parts are read, their texts agree.
+-- - If one part is read, the other part has at most as many letters.
 abbrev pub may_repeat : DamagedPart → DamagedPart → Bool
 may_repeat one other =
     bodies_agree one.body.items other.body.items

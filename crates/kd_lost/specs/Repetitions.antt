@@ -25,8 +25,8 @@ abbrev pub has_keys_of : DamagedText → DamagedText → Bool
 has_keys_of one other =
     same_keys one.keys other.keys && length one.received.items == length other.received.items
 
--- The letter at `place` of the last argument, if this text is a copy of `shown`. `None` if the letter is lost, or the
--- text isn't a copy. `same` says whether the two parts have the same number.
+-- The letter at `place` of the text in the last argument. `None` if the letter is lost, or this text isn't a copy of
+-- the text `shown`. `same` says whether the parts of the two texts have the same number.
 abbrev pub letter_of_copy : Bool → DamagedText → ℕ → Option DamagedText → Option ℕ
 letter_of_copy same shown place None = None
 letter_of_copy same shown place (Some text) =

@@ -10,7 +10,7 @@ use Rattle.kd_lost.specs.Texts.{is_of_other_day, lost_in, shown_text, text_withi
 
 -- ---- Numbers. Only a heading gives them: a part with a damaged heading has no number.
 
--- the number of parts that a heading gives; if the heading is damaged, `later`
+-- the number of parts that a heading gives; if the heading is damaged, `later`, the number that later headings give
 abbrev pub parts_or : ℕ → Option PartNumbers → ℕ
 parts_or later (Some numbers) = numbers.parts
 parts_or later None = later
@@ -49,7 +49,7 @@ times_of parts number = count_by (λ part. is_number number part.numbers) parts
 -- Whether the second text is better than the first text. It is better in these cases:
 -- - There is a second text, but no first text.
 -- - The second text has fewer lost letters.
--- - Both have equally many lost letters, and only the second text was read with the heading's count (`counted`).
+-- - Both have equally many lost letters, and `counted` is true: only the second text was read with the heading's count.
 abbrev pub is_text_worse : Bool → Option DamagedText → Option DamagedText → Bool
 is_text_worse counted (Some one) (Some other) =
     nat_lt (lost_in other) (lost_in one) || (counted && lost_in other == lost_in one)
@@ -79,7 +79,8 @@ abbrev pub text_in : Option DamagedPart → Option DamagedText
 text_in None = None
 text_in (Some part) = shown_text part
 
--- Whether the part that is shown under this number has all letters of `text`. True if there is no number, or no text.
+-- Whether the part that is shown under a heading's number has all letters of `text`. True if the heading is damaged, or
+-- if there is no text.
 abbrev pub is_covered_by : List DamagedPart → Option DamagedText → Option PartNumbers → Bool
 is_covered_by parts text None = true
 is_covered_by parts text (Some numbers) = text_within text (text_in (shown_under parts numbers.part))
@@ -92,8 +93,8 @@ abbrev pub are_covered : List DamagedPart → List DamagedPart → Bool
 are_covered all [] = true
 are_covered all (part ∷ parts) = is_covered all part && are_covered all parts
 
--- Whether the parts are shown as one message. Any two of them can be of one message, and no received letter is left
--- out.
+-- Whether the parts are shown as one message. Any two of them can be of one message. The part that is shown under a
+-- number has all letters of the other parts with this number.
 abbrev pub is_one_message : List DamagedPart → Bool
 is_one_message parts = are_of_one_message parts && are_covered parts parts
 
@@ -113,7 +114,7 @@ IsReadWhole part =
 abbrev pub IsNumberWhole : List DamagedPart → ℕ → Type 0
 IsNumberWhole parts number = MatchOption (shown_under parts number) ⊥ IsReadWhole
 
--- Neither the group nor the list letters show that the part, be it read or not, is of another day or network.
+-- Neither the group nor the list letters of the part show another day or network. The part may be one that isn't read.
 abbrev pub MayBeOfTheDay : DamagedPart → Type 0
 MayBeOfTheDay part = IsFalse (is_of_other_day part)
 

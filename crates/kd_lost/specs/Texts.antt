@@ -22,12 +22,12 @@ is_wrong_day tests.Right = false
 is_wrong_day tests.Wrong = true
 is_wrong_day tests.NotTested = false
 
--- the test of the text's group; without a text, `other`
+-- the result of testing the text's group or list letters; `other` if there is no text
 abbrev pub test_or : GroupTest → Option DamagedText → GroupTest
 test_or other (Some shown) = shown.group
 test_or other None = other
 
--- whether the group or the list letters of a part, be it read or not, are of another day
+-- Whether the group or the list letters of a part are of another day. The part may be one that isn't read.
 abbrev pub is_of_other_day : DamagedPart → Bool
 is_of_other_day part = is_wrong_day (test_or part.group (shown_text part))
 

@@ -1,7 +1,7 @@
--- A form without noise: bytes that no operator sent, left by copying the form or typing around it. A byte order mark is
--- dropped, and so are the lines before the first heading. But these lines stay if one of them begins like `PART`, or
--- with two groups: it may belong to a part. In a heading, one blank stays between two words, and all other blanks are
--- dropped. Bodies may have any spaces and line ends.
+-- How noise is dropped from a form. Noise is bytes that no operator sent, such as a byte order mark, or lines typed
+-- above the form. A byte order mark is dropped, and so are the lines before the first heading. These lines stay if one
+-- of them begins like `PART`, or with two groups of five letters: it may belong to a part. In a heading, one blank
+-- stays between two words, and all other blanks are dropped. Bodies may have any spaces and line ends.
 -- Test: tests/cases/curator-messages.toml
 use Rattle.std.specs.Prelude.{ℕ, ◌==◌, ◌&&◌, ◌||◌, Bool, true, if◌then◌else◌, List, [], ◌∷◌, ◌++◌, take, drop}
 use Rattle.std.specs.Prelude.{Option, None, Some, unwrap_or}
@@ -23,7 +23,8 @@ later_heading (byte ∷ bytes) =
     if byte == 10 && is_heading_line bytes then Some bytes
     else if byte == 10 && may_be_part bytes then None else later_heading bytes
 
--- The bytes from the first heading on. All bytes if there is no heading, or if a line before it may belong to a part.
+-- `bytes` from the first heading on. All of `bytes` if they have no heading, or if a line before the first heading may
+-- belong to a part.
 abbrev pub from_heading : List ℕ → List ℕ
 from_heading bytes = if may_be_part bytes then bytes else unwrap_or (later_heading bytes) bytes
 
@@ -47,8 +48,10 @@ ends_word (byte ∷ line) = is_gap byte
 abbrev pub as_space : ℕ → ℕ
 as_space byte = if is_gap byte then 32 else byte
 
--- The bytes that are written for `byte`, if `line` follows it. They are none for a gap before another gap or at the
--- end, and a space for any other gap. Any other byte stays.
+-- The bytes that are written for `byte`, which stands before `line`:
+-- - for a gap before another gap, or at the end of the line: no byte
+-- - for any other gap: a space
+-- - for any other byte: the byte itself
 abbrev pub spaced_byte : ℕ → List ℕ → List ℕ
 spaced_byte byte line = if is_gap byte && ends_word line then [] else as_space byte ∷ []
 

@@ -25,7 +25,7 @@ pub record IsReadTo (front : List ℕ) (number letter : ℕ) : Type 0 where
   pub on_line : number ≡ count_by (λ byte. byte == 10) front + 2
   pub at_letter : letter ≡ length (received_letters line) + 1
 
--- `sign` is the first byte of `body` that may not be in a body. `sign` has the byte's line, and the byte's places among
+-- `sign` describes the first byte of `body` that may not be in a body. It has this byte, its line, and its places among
 -- the letters of the line and of the body.
 pub record IsWrongSign (body : List ℕ) (sign : WrongSign) : Type 0 where
   pub front : List ℕ

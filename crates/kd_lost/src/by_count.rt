@@ -1,4 +1,4 @@
-//! Reads a part whose letter count is wrong or damaged. The number of letters that came is used in place of the count.
+//! Reads a part *by count*: with the number of received letters in place of a wrong or damaged letter count.
 ghost use Rattle.std.specs.Prelude.{◌≡◌, ◌++◌, drop, flat_map, MatchResult};
 ghost use Rattle.kd_lost.specs.ByCount.{IsFoundIn, counted_part, explains, first_word, from_blank, heading_count, later_words};
 ghost use Rattle.kd_lost.specs.ByCount.{is_count_doubted, numbers_by_count, part_line, telling_line};
@@ -32,9 +32,10 @@ fn telling_line(counted: usize, came: usize, short: &Option<ShortLine>) -> Optio
     }
 }
 
-/// Whether line `short` explains a wrong count.
+/// Whether the short line `short` explains a wrong count.
 ///
-/// It does if the body, with 50 letters on this line, would have `counted` letters instead of `came`.
+/// The heading says `counted` letters, but the body has `came` letters. The line explains this if the body would have
+/// `counted` letters with 50 letters on this line.
 fn explains(counted: usize, came: usize, short: ShortLine) -> bool
     ensures { result ≡ explains counted came short }
 {
@@ -85,8 +86,10 @@ pub(crate) fn find_by_count(
 
 /// The numbers of a part, which may have been read by count.
 ///
-/// They are `given` if the received heading is valid. If it is damaged, but a text was found by count, they are
-/// `counted`, read together with this text. Otherwise there are none.
+/// - If the received heading is valid: `given`, the numbers in this heading.
+/// - If the received heading is damaged, but a text was found by count: `counted`, the numbers that were read with this
+///   text.
+/// - In all other cases: none.
 pub(crate) fn numbers_by_count(
     given: Option<PartNumbers>,
     counted: Option<PartNumbers>,

@@ -46,7 +46,10 @@ pub enum GroupTest {
     /// The group or the list letters of the part aren't the day's. The part was made with another day's settings, or
     /// its letters were changed on the air.
     Wrong,
-    /// A letter of the group is lost or, on the Converter M-209, a list letter in both copies. So the day isn't tested.
+    /// The group or the list letters aren't tested, for one of these reasons:
+    /// - A letter of the group is lost.
+    /// - On the Converter M-209, a list letter is lost in both copies.
+    /// - The body is too short, or the heading is damaged.
     NotTested,
 }
 

@@ -30,7 +30,9 @@ fn has_lost_number(bytes: &[u8]) -> bool
     has_short_word(line) && begins_lost(after_blanks(after_word(line)))
 }
 
-/// Whether the first word has three or four signs. So it may be `PART`, but isn't a group of five letters.
+/// Whether the first word of `bytes` has three or four signs.
+///
+/// So the word may be `PART`, but isn't a group of five letters.
 fn has_short_word(bytes: &[u8]) -> bool
     ensures { result ≡ has_short_word bytes.now }
 {
@@ -71,7 +73,12 @@ fn after_word(bytes: &[u8]) -> &[u8]
 
 /// Whether the first line of `bytes` begins like `PART`, after any blanks.
 ///
-/// Some letters of this word may be lost, and one may be wrong. Or one letter is missing, or added before the T.
+/// The word is complete, or has one of these faults:
+/// - One or two letters are lost or wrong, but at most one is wrong.
+/// - One letter is missing.
+/// - An extra letter stands before the P, the A, the R or the T.
+/// - Two neighbouring letters are exchanged.
+/// - A blank stands between two letters.
 pub(crate) fn is_part_line(bytes: &[u8]) -> bool
     ensures { result ≡ is_part_line bytes.now }
 {
@@ -182,14 +189,16 @@ fn begins_with_word(word: &[u8], bytes: &[u8]) -> bool
     right_signs(word, bytes) == word.len() && !is_letter(bytes.get(word.len()).copied())
 }
 
-/// Whether `bytes` begin with `PART` with one more letter before its T, and no sixth letter follows.
+/// Whether `bytes` begin with `PART` with an extra letter before the P, the A, the R or the T.
+///
+/// No sixth letter follows.
 fn begins_with_five(bytes: &[u8]) -> bool
     ensures { result ≡ begins_with_five bytes.now }
 {
     has_five(bytes) && !is_letter(bytes.get(5).copied())
 }
 
-/// Whether the first five signs of `bytes` are `PART` with one more letter before its T.
+/// Whether `bytes` begin with `PART` with an extra letter before the P, the A, the R or the T.
 fn has_five(bytes: &[u8]) -> bool
     ensures { result ≡ has_five bytes.now }
 {

@@ -61,7 +61,9 @@ fn frames_agree(one: &DamagedPart, other: &DamagedPart) -> bool
     heading_repeats(one, other) && !is_stranger(one, other) && !is_stranger(other, one)
 }
 
-/// Whether `one` isn't read, and is of another day than `other`, as its group or its list letters show.
+/// Whether part `one` isn't read, and its group or its list letters are of another day.
+///
+/// The group or the list letters of part `other` aren't of another day.
 fn is_stranger(one: &DamagedPart, other: &DamagedPart) -> bool
     ensures { result ≡ is_stranger one.now other.now }
 {
@@ -75,7 +77,7 @@ fn heading_repeats(one: &DamagedPart, other: &DamagedPart) -> bool
     counts_agree(one, other) && keys_agree(one, other)
 }
 
-/// Whether two parts may have equally many letters: equally many came, or the counts in their headings agree.
+/// Whether two parts may have equally many letters: equally many were received, or the counts in their headings agree.
 fn counts_agree(one: &DamagedPart, other: &DamagedPart) -> bool
     ensures { result ≡ counts_agree one.now other.now }
 {

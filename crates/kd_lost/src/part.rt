@@ -34,8 +34,8 @@ use kd_tables::Letter;
 /// What can be read of a part of a form in which letters were lost.
 #[derive(Drop)]
 pub struct DamagedPart {
-    /// The numbers in the heading; `None` if the heading is damaged. If only the count is damaged, and the part is read
-    /// by count, `letters` is the number of letters that came.
+    /// The numbers in the heading. If only its count is damaged, and the part is read by count, `letters` is the number
+    /// of received letters. For any other damaged heading, `None`.
     pub numbers: Option<PartNumbers>,
     /// The first signs of the heading line as it came, at most 64. `?` stands for each sign that may not be in a
     /// heading.
@@ -59,8 +59,8 @@ pub struct DamagedPart {
     /// The number of the first group that doesn't have five letters, though letters follow the group. `None` if each group
     /// but the last has five letters.
     pub short_group: Option<usize>,
-    /// Whether needless blanks in the part's first line were dropped. They are dropped if the line isn't a heading
-    /// otherwise.
+    /// Whether needless blanks in the part's first line were dropped. They are dropped if the line isn't a heading with
+    /// them.
     pub respaced: bool,
     /// Whether each byte of the part means itself: none is a small letter or a tab.
     pub as_spelled: bool,

@@ -25,7 +25,7 @@ pub fn total_of(parts: &[DamagedPart]) -> u8
 
 /// Whether each part number is at least the part number before it, and the first part number is at least `before`.
 ///
-/// Parts without a number don't count.
+/// Parts without a number are skipped.
 pub fn are_in_order(before: u8, parts: &[DamagedPart]) -> bool
     ensures { result ≡ are_in_order before (numbers_of parts.now) }
 {
@@ -99,7 +99,8 @@ fn is_worse(one: &DamagedPart, other: &DamagedPart) -> bool
 
 /// Whether the parts are shown as one message.
 ///
-/// Any two of them can be of one message, and no received letter is left out.
+/// Any two of them can be of one message. The part that is shown under a number has all letters of the other parts with
+/// this number.
 pub fn is_one_message(parts: &[DamagedPart]) -> bool
     ensures { result ≡ is_one_message parts.now }
 {
@@ -161,7 +162,7 @@ fn are_numbered(parts: &[DamagedPart]) -> bool
     }
 }
 
-/// Whether no group and no list letters show that a part is of another day or network.
+/// Whether all parts may be of the day: no group or list letters show another day or network.
 fn may_be_of_the_day(parts: &[DamagedPart]) -> bool
     ensures { IsTrue result ↔ All MayBeOfTheDay parts.now }
 {

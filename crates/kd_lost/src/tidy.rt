@@ -1,4 +1,4 @@
-//! Forms without noise: bytes that no operator sent, left by copying a form or typing around it.
+//! Drops noise from forms: bytes that no operator sent, such as a byte order mark, or lines typed above the form.
 ghost use Rattle.std.specs.Prelude.{◌≡◌, ◌++◌, None, Some, MatchOption, MatchResult};
 ghost use Rattle.kd_lost.specs.DamagedPart.{first_line};
 ghost use Rattle.kd_lost.specs.Tidy.{as_space, ends_word, from_line_end, is_gap, later_heading, respaced};
@@ -106,9 +106,10 @@ fn push_single_spaced(bytes: &mut Vec<u8>, line: &[u8]) -> Result<(), DamagedFor
     Ok(())
 }
 
-/// Appends the bytes that are written for `byte`, if `rest` follows it.
-///
-/// They are none for a gap before another gap or at the end, and a space for any other gap. Any other byte stays.
+/// Appends the bytes that are written for `byte`, which stands before `rest`:
+/// - for a gap before another gap, or at the end of the line: no byte
+/// - for any other gap: a space
+/// - for any other byte: the byte itself
 fn push_spaced(bytes: &mut Vec<u8>, byte: u8, rest: &[u8]) -> Result<(), DamagedFormFault>
     ensures { MatchResult result
         (λ _. bytes.new.items ≡ bytes.old.items ++ spaced_byte byte rest.now)

@@ -30,7 +30,9 @@ pub(crate) fn test_group(day: &SheetDay, received: &[Option<Letter>]) -> GroupTe
     }
 }
 
-/// Tests the group or the list letters in `body`, the letters of a part. The part's heading counts `counted` letters.
+/// Tests the group or the list letters in `body`, which has the letters of a part.
+///
+/// The part's heading says that there are `counted` letters.
 pub(crate) fn test_body(day: &SheetDay, counted: usize, body: &[Option<Letter>]) -> GroupTest
     ensures { IsBodyTest day.now counted body.now result }
 {

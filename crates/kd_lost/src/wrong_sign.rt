@@ -61,7 +61,7 @@ fn line_after(line: usize, byte: u8) -> usize
 
 /// The number that the next letter after `byte` has on its line, counted from 1.
 ///
-/// A letter in place of `byte` would have the number `letter`.
+/// `letter` is the number that a letter in place of `byte` would have.
 fn letter_after(letter: usize, byte: u8) -> usize
     requires { letter < 2 ^ 63 + 2 }
     ensures { result ≡ (if byte == 10 then 1

@@ -40,7 +40,7 @@ letter_of signs.Nothing = None
 letter_of signs.Lost = None
 letter_of (signs.Letter letter) = Some letter
 
--- the cells of a body whose letters are pressed; the other cells are skipped
+-- only those cells whose letters the operator presses
 abbrev pub pressed_of : List Cell → List Cell
 pressed_of cells = filter (λ cell. cell.is_pressed) cells
 

@@ -52,7 +52,7 @@ order_words l numbers = text_in l texts.ORDER ++ numbers_after [] numbers ++ tex
 unfoldable pub heading_words : PartNumbers → List ℕ
 heading_words numbers = decimal numbers.part ++ texts.OF_PARTS.now ++ decimal numbers.parts
 
--- the two numbers in a heading, with `first` before them and `more` after them; only `others` if the heading is damaged
+-- the two numbers in a heading, between the texts `first` and `more`; if the heading is damaged, only the text `others`
 abbrev pub heading_then : List ℕ → Option PartNumbers → List ℕ → List ℕ → List ℕ
 heading_then first (Some numbers) more others = first ++ heading_words numbers ++ more
 heading_then first None more others = others
@@ -68,8 +68,10 @@ headings_after first (part ∷ parts) =
 unfoldable pub several_words : Language → List DamagedPart → List ℕ
 several_words l parts = text_in l texts.SEVERAL ++ headings_after [] parts ++ text_in l texts.SEVERAL_END
 
--- The sentence about all parts together. It says that they aren't of one message, if they aren't. If they are, it gives
--- the order in which they came. It is empty if this is the order of their numbers.
+-- The sentence about all parts together:
+-- - if the parts aren't of one message: the sentence that they aren't
+-- - otherwise, if the parts came in the order of their numbers: no sentence
+-- - in all other cases: the sentence that gives the order in which the parts came
 abbrev pub order_text : Language → List DamagedPart → List ℕ
 order_text l parts =
     if is_one_message parts
@@ -91,8 +93,8 @@ abbrev pub begins_late : List DamagedPart → Bool
 begins_late [] = false
 begins_late (part ∷ parts) = nat_lt 1 part.line
 
--- The sentence that some of the form was passed over, or read as what it means, such as small letters as capitals.
--- Empty if all of the form was read as it stands.
+-- The sentence that lines, blanks, tabs or small letters of the form were passed over, or read as what they mean. Empty
+-- if all of the form was read as it stands.
 abbrev pub passed_text : Language → List DamagedPart → List ℕ
 passed_text l parts =
     if begins_late parts || is_any_smoothed parts then text_in l texts.PASSED_OVER else []
@@ -237,8 +239,8 @@ abbrev pub sign_group : Language → Option WrongSign → List ℕ
 sign_group l (Some sign) = group_words l ((sign.place - 1) / 5 + 1)
 sign_group l None = text_in l texts.ALL_OF_IT
 
--- The words for the groups with a lost letter or a wrong sign. A body has room for 525 letters. If all of these letters
--- are there, the first wrong sign stands behind them.
+-- The words for the groups with a lost letter or a wrong sign, among the first 525 letters of the body. If none of
+-- these letters is lost or wrong, the words are for the group of the first wrong sign.
 abbrev pub sign_groups : Language → DamagedPart → List ℕ
 sign_groups l part =
     if has_lost part.body.items then lost_groups l [] false 1 (pieces 5 part.body.items)
@@ -263,14 +265,15 @@ short_text l line None = []
 -- The words for what to ask for if the count is wrong or damaged:
 -- - if a group is short: the count, and the first short group
 -- - if no group is short, and the count is damaged: the count
--- - if no group is short, and the count is wrong: the count and, if the other station says that it is right, the lines
+-- - if no group is short, and the count is wrong: the count; if the other station says that the count is right, the
+--   part's lines
 abbrev pub count_asked : Language → PartDamage → Option ℕ → List ℕ
 count_asked l damage (Some group) = text_in l texts.ITS_COUNT ++ COMMA.now ++ group_words l group
 count_asked l damages.HeadingDamaged None = text_in l texts.ITS_COUNT
 count_asked l _ None = text_in l texts.ITS_COUNT_OR_LINES
 
--- The words for what to ask for if the count is wrong, and the part isn't read. If a short line explains the wrong
--- count, these are the ten groups of this line. Otherwise, the words are as for any wrong count.
+-- The words for what to ask for in a part that isn't read because its count is wrong. If a short line explains the
+-- wrong count, the words name the ten groups of this line. Otherwise, the words are as for any wrong count.
 abbrev pub short_groups : Language → Option ℕ → Option ShortLine → List ℕ
 short_groups l group (Some short) = groups_words l (short.before / 5 + 1) (short.before / 5 + 10)
 short_groups l group None = count_asked l damages.CountWrong group

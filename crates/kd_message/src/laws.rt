@@ -6,7 +6,7 @@ ghost use Rattle.kd_message.specs.Laws.{WholeMessagesHaveOneTotal};
 
 /// The lamps of a row depend only on the letters pressed in it, and on the windows at its start.
 ///
-/// So a row can be worked by itself.
+/// So an operator can encipher a row without enciphering the rows before it.
 pub fn rows_are_enciphered()
     ensures { RowsAreEnciphered }
 {}
@@ -23,7 +23,7 @@ pub fn templates_take_their_values()
     ensures { TemplatesTakeTheirValues }
 {}
 
-/// A form that `desk receive` reads is shown as one whole message, with the same text.
+/// A form that `desk receive` reads is shown as one whole message, with the text that `desk receive` gives.
 pub fn forms_read_are_whole()
     ensures { FormsReadAreWhole }
 {}
@@ -46,8 +46,11 @@ pub fn whole_messages_are_on_the_page()
     ensures { WholeMessagesAreOnThePage }
 {}
 
-/// Let a form be a whole message with no lost letter, no small letter, no tab, and no heading with needless blanks.
-/// `desk receive` gives the page's text once the parts are sorted, and repeated parts left out.
+/// Take a form that is a whole message, with no lost letter, no small letter, no tab, and no needless blank in a
+/// heading.
+///
+/// Put its parts in the order of their numbers, with one part for each number. Then `desk receive` gives the text that
+/// the page shows.
 pub fn whole_messages_are_read()
     ensures { WholeMessagesAreRead }
 {}

@@ -263,7 +263,7 @@ fn draw_shown<W: Sink>(
     }
 }
 
-/// Writes the words in `section` for each unnumbered part if the last part number before it is `after`.
+/// Writes the words in `section` for each part without a number, if the last part number before this part is `after`.
 ///
 /// `before` is the last part number before `parts`.
 fn draw_lone_after<W: Sink>(

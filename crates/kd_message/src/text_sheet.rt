@@ -46,7 +46,7 @@ pub(crate) fn draw_text_sheet_head<W: Sink>(sink: &mut W, language: Language, da
     );
 }
 
-/// Writes that some of the form was passed over, or read as what it means.
+/// Writes that lines, blanks, tabs or small letters of the form were passed over, or read as what they mean.
 ///
 /// For example, a small letter means its capital. Writes nothing if all of the form was read as it stands.
 pub(crate) fn draw_passed<W: Sink>(sink: &mut W, language: Language, parts: &[DamagedPart])
@@ -79,9 +79,9 @@ fn is_any_smoothed(parts: &[DamagedPart]) -> bool
     }
 }
 
-/// Writes that the parts aren't of one message, if they aren't.
+/// Writes that the parts aren't of one message, or in which order they came.
 ///
-/// If they are of one message, writes in which order they came. Writes nothing if this is the order of their numbers.
+/// Writes nothing if the parts are of one message, and came in the order of their numbers.
 pub(crate) fn draw_order<W: Sink>(sink: &mut W, language: Language, parts: &[DamagedPart])
     ensures { Draws W.taken W.has_failed sink.old sink.new (order_text language parts.now) }
 {

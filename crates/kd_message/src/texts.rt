@@ -95,7 +95,7 @@ pub const TEXT_WORDS: &str = "<p class=\"text words\">";
 
 pub const TEXT_END: &str = "</p>\n";
 
-/// The sentence that some of the form was passed over, or read as what it means, such as small letters as capitals.
+/// The sentence that lines, blanks, tabs or small letters of the form were passed over, or read as what they mean.
 pub const PASSED_OVER: Text = (
     "<p>Some of the form was passed over, or read as what it means: lines before the first heading, blanks in a heading, tabs, small letters.</p>\n",
     "<p>Einiges im Spruch ist übergangen oder gelesen, wie es gemeint ist: Zeilen vor dem ersten Spruchkopf, Leerzeichen in einem Spruchkopf, Tabulatoren, Kleinbuchstaben.</p>\n",
@@ -185,8 +185,8 @@ pub const HEADING_DAMAGED: Text = (
     ": Der Spruchkopf ist verstümmelt.",
 );
 
-/// The sentence about a damaged heading: the words before the line as it came, before an example of a heading, and
-/// after the example. Then the examples: for three wheels, for four wheels, and for the Converter M-209.
+/// The sentence about a damaged heading: the words before the received line, before an example of a heading, and after
+/// the example. Then the examples: for three wheels, for four wheels, and for the Converter M-209.
 pub const HEADING_CAME: Text = (" It came as “", " Er kam als „");
 
 pub const HEADING_LIKE: Text = ("”, and should be like ", "“ und sollte sein wie ");
@@ -216,8 +216,8 @@ pub const BAD_BYTE: Text = (
     "Ein Zeichen des Spruchs ist kein Buchstabe.",
 );
 
-/// The sentence about a wrong sign: the words before its place in its line, and before the sign. Then the words for a
-/// sign that isn't a digit, and the words after the sign.
+/// The sentence about a wrong sign: the words before the sign's place in the line, and before the sign itself. Then the
+/// words for a sign that isn't a digit, and the words after the sign.
 pub const LETTER_OF_LINE: Text = (", letter ", ", Buchstabe ");
 
 pub const COLON: &str = ": ";
@@ -340,8 +340,8 @@ pub const ARTICLE_END: &str = "</article>\n";
 
 // ---- What is told on standard error.
 
-/// The start of a note about a part. The values are the part's number and the number of parts. After it come the words
-/// before what to ask for, and the ends of notes.
+/// The start of a note about a part. The values are the part's number and the number of parts. The next text stands
+/// before the words for what to ask for. Then come the ends of notes.
 pub const NOTE_PART: Text = ("Part ~ of ~: ", "Teil ~ von ~: ");
 
 pub const NOTE_ASK: Text = (" Ask for ", " Wiederholen lassen: ");

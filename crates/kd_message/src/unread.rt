@@ -166,8 +166,9 @@ fn draw_sign_words<W: Sink>(sink: &mut W, language: Language, byte: u8)
     }
 }
 
-/// Writes the words for the groups with a lost letter or a wrong sign. If all of the first 525 letters are there, writes
-/// the words for the group of the first wrong sign.
+/// Writes the words for the groups with a lost letter or a wrong sign, among the first 525 letters of the body.
+///
+/// If none of these letters is lost or wrong, writes the words for the group of the first wrong sign.
 fn draw_sign_groups<W: Sink>(sink: &mut W, language: Language, part: &DamagedPart)
     ensures { Draws W.taken W.has_failed sink.old sink.new (sign_groups language part.now) }
 {
@@ -231,8 +232,9 @@ fn draw_short_words<W: Sink>(sink: &mut W, language: Language, line: usize, shor
     draw_in(sink, language, FULL_LINE);
 }
 
-/// Writes what to ask for if the count is wrong, and the part isn't read. If a short line explains the wrong count,
-/// asks for the ten groups of this line.
+/// Writes what to ask for in a part that isn't read because its count is wrong.
+///
+/// If a short line, `short`, explains the wrong count, asks for the ten groups of this line.
 fn draw_short_groups<W: Sink>(
     sink: &mut W,
     language: Language,

@@ -1,5 +1,5 @@
-//! Makes new files, which are there as a whole or not at all, and never replace another file. Also says why a file
-//! can't be read.
+//! Makes new files. A new file is there with all its bytes or not at all, and never replaces another file. Also says
+//! why a file can't be read.
 #![tactic(auto)]
 
 mod host_new_files;

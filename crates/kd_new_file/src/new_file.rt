@@ -1,4 +1,4 @@
-//! Writing new files. A new file is written under another name. Once the file is whole, it is renamed to its own name.
+//! Writing new files. A new file is written under another name. When the file is whole, it is renamed to its own name.
 ghost use Rattle.std.specs.Prelude.{◌≡◌, ◌≢◌, ◌↔◌, ◌++◌, [], ℕ, codes, decimal, Option, Some, Err, IfErr, IfOk, IfSome, IsSome, OnErr, OnOk, false, string_bytes};
 ghost use Rattle.std.specs.Option.{option_map};
 ghost use Rattle.kd_new_file.specs.NewFiles.{AddsFile, FilesByName};

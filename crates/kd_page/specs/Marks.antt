@@ -1,5 +1,5 @@
 -- A page marks a change of a thing only if the page's list has a setting of this thing. A Converter's page also has
--- marks for pins and lugs that stay. The windows of an Enigma are left out here.
+-- marks for pins and lugs that stay. The laws in this file leave out the windows of an Enigma.
 use Rattle.std.specs.Prelude.{◌≡◌, ℕ, nat_eq, Bool, true, false, ◌&&◌, List}
 use Rattle.std.specs.List.{list_any}
 use Rattle.kd_tables.specs.declared.wheel.Wheel.{Wheel}

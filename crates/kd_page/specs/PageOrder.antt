@@ -67,8 +67,8 @@ pub record IsPinOrder (settings : List Setting) : Type 0 where
   pub lugs : IsRanked row_of 1 28 (settings_at (step_spot Lugs) settings)
   pub turns : IsRanked row_of 1 7 (settings_at (step_spot Turns) settings)
 
--- If settings are in a page's order, the page has a checkbox for each of these settings, in this order from the top,
--- and no other checkbox.
+-- Suppose that settings are in a page's order. Then the page has a checkbox for each of these settings, in this order
+-- from the top. The page has no other checkbox.
 abbrev pub RotorBoxesAreTheSettings : Type 0
 RotorBoxesAreTheSettings = (settings : List Setting) → IsRotorOrder settings → rotor_boxes settings ≡ settings
 

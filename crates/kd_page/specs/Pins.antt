@@ -55,8 +55,7 @@ abbrev pub pin_cells : Page → ℕ → List ℕ → List ℕ
 pin_cells page wheel letters =
     flat_map (λ letter. pin_cell page wheel letter (machine_pin page.after wheel letter)) letters
 
--- the words with which the settings lines of a wheel's pins begin, such as `PIN 3`; empty if the number of pins to set
--- is 0
+-- the first words of the lines that set a wheel's pins, such as `PIN 3`; empty if the number of pins to set is 0
 abbrev pub pin_lines : ℕ → ℕ → List ℕ
 pin_lines wheel count = if count == 0 then [] else filled texts.PIN_LINES.now (decimal wheel ∷ [])
 

@@ -14,8 +14,8 @@ HasInTurn part [] text = Unit {0}
 HasInTurn part (x ∷ xs) text =
     (before : List ℕ) × (after : List ℕ) × (text ≡ before ++ part x ++ after) × HasInTurn part xs after
 
--- If the settings turn the machine `before` into the machine `after`, the text of the page has the checkbox of each
--- setting, in the order of the settings.
+-- Suppose that the page's settings turn its machine `before` into its machine `after`. Then the page's text has the
+-- checkbox of each setting, in the order of the settings.
 abbrev pub HasItsBoxes : Page → Type 0
 HasItsBoxes page =
     Leads page.before page.settings page.after

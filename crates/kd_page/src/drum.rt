@@ -108,8 +108,7 @@ fn is_same_standing(was: Standing, is: Standing) -> bool
     was.left() == is.left() && was.right() == is.right()
 }
 
-/// The end of a bar's row that has `count` checkboxes. A row has two cells for checkboxes; the end has the cells that
-/// stay empty.
+/// The empty cells at the end of a bar's row that has `count` checkboxes. Each row has two cells for checkboxes.
 fn bar_end(count: u8) -> &'static str
     ensures { result.now ≡ bar_end count }
 {

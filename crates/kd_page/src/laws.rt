@@ -3,8 +3,9 @@ ghost use Rattle.kd_page.specs.Marks.{AllMarksHaveSettings};
 ghost use Rattle.kd_page.specs.PageOrder.{PinBoxesAreTheSettings, RotorBoxesAreTheSettings};
 ghost use Rattle.kd_page.specs.ShownBoxes.{PinPageHasTheBoxes, RotorPageHasTheBoxes};
 
-/// If settings are in a page's order, the page has a checkbox for each of these settings, in this order from the top,
-/// and no other checkbox.
+/// If settings are in a page's order, the page has the checkboxes of exactly these settings.
+///
+/// From the top of the page, the checkboxes are in the order of the settings.
 pub fn boxes_are_the_settings()
     ensures rotor { RotorBoxesAreTheSettings }
     ensures pin { PinBoxesAreTheSettings }

@@ -1,5 +1,5 @@
-//! The page of a day, to hang beside a machine. It has the settings in the order in which an operator makes them,
-//! pictures, and a test of the machine.
+//! The page of a day, to hang beside a machine. The page has pictures, a test of the machine, and the settings in the
+//! order in which an operator makes them.
 #![tactic(auto)]
 
 mod boxes;

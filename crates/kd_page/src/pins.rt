@@ -90,8 +90,8 @@ fn draw_pin_head<W: Sink>(sink: &mut W, language: Language, wheel: u8, count: u8
     draw_pin_lines(sink, language, wheel, count);
 }
 
-/// Writes the words with which the settings lines of a wheel's pins begin, such as `PIN 3`. Writes nothing if `count`,
-/// the number of pins to set, is 0.
+/// Writes the first words of the lines that set a wheel's pins, such as `PIN 3`. Writes nothing if `count`, the number
+/// of pins to set, is 0.
 fn draw_pin_lines<W: Sink>(sink: &mut W, language: Language, wheel: u8, count: u8)
     ensures { Draws W.taken W.has_failed sink.old sink.new (pin_lines wheel count) }
 {

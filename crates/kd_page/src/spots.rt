@@ -18,7 +18,7 @@ pub enum Step {
     Turns,
 }
 
-/// A spot of a page with checkboxes: a step, a row of the step's table, or a cell of the row.
+/// Where checkboxes stand on a page: at a step, in a row of the step's table, or in a cell of the row.
 #[derive(Clone, Copy)]
 pub struct Spot {
     pub step: Step,

@@ -27,7 +27,8 @@ pub(crate) fn draw_page_title<W: Sink>(sink: &mut W, page: &Page<'_>)
     );
 }
 
-/// Writes the title of the page in the head of a step. It is repeated there, as sheets of paper come apart.
+/// Writes the title of the page in the head of a step. The title is repeated there, since printed sheets of paper may
+/// come apart.
 fn draw_titled<W: Sink>(sink: &mut W, page: &Page<'_>)
     ensures { Draws W.taken W.has_failed sink.old sink.new (titled_text page.now) }
 {

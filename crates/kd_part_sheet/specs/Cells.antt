@@ -60,15 +60,15 @@ received_cells for_space (key ∷ keys) [] = []
 -- ---- The internal key of a Converter: wheels 1 to 6 each take the next letter that they have.
 
 -- The mark of a letter that is printed to find the internal key. Wheels 1 to 6 each take one printed letter. The first
--- argument is the last wheel that took a letter; 0 is none. If the next wheel has the printed letter, the next wheel
--- takes it; otherwise the letter is struck out. After wheel 6, no letter is needed.
+-- argument is the last wheel that took a letter; 0 if none did. If the next wheel has the printed letter, this wheel
+-- takes it. Otherwise the letter is struck out. After wheel 6, no letter is needed.
 abbrev pub mark_of : ℕ → ℕ → Mark
 mark_of taken letter =
     if taken == 6 then marks.NotNeeded
     else if is_some (place_on (ring_of (taken + 1)) letter) then marks.Taken (taken + 1) else marks.StruckOut
 
--- The last wheel that took a printed letter, after a letter with this mark. The first argument is the last wheel before
--- this letter; 0 is none.
+-- The last wheel that took a printed letter, up to and including a letter with this mark. The first argument is the
+-- last wheel that took a letter before this letter; 0 if none did.
 abbrev pub taken_after : ℕ → Mark → ℕ
 taken_after taken marks.NoMark = taken
 taken_after taken marks.NotNeeded = taken
@@ -76,8 +76,8 @@ taken_after taken marks.StruckOut = taken
 taken_after taken (marks.Taken wheel) = wheel
 
 -- The cells with which the internal key is found. In each cell, the chosen letter stands above the line, and the letter
--- printed for it stands below, with a mark. The first argument is the last wheel that took an earlier letter; 0 is
--- none.
+-- printed for it stands below, with a mark. The first argument is the last wheel that took an earlier letter; 0 if none
+-- did.
 abbrev pub choice_cells : ℕ → ℕ → List ℕ → List Cell
 choice_cells taken chosen [] = []
 choice_cells taken chosen (letter ∷ printed) =

@@ -156,7 +156,7 @@ fn text_sign(for_space: &Option<Letter>, letter: Option<Letter>) -> Sign
 /// Appends the cells with which the internal key is found. In each cell, `chosen` stands above the line, and the letter
 /// printed for it stands below, with a mark.
 ///
-/// `taken` is the last wheel that took an earlier letter; 0 is none.
+/// `taken` is the last wheel that took an earlier letter; 0 if none did.
 pub fn push_choice<const N: usize>(
     cells: &mut ArrayVec<Cell, N>,
     taken: u8,
@@ -179,8 +179,8 @@ pub fn push_choice<const N: usize>(
     }
 }
 
-/// The mark of a letter that is printed to find the internal key. `taken` is the last wheel that took a letter; 0 is
-/// none.
+/// The mark of a letter that is printed to find the internal key. `taken` is the last wheel that took a letter; 0 if
+/// none did.
 fn mark_of(taken: u8, letter: Letter) -> Mark
     requires { taken ≤ 6 }
     ensures { result ≡ mark_of taken letter }
@@ -194,8 +194,9 @@ fn mark_of(taken: u8, letter: Letter) -> Mark
     }
 }
 
-/// The last wheel that took a printed letter, after a letter with this mark. `taken` is the last wheel before this
-/// letter.
+/// The last wheel that took a printed letter, up to and including a letter with the mark `mark`.
+///
+/// `taken` is the last wheel that took a letter before this letter; 0 if none did.
 fn taken_after(taken: u8, mark: Mark) -> u8
     ensures { result ≡ taken_after taken mark }
 {

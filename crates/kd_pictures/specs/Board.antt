@@ -31,7 +31,8 @@ cable_of m number = unwrap_or (machine_cable m number) (None, None)
 abbrev pub has_plug : Parts → ℕ → ℕ → Bool
 has_plug m number letter = has_letter (cable_letters (cable_of m number)) letter
 
--- whether a cable's end has a letter at which the cable with this number has no plug on this machine
+-- whether a cable's end has a plug at some letter, but the other machine's cable with the same number has no plug at
+-- this letter
 abbrev pub end_moves : Parts → ℕ → Option ℕ → Bool
 end_moves n number end = option_map_or (λ letter. not (has_plug n number letter)) end false
 
@@ -109,7 +110,8 @@ abbrev pub moving_class : Plugs → Class
 moving_class Out = classes.Out
 moving_class In = classes.In
 
--- the class of a cable's line; the line is thick if this machine doesn't have all plugs of the cable at their letters
+-- the class of a cable's line; the line is thick if the other machine doesn't have all of this cable's plugs at the
+-- same letters
 abbrev pub line_class : Plugs → Parts → ℕ → Option ℕ × Option ℕ → Class
 line_class plugs n number cable =
     if end_moves n number cable.0 || end_moves n number cable.1 then moving_class plugs else classes.Plain
@@ -146,8 +148,8 @@ free_socket letter = filled texts.FREE.now (
     decimal (socket_x letter) ∷ decimal (label_y letter) ∷ letter_text letter
     ∷ decimal (socket_x letter) ∷ decimal (socket_y letter) ∷ [])
 
--- The socket of a letter: free, or with a cable's plug. If this machine doesn't have the plug at this letter, it is
--- drawn as a plug that moves.
+-- The socket of a letter: free, or with a cable's plug. If the other machine doesn't have this plug at this letter, the
+-- plug is drawn as a plug that moves.
 abbrev pub socket_holding : Plugs → Parts → ℕ → Option ℕ → List ℕ
 socket_holding plugs n letter None = free_socket letter
 socket_holding plugs n letter (Some number) =

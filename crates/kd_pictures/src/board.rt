@@ -193,7 +193,7 @@ fn draw_line<W: Sink>(
     draw_cable_line(sink, language, class, lane, cable_of(machine, number));
 }
 
-/// The class of a cable's line. The line is thick if `other` doesn't have all plugs of the cable at their letters.
+/// The class of a cable's line. The line is thick if `other` doesn't have all of the cable's plugs at the same letters.
 fn line_class(plugs: Plugs, other: &Machine, number: u8, cable: Cable) -> Class
     ensures { result ≡ line_class plugs other.now number cable }
 {

@@ -6,8 +6,8 @@
 use Rattle.std.specs.Prelude.{◌≡◌, ℕ, ◌+◌, ◌-◌, ◌%◌, ◌<◌, Bool, false, List, slice_index, slice_index_or, unwrap_or}
 use Rattle.kd_tables.specs.Rings.{IsRing, place_on}
 
--- A pin wheel as contracts see it. `ring`: its letters in order. `offset`: the number of places from the shown letter
--- on to the acting pin. `pins`: which pins are effective. `place`: the place of the shown letter.
+-- A pin wheel as contracts see it. `ring`: its letters in order. `offset`: how many places the acting pin is past the
+-- shown letter. `pins`: which pins are effective. `place`: the place of the shown letter.
 pub record TurnedWheel : Type 0 where
   pub ring : List ℕ
   pub offset : ℕ

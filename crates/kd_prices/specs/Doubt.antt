@@ -73,8 +73,8 @@ IsByNumberAnswer machine day settings prices = do
   _ ← Demands (price_sum prices ≡ pos (priced_count settings)) SumDiffers
   IsNeededAnswer machine day settings
 
--- The result of checking a card: success if the card proves itself, otherwise the first doubt. If each kind has one
--- price, the price of each cable, column, bar or row is found first.
+-- The result of checking a card: success if the card proves itself, otherwise the first doubt. If the prices are by
+-- kind, the price of each cable, column, bar or row is found first.
 abbrev pub IsCheckedAnswer : Parts → Day → List Setting → PriceParts → AnswerRule Doubt (Unit {0})
 IsCheckedAnswer machine day settings prices = do
   _ ← Demands (model_of machine ≡ day_model day) OtherModel

@@ -1,5 +1,5 @@
--- How the values in a TOML document are read. Each step gives a value or a fault. The steps of a `do` run in order,
--- and the first fault is the result of the whole `do`.
+-- How the values in a TOML document are read. Each step gives a value or a fault. The steps of a `do` block run in
+-- order, and the first fault is the result of the block.
 -- Source: TOML 1.1, toml.io.
 -- Code: the library `toml` parses the document, and `?` returns the first fault.
 -- Test: tests/cases/desk-files.toml

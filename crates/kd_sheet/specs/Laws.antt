@@ -25,7 +25,7 @@ abbrev pub WrittenSheetsAreReadBack : Type 0
 WrittenSheetsAreReadBack = (day : Day) (days : List Day) → AreSheetDays [] (day ∷ days)
     → sheet_of (sheet_text (day ∷ days)) ≡ Ok (month_of (day ∷ days))
 
--- A day is legal exactly if some entry, alone in a key sheet, describes the day.
+-- A day is legal exactly if a key sheet with only one entry can describe this day.
 abbrev pub LegalDaysAreDescribed : Type 0
 LegalDaysAreDescribed = (day : Day) → IsLegalDay day ↔ ((entry : Data) × (day_for [] entry ≡ Ok day))
 

@@ -32,8 +32,8 @@ model_in table = read_at keys.Model as_str table
 unfoldable pub reflector_in : Model → Members → Result Reflector SheetFault
 reflector_in model table = read_at keys.Reflector (from_text (find_by_text reflector_text (reflectors_of model))) table
 
--- the parts of a rotor machine, from a file's table. `rings` and `letters` have a letter for each wheel of the box, in
--- box order.
+-- the parts of a rotor machine, from a file's table. The texts at the keys `rings` and `letters` have a letter for each
+-- wheel of the box, in box order.
 unfoldable pub rotor_parts_in : Model → Members → Result RotorParts SheetFault
 rotor_parts_in model table = do
   reflector ← reflector_in model table

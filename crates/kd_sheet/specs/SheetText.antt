@@ -19,7 +19,7 @@ section_gap started = if started then codes "\n" else []
 abbrev pub section_text : Bool → List (List ℕ) → List ℕ
 section_text started lines = section_gap started ++ codes "[[day]]\n" ++ concat lines
 
--- the sections of several days; each day is given by its lines
+-- the sections of several days; the list has the lines of each day
 abbrev pub sections_text : Bool → List (List (List ℕ)) → List ℕ
 sections_text started [] = []
 sections_text started (lines ∷ days) = section_text started lines ++ sections_text true days

@@ -17,7 +17,7 @@ pub fn written_sheets_are_read_back()
     ensures { WrittenSheetsAreReadBack }
 {}
 
-/// A day is legal exactly if some entry, alone in a key sheet, describes the day.
+/// A day is legal exactly if a key sheet with only one entry can describe this day.
 ///
 /// Day `number` of a sheet is the day that the entry for day `number` describes.
 pub fn days_are_the_entries()

@@ -63,7 +63,7 @@ fn pin_parts_in(table: &Table) -> Result<PinParts, SheetFault>
     })
 }
 
-/// Reads a machine of `model`.
+/// Reads a machine of `model` from the file's table, or returns the first fault.
 #[tactic(auto, using(crate::proofs::ReadBack::Described::rotor_parts_legal, crate::proofs::ReadBack::Described::pin_parts_legal), unfolding(crate::specs::MachineFile::parts_in))]
 fn parts_in(table: &Table, model: Model) -> Result<Machine, SheetFault>
     ensures { result ≡ parts_in model (table_view table.now) }

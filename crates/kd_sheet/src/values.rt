@@ -1,4 +1,4 @@
-//! Reads values of machine files and key sheets: a file for each sort of value.
+//! Reads values of machine files and key sheets. Each sort of value has its own module.
 
 pub(crate) mod bars;
 pub(crate) mod cables;

@@ -24,7 +24,7 @@ abbrev pub count : Counted → DayCounts → ℕ
 count Pairs day = day.pairs
 count Groups day = day.groups
 
--- whether `other` is for the same model as `day`, and has more pairs or more groups, as `counted` says
+-- whether `other` is for the same model as `day`, and has more pairs or groups; `counted` says which are compared
 abbrev pub has_more : Counted → DayCounts → DayCounts → Bool
 has_more counted day other =
     (model_eq.ghosts).eq other.model day.model && nat_lt (count counted day) (count counted other)
@@ -50,7 +50,8 @@ few_words start counted day most =
     start ++ codes "day " ++ decimal day.day ++ codes " has " ++ count_words counted (count counted day)
     ++ codes ", and day " ++ decimal most.day ++ codes " has " ++ decimal (count counted most) ++ codes "\n"
 
--- the warning about a day; empty if no day of the same model has more pairs or more groups, as `counted` says
+-- The warning about a day. Empty if no day of the same model has more pairs or groups. `counted` says which are
+-- compared.
 abbrev pub few_line : List ℕ → List DayCounts → DayCounts → Counted → List ℕ
 few_line start days day counted =
     option_map_or (few_words start counted day) (find (has_most counted days day) days) []

@@ -42,7 +42,8 @@ IsOfItsRow slips.NoMemory = Unit {0}
 abbrev pub type_fault : Key → Option Data → SheetFault
 type_fault key value = if is_some value then BadValue key else Missing key
 
--- The number of the first item that can't be read. `reads` says whether the item with a number can be read.
+-- The number of the first item that can't be read, counted from 1. `reads` takes an item's number and the item, and
+-- says whether the item can be read.
 abbrev pub first_refused : (ℕ → Data → Bool) → List Data → Option ℕ
 first_refused reads items =
     find (λ number. not (option_map_or (reads number) (numbered_item items number) true)) (range_with_len 1 (length items))

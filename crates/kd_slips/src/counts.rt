@@ -48,14 +48,15 @@ fn count(counted: Counted, day: &DayCounts) -> usize
     }
 }
 
-/// Whether `other` is for the same model as `day`, and has more pairs or more groups, as `counted` says.
+/// Whether `other` is for the same model as `day`, and has more pairs or groups. `counted` says which are compared.
 fn has_more(counted: Counted, day: &DayCounts, other: &DayCounts) -> bool
     ensures { result ≡ has_more counted day.now other.now }
 {
     other.model == day.model && count(counted, day) < count(counted, other)
 }
 
-/// Whether one of `days` is for the same model as `day`, and has more pairs or more groups, as `counted` says.
+/// Whether one of `days` is for the same model as `day`, and has more pairs or groups. `counted` says which are
+/// compared.
 fn is_topped(counted: Counted, day: &DayCounts, days: &[DayCounts]) -> bool
     ensures { result ≡ list_any (has_more counted day.now) days.now }
 {
@@ -74,7 +75,7 @@ fn has_most(counted: Counted, days: &[DayCounts], day: &DayCounts, other: &DayCo
     has_more(counted, day, other) && !is_topped(counted, other, days)
 }
 
-/// The first day of `rest` that has more pairs or groups than `day`, and has the most of its model in `days`.
+/// The first day of `rest` that has the most pairs or groups of all days of its model in `days`, and more than `day`.
 fn find_most(
     counted: Counted,
     days: &[DayCounts],
@@ -152,8 +153,8 @@ fn push_words(
     lines.push_str("\n")
 }
 
-/// Appends the warning about `day`, if another day of the same model in `days` has more pairs or more groups, as
-/// `counted` says.
+/// Appends the warning about `day`, if another day of the same model in `days` has more pairs or groups. `counted` says
+/// which are compared.
 fn push_few(
     lines: &mut String,
     start: &str,

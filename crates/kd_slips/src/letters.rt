@@ -124,7 +124,7 @@ pub fn check_on_wheel(
     )
 }
 
-/// Checks that the text at `key` has a letter for each pin wheel, and that each wheel has its letter.
+/// Checks that the text at `key` has six letters, one for each pin wheel, and that each letter is on its wheel.
 pub fn check_shown(alloc: Global, table: &Table, key: Key) -> Result<(), Slip> {
     let text = text_at(alloc, table, key)?;
     let fault = SheetFault::BadValue(key);

@@ -1,6 +1,6 @@
 -- Rules for results: a rule says which values and which faults are right answers of a function. A `do` block joins the
--- rules of several steps, in the order of testing. If a step fails, its fault is the right answer, and no later step
--- counts.
+-- rules of several steps, in the order of testing. If a step fails, its fault is the right answer, and the later steps
+-- make no difference.
 use Rattle.std.specs.Prelude.{◌≡◌, Result, Ok, Err}
 
 -- a rule: which values, and which faults, are right answers of a function
@@ -14,7 +14,8 @@ pub data ThenNext {F X Y : Type 0} (First : Result X F → Type 0) (Next : X →
   HasFault : (fault : F) → First (Err fault) → answer ≡ Err fault → ThenNext First Next answer
   GoesOn : (x : X) → First (Ok x) → Next x answer → ThenNext First Next answer
 
--- The rule for two steps: first `says`, and then `next x` for the value `x` that the first step finds.
+-- The rule for two steps. The left operand is the rule for the first step. The right operand gives the rule for the
+-- second step, from the value that the first step finds.
 infixl 10 ◌>>=◌
 abbrev pub ◌>>=◌ : {F X Y : Type 0} → AnswerRule F X → (X → AnswerRule F Y) → AnswerRule F Y
 says >>= next = ThenNext says next

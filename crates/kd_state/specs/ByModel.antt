@@ -1,5 +1,6 @@
--- Definitions by three cases: machine and day are both of a rotor machine, or both of a Converter, or of different
--- sorts. A definition such as `f = by_model u r p` leaves out the last two arguments: the machine and the day.
+-- Definitions by three cases: a rotor machine with a rotor machine's day, a Converter with a Converter's day, and a
+-- machine with a day of the other sort. A definition such as `f = by_model u r p` leaves out the last two arguments:
+-- the machine and the day.
 use Rattle.kd_state.specs.declared.machine.rotor_parts.RotorParts.{RotorParts}
 use Rattle.kd_state.specs.declared.machine.pin_parts.PinParts.{PinParts}
 use Rattle.kd_state.specs.declared.machine.parts.Parts.{Parts}

@@ -39,7 +39,7 @@ cable_cost cable column =
 abbrev pub lugs_moved : Place × Place → Place × Place → ℕ
 lugs_moved bar other = one_unless (is_same_place bar.0 other.0) + one_unless (is_same_place bar.1 other.1)
 
--- the standings (places of two lugs) that have this row as their reading, in the order of `standings`
+-- the standings (places of a bar's two lugs) that have this row as their reading, in the order of the list `standings`
 unfoldable pub standings_as : ℕ × ℕ → List (Place × Place)
 standings_as row =
     filter (λ bar. let reading = reading_of bar in nat_eq reading.0 row.0 && nat_eq reading.1 row.1) standings
@@ -49,7 +49,7 @@ abbrev pub bar_cost : Place × Place → ℕ × ℕ → ℕ
 bar_cost standing row = fold min 2 (map (lugs_moved standing) (standings_as row))
 
 -- the standing that reads as the row after the fewest moves of lugs. Of two equally near standings, it is the first in
--- `standings`.
+-- the list `standings`.
 abbrev pub nearest_standing : Place × Place → ℕ × ℕ → Option (Place × Place)
 nearest_standing bar row = find (λ other. nat_eq (lugs_moved bar other) (bar_cost bar row)) (standings_as row)
 
@@ -60,7 +60,7 @@ nearest_standing bar row = find (λ other. nat_eq (lugs_moved bar other) (bar_co
 abbrev pub columns_of : List (ℕ × ℕ) → List (Option (ℕ × ℕ))
 columns_of pairs = map Some pairs ++ replicate (13 - length pairs) None
 
--- a cost table: for each of `rows`, a list of its costs with `columns`
+-- a cost table: for each item of `rows`, a list of its costs with the items of `columns`
 abbrev pub costs_by : {X Y : Type 0} → (X → Y → ℕ) → List X → List Y → List (List ℕ)
 costs_by cost rows columns = map (λ row. map (cost row) columns) rows
 
@@ -87,7 +87,7 @@ loose_count = by_model 0
 
 -- ---- How the standings for a row are found. No public contract cites these definitions.
 
--- the place on a bar where this pin wheel acts; for 0, the left place without a wheel
+-- the place on a bar where the pin wheel with this number acts; for 0, the left one of the two places without a wheel
 abbrev pub place_of_pin_wheel : ℕ → Place
 place_of_pin_wheel wheel = slice_index_or (ZeroLeft ∷ One ∷ Two ∷ Three ∷ Four ∷ Five ∷ Six ∷ []) wheel Six
 

@@ -15,7 +15,7 @@ abbrev pub cipher : EngineKey → List ℕ → List ℕ
 cipher (Rotor key) text = enigma_cipher key text
 cipher (Pin key) text = converter_cipher key text
 
--- the key of an engine after this many letters were enciphered
+-- the key of an engine after it has enciphered a number of letters
 abbrev pub engine_key_after : EngineKey → ℕ → EngineKey
 engine_key_after (Rotor key) n = Rotor (key_after key n)
 engine_key_after (Pin key) n = Pin (pin_key_after key n)

@@ -1,9 +1,10 @@
--- Definitions that test step by step: each step gives a value or a fault. The steps of a `do` run in order, and the
--- first fault is the result of the whole `do`.
+-- Definitions that test step by step: each step gives a value or a fault. The steps of a `do` block run in order, and
+-- the first fault is the result of the block.
 -- Code: `?` returns the first fault.
 use Rattle.std.specs.Prelude.{Bool, Result, Ok, Err, if◌then◌else◌}
 
--- Applies the function `next` to the left operand if this is a value; a fault stays as it is.
+-- Applies the right operand, a function, to the value of the left operand. If the left operand is a fault, the result
+-- is this fault.
 infixl 10 ◌>>=◌
 abbrev pub ◌>>=◌ : {A B F : Type 0} → Result A F → (A → Result B F) → Result B F
 (Ok x) >>= next = next x

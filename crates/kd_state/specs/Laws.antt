@@ -24,13 +24,14 @@ SamePartsAreEqual =
 
 -- ---- The laws of settings and lists of settings.
 
--- After a setting, a machine's parts are legal, and each cable's letters are in alphabetical order.
+-- After a machine carries out a setting, its parts are legal, and each cable's letters are in alphabetical order.
 abbrev pub SettingsKeepMachines : Type 0
 SettingsKeepMachines =
     (machine after : Parts) (setting : Setting) → IsMachine machine → IsSettingInRange setting
     → Carries machine setting after → IsMachine after
 
--- After a list of settings, a machine's parts are legal, and each cable's letters are in alphabetical order.
+-- After a machine carries out a list of settings, its parts are legal, and each cable's letters are in alphabetical
+-- order.
 abbrev pub ListsKeepMachines : Type 0
 ListsKeepMachines =
     (machine after : Parts) (settings : List Setting) → IsMachine machine → All IsSettingInRange settings
@@ -124,7 +125,7 @@ EquallySetDecipher =
     → window_of machine ≡ window_of other → All (λ letter. letter < 26) text
     → physical_cipher other (physical_cipher machine text) ≡ text
 
--- An engine on the day's key deciphers its own ciphertext once it is turned back to its first letters.
+-- If an engine on the day's key is turned back to the letters that it showed first, it deciphers its own ciphertext.
 abbrev pub DaysEngineDeciphersItself : Type 0
 DaysEngineDeciphersItself = (day : Day) (window text : List ℕ) → IsLegalDay day → All (λ letter. letter < 26) text
     → cipher (key_with_window (sheet_key day) window) (cipher (key_with_window (sheet_key day) window) text) ≡ text

@@ -19,7 +19,7 @@ line_then words rest = line_of words ++ 10 ∷ rest
 abbrev pub IsWithout : ℕ → List ℕ → Type 0
 IsWithout byte text = All (λ other. other ≢ byte) text
 
--- `text` has the byte `byte`. `part` is the text before the first such byte, and `rest` is the text after it.
+-- `text` has the byte `byte`. `part` is the text before the first `byte`, and `rest` is the text after this byte.
 pub record IsFirstPart (byte : ℕ) (text part rest : List ℕ) : Type 0 where
   pub joined : text ≡ part ++ byte ∷ rest
   pub without : IsWithout byte part

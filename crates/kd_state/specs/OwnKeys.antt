@@ -11,7 +11,8 @@ use Rattle.kd_state.specs.SeatedWheels.{key_of_wheels}
 use Rattle.kd_state.specs.SheetDay.{Day, Rotor, Pin}
 use Rattle.kd_state.specs.TwoCiphers.{key_of_rotor_parts, key_of_pin_day, window_of}
 
--- the key to which a machine is set; right of `=`, `Rotor` and `Pin` make an `EngineKey`
+-- the key to which a machine is set. In each case of the definition, the first `Rotor` or `Pin` is a variant of
+-- `Parts`, and the second is a variant of `EngineKey`.
 abbrev pub physical_key : Parts → EngineKey
 physical_key (Rotor machine) = Rotor (key_of_rotor_parts machine)
 physical_key (Pin machine) = Pin (record {

@@ -1,4 +1,4 @@
--- The key of a rotor machine with given wheels, and the wheels in its slots.
+-- The key of a rotor machine, made from its wheels; and the wheels in a machine's slots.
 use Rattle.std.specs.Prelude.{ℕ, List, map, Option, Some, None}
 use Rattle.kd_tables.specs.declared.wheel.Wheel.{Wheel}
 use Rattle.kd_tables.specs.declared.reflector.Reflector.{Reflector}

@@ -33,7 +33,7 @@ is_same_place place other = nat_eq (place_rank place) (place_rank other)
 abbrev pub has_loose_end : Option ℕ × Option ℕ → Bool
 has_loose_end cable = not (is_some cable.0 && is_some cable.1)
 
--- a bar's standing after the given lug is moved to the given place
+-- a bar's standing after its left or its right lug is moved to another place
 abbrev pub with_lug : Lug → Place → Place × Place → Place × Place
 with_lug Left place bar = (place, bar.1)
 with_lug Right place bar = (bar.0, place)
@@ -46,7 +46,7 @@ cable_without letter cable = if option_map_or (nat_eq letter) cable.0 false then
 abbrev pub cable_with : ℕ → Option ℕ × Option ℕ → Option ℕ × Option ℕ
 cable_with letter cable = cable_in_order (option_or cable.0 cable.1) (Some letter)
 
--- a slot's content once this wheel is taken out: nothing if the slot held the wheel, otherwise as before
+-- a slot's content after this wheel is taken out: nothing if the slot held the wheel, otherwise as before
 abbrev pub seat_without : Wheel → Option Wheel → Option Wheel
 seat_without wheel seated = if option_map_or (same_wheel wheel) seated false then None else seated
 

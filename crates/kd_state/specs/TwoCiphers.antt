@@ -60,7 +60,7 @@ physical_cipher (Pin machine) text =
     let bars = map (λ (bar : Place × Place). (place_number bar.0, place_number bar.1)) machine.bars in
     converter_cipher (record { pins = pins_of machine.pins; letters = machine.letters; bars = bars }) text
 
--- the ciphertext that a day asks for
+-- the ciphertext of a text, enciphered with the key that the day asks for
 abbrev pub sheet_cipher : Day → List ℕ → List ℕ
 sheet_cipher (Rotor day) text = enigma_cipher (key_of_wheels day.wheels day.reflector (exchange day.pairs)) text
 sheet_cipher (Pin day) text = converter_cipher (key_of_pin_day day) text

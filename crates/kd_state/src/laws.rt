@@ -91,7 +91,7 @@ pub fn ready_machines_can_be_turned()
 
 /// If two machines on the day's key show the same letters, each deciphers the other's ciphertext.
 ///
-/// An engine on the day's key also deciphers its own ciphertext once it is turned back to its first letters.
+/// If an engine on the day's key is turned back to the letters that it showed first, it deciphers its own ciphertext.
 pub fn equally_set_machines_decipher()
     ensures another { EquallySetDecipher }
     ensures itself { DaysEngineDeciphersItself }

@@ -178,7 +178,7 @@ impl SheetDay {
 
     /// The day's groups of three letters, at most 4. `None` on the Converter M-209.
     ///
-    /// Each part of a message carries one of these groups, which shows the receiver the day.
+    /// Each part of a message has one of these groups, by which the receiver recognizes the day.
     pub fn groups(&self) -> Option<&[[Letter; 3]]>
         ensures value { option_copied result ≡ option_map (λ s. s.groups) (rotor_day self.now) }
         ensures few { IfSome result (λ groups. length groups.now ≤ 4) }

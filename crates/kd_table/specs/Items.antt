@@ -103,7 +103,7 @@ letters = record { keeps = λ byte. false; alone = is_capital_letter }
 abbrev pub hyphened : Bytes
 hyphened = record { keeps = λ byte. byte == 45; alone = λ byte. false }
 
--- the number in a cell; `None` unless the cell has exactly one word, and this word is a number
+-- the number in a cell whose only word is a number; for any other cell, `None`
 abbrev pub number_in : List ℕ → Option ℕ
 number_in cell = option_and_then single (values_in words number_of cell)
 

@@ -138,7 +138,7 @@ pub fn row_model(
     model_named(text_of(options, columns, row, Cell::Model))
 }
 
-/// The cells of `row` that depend on its model; none if the model's name can't be read.
+/// The cells of `row` that depend on its model. No cells if the model's name can't be read.
 pub fn known_cells(
     options: &TableOptions<&[u8]>,
     columns: &Columns,
@@ -160,7 +160,7 @@ pub fn is_optional(cell: Cell) -> bool
     matches!(cell, Cell::Groups)
 }
 
-/// Whether the table has the column of `cell` or an option for it, or the column isn't needed.
+/// Whether the table has the column of `cell`, has an option in its place, or doesn't need the column.
 fn has_column(options: &TableOptions<&[u8]>, columns: &Columns, cell: Cell) -> bool
     ensures { result ≡ (is_optional cell || has_text (texts_of options.now) columns.now cell) }
 {

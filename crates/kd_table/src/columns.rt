@@ -137,7 +137,7 @@ fn column_from(head: &ByteRecord, cell: Cell, place: usize, count: usize) -> Opt
     column_from(head, cell, place + 1, count - 1)
 }
 
-/// The place of the column of `cell`: the first of 64 columns with one of its three names.
+/// The place of the column of `cell`: the first column with one of its three names, among the table's first 64 columns.
 fn column_named(head: &ByteRecord, cell: Cell) -> Option<usize>
     ensures { result ≡ column_named cell (fields_of head.now) }
 {

@@ -86,8 +86,8 @@ fn push_empty_day(text: &mut FileString, model: Model, number: u8)
     }
 }
 
-/// The section of a day to fill in: `[[day]]` and the day's lines. If `started`, an empty line stands before the
-/// section.
+/// The section of a day to fill in: `[[day]]` and the day's lines. If `started` is true, an empty line stands before
+/// the section.
 fn empty_section(started: bool, model: Model, number: u8) -> FileString
     ensures { result.bytes ≡ section_text started (empty_day_lines model number) }
 {

@@ -109,7 +109,7 @@ pub fn values_in<T: FromWord + Copy + Default>(cell: &[u8]) -> Option<Values<T>>
     Some(values)
 }
 
-/// The digit `byte`; `None` if it isn't a digit.
+/// The value of the digit `byte`; `None` if `byte` isn't a digit.
 fn digit_of(byte: u8) -> Option<u8>
     ensures { result ≡ digit_of byte }
 {
@@ -275,7 +275,7 @@ impl FromWord for Reading {
     }
 }
 
-/// The number in a cell. `None` unless the cell has exactly one word, and this word is a number.
+/// The number in a cell whose only word is a number. For any other cell, `None`.
 pub fn number_in(cell: &[u8]) -> Option<u8>
     ensures { result ≡ number_in cell.now }
 {

@@ -15,8 +15,8 @@ use csv::ByteRecord;
 use kd_state::{SheetDay, SheetWheel};
 use kd_tables::{Letter, Model, Wheel};
 
-/// Appends the wheels, each with its ring and its window letter. `None` if there aren't equally many wheels, rings and
-/// letters, or a slot is empty.
+/// Appends the wheels, each with its ring and its window letter. `None` if the numbers of wheels, rings and letters
+/// differ, or a slot is empty.
 fn push_wheels(
     wheels: &mut Values<SheetWheel>,
     names: &[Option<Wheel>],
@@ -41,8 +41,8 @@ fn push_wheels(
     }
 }
 
-/// The wheels, each with its ring and its window letter. `None` if there aren't equally many wheels, rings and letters,
-/// or a slot is empty.
+/// The wheels, each with its ring and its window letter. `None` if the numbers of wheels, rings and letters differ, or
+/// a slot is empty.
 fn wheels_with(
     names: &Values<Option<Wheel>>,
     rings: &Values<Letter>,

@@ -79,7 +79,7 @@ pub fn is_blank_row(columns: &Columns, row: &ByteRecord) -> bool
     has_nothing(row, &places_of(columns)) && has_nothing(row, &columns.pins)
 }
 
-/// Whether `row` is blank in the columns from `start` up to `end`.
+/// Whether `row` is blank in the columns from `start` to just before `end`.
 fn are_blank(row: &ByteRecord, start: usize, end: usize) -> bool
     ensures { result ≡ list_all (λ place. is_blank (cell_at (Some place) (fields_of row.now)))
         (range_with_len start (end - start)) }

@@ -101,7 +101,7 @@ fn push_pin_day(text: &mut FileString, entry: &PinEntry)
     push_converter_lines(text, entry);
 }
 
-/// The section of `day`: the line `[[day]]`, and the day's lines. If `started`, an empty line stands before the
+/// The section of `day`: the line `[[day]]`, and the day's lines. If `started` is true, an empty line stands before the
 /// section.
 fn section_of(started: bool, day: &SheetDay) -> FileString
     ensures { result.bytes ≡ section_text started (day_lines day.now) }
@@ -115,7 +115,7 @@ fn section_of(started: bool, day: &SheetDay) -> FileString
     text
 }
 
-/// Writes the sections of `days`. If `started`, an empty line stands before the first section.
+/// Writes the sections of `days`. If `started` is true, an empty line stands before the first section.
 fn put_sections<W: Sink>(sink: &mut W, started: bool, days: &[SheetDay]) -> Result<(), Device>
     ensures text { Writes (W.taken sink.old) (W.taken sink.new)
         (sections_text started (map day_lines days.now)) result }

@@ -1,4 +1,4 @@
--- Which key a machine has, by the rows of its table.
+-- The key of a machine, taken from the rows of the machine's table.
 use Rattle.kd_state.specs.EngineKey as keys
 use Rattle.kd_state.specs.EngineKey.{EngineKey}
 use Rattle.kd_typing.specs.declared.machine_rows.MachineRows.{MachineRows}

@@ -10,11 +10,12 @@ use Rattle.kd_pins.specs.PinWheel.{is_effective}
 use Rattle.kd_pins.specs.PinWheels.{acting_offset, pin_wheels, pins_on}
 use Rattle.kd_drum.specs.Converter.{PinKey, shown_place}
 
--- The table of a Converter. `pins` has a list for each wheel, with an item for each letter, in the order of the letters
--- on the wheel. The item says whether the acting pin is effective while the wheel shows this letter.
--- `rows` has a row for each set of wheels: the letters that are printed for A to Z if these wheels, and no others, have
--- an effective acting pin. The row's number has a binary digit for each wheel, wheel 1 first; the digit is 1 for the
--- wheels of the set.
+-- The table of a Converter.
+-- - `pins` has a list for each wheel. For each letter, in the wheel's order, the list says whether the acting pin is
+--   effective while the wheel shows this letter.
+-- - `rows` has a row for each set of wheels: the letters that are printed for A to Z if exactly these wheels have an
+--   effective acting pin.
+-- - The number of a row has six binary digits, for wheels 1 to 6; 1 means that the set has the wheel.
 pub record PinTable : Type 0 where
   pub rows : List (List ℕ)
   pub pins : List (List Bool)

@@ -14,12 +14,12 @@ use Rattle.kd_step.specs.Stepper.{with_last_moved}
 use Rattle.kd_enigma.specs.Cipher.{RotorKey, IsPlugboard, path, product, rotors}
 
 -- The table of a rotor machine.
--- `into` has a row for each letter that the right window can show: the places that the current of each key reaches, in
--- through the plugboard and the right wheel.
--- `core` has a row for each combination of letters in the other windows: the places at which the current comes out of
--- the core.
--- `steps` has a number for each pair of letters in the middle and the right window. The number says how many wheels
--- move at the next key press.
+-- - `into` has a row for each letter in the right window: the places that the current of each key reaches, in through
+--   the plugboard and the right wheel.
+-- - `core` has a row for each combination of letters in the other windows: the places at which the current comes out of
+--   the core.
+-- - `steps` has a number for each pair of letters in the middle and the right window: how many wheels move at the next
+--   key press.
 pub record RotorTable : Type 0 where
   pub into : List (List ℕ)
   pub core : List (List ℕ)
@@ -49,7 +49,7 @@ window_by table window =
     with_last_moved (slice_index table.steps (26 * letter_in window 1 + letter_in window 0)) window
 
 -- The letter that lights up for `key` while the windows show `window`. The current of `key` comes out of the core at
--- some place. This letter's own key leads the current into the core at the same place.
+-- some place. The letter whose own key leads the current into the core at this place lights up.
 abbrev pub lamp_by : RotorTable → List ℕ → ℕ → ℕ
 lamp_by table window key =
     let into = slice_index_or table.into (letter_in window 0) [] in
@@ -85,8 +85,7 @@ core_key key = record {
 unfoldable pub core_row : RotorKey → List ℕ → List ℕ
 core_row key window = path (core_key key) window
 
--- The letters of `count` windows whose row of `core` has this number. They are the number's last `count` digits in base
--- 26.
+-- the letters of `count` windows for the row of `core` with this number: the number's last `count` digits in base 26
 abbrev pub letters_with_number : ℕ → ℕ → List ℕ
 letters_with_number zero number = []
 letters_with_number (suc count) number = number / 26 ^ count % 26 ∷ letters_with_number count number

@@ -36,10 +36,9 @@ impl PinRows {
         }
     }
 
-    /// The letters that are printed for A to Z while the wheels of the set with number `number`, and no others, have an
-    /// effective acting pin.
+    /// The letters that are printed for A to Z while exactly the wheels of set `number` have an effective acting pin.
     ///
-    /// The number has a binary digit for each wheel, wheel 1 first; the digit is 1 for the wheels of the set.
+    /// The number has six binary digits, for wheels 1 to 6; 1 means that the set has the wheel.
     pub fn row_at(&self, number: usize) -> [Letter; 26]
         requires { number < 64 }
         ensures { result ≡ pin_row self.now number }

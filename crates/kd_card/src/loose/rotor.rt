@@ -52,7 +52,7 @@ fn push_seats(settings: &mut Settings, number: u8, slots: &[Option<Wheel>], whee
     }
 }
 
-/// Appends the setting RING for each wheel in `boxed` that the day uses with another ring than the machine's.
+/// Appends the setting RING for each wheel in `boxed` that the day uses, if its ring isn't at the day's letter.
 fn push_rings(settings: &mut Settings, machine: &Machine, boxed: &[Wheel], wheels: &[SheetWheel])
     requires room { array_vec_len settings.old + length boxed.now ≤ 192 }
     ensures items { settings.new.items ≡ settings.old.items
@@ -83,7 +83,7 @@ fn push_turns(settings: &mut Settings, machine: &Machine, number: u8, wheels: &[
     }
 }
 
-/// Appends the setting RING for `wheel` if the day uses this wheel with another ring than the machine's.
+/// Appends the setting RING for `wheel` if the day uses this wheel, and its ring isn't at the day's letter.
 fn push_ring(settings: &mut Settings, machine: &Machine, wheels: &[SheetWheel], wheel: Wheel)
     requires { array_vec_len settings.old + 1 ≤ 192 }
     ensures items { settings.new.items

@@ -26,7 +26,7 @@ const KEPT_LETTERS: usize = 525;
 /// The number of letters in `PART`. If a heading line follows a body, these letters are kept with the body's letters.
 pub(crate) const HEADING_LETTERS: usize = 4;
 
-/// The number of bytes of a line that are kept: enough to see whether the line is a heading line.
+/// The reader keeps at most this number of bytes of a line: enough to see whether it is a heading line.
 const LINE_START: usize = 6;
 
 /// The body of a part of a form, as far as it has been read.

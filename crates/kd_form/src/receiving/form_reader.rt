@@ -14,7 +14,9 @@ use crate::text_bytes::is_text_byte;
 use arrayvec::ArrayVec;
 use kd_state::SheetDay;
 
-/// The number of bytes of a heading line that are kept. A valid heading line, with its line end, has fewer bytes.
+/// The reader keeps at most this number of bytes of a heading line.
+///
+/// A valid heading line, with its line end, has fewer bytes.
 const KEPT_LINE: usize = 64;
 
 /// A reader of a form, which holds only the current part.
@@ -107,7 +109,8 @@ impl MessageReader for FormReader {
     }
 }
 
-/// The fault of a form that ends within the heading line of part `number`. `line` has the bytes kept of this line.
+/// The fault of a form that ends within the heading line of part `number`. `line` is this heading line, or its first 64
+/// bytes if it is longer.
 ///
 /// If the heading is valid and its numbers are right, the fault is `CountWrong`, because the part has no body.
 fn fault_in_heading(

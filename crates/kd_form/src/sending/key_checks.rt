@@ -1,4 +1,4 @@
-//! Checks that the keys of an order suit the day.
+//! Checks that the keys of an order suit the day: groups, external letters and internal keys.
 ghost use Rattle.std.specs.Prelude.{◌≤◌, length, All};
 ghost use Rattle.kd_form.specs.InTurn.{InTurn};
 ghost use Rattle.kd_form.specs.Keys.{AreKeys};
@@ -26,7 +26,7 @@ pub(crate) fn check_keys(day: &SheetDay, keys: &[Keys]) -> Result<(), FormFault>
     Ok(())
 }
 
-/// Checks that the keys of part number `part` suit the day.
+/// Checks the keys of one part: a rotor machine's group, or a Converter's external letters and internal key.
 fn check_part_keys(day: &SheetDay, part: u8, keys: &Keys) -> Result<(), FormFault>
     requires { AreKeys day.now keys.now }
     ensures { IsKeysAnswer day.now part keys.now result }
@@ -43,7 +43,7 @@ fn check_part_keys(day: &SheetDay, part: u8, keys: &Keys) -> Result<(), FormFaul
     }
 }
 
-/// Checks that the keys of part number `part` suit the day of a Converter M-209.
+/// Checks that a Converter's external letters are on their wheels, and that the keys give an internal key.
 fn check_pin_keys(machine: &mut DayMachine, part: u8, keys: &PinKeys) -> Result<(), FormFault>
     requires { AreKeys machine.old (Keys.Pin keys.now) }
     ensures { IsKeysAnswer machine.old part (Keys.Pin keys.now) result }

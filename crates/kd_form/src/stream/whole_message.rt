@@ -1,4 +1,4 @@
-//! Reads a message in memory: returns its form or text, or only looks for a fault.
+//! Reads a message that is in memory: returns its form or text, or only looks for a fault.
 ghost use Rattle.std.specs.Prelude.{◌≡◌, ◌||◌, MatchResult};
 ghost use Rattle.kd_tables.specs.Ports.{port};
 ghost use Rattle.kd_form.specs.OnTheKey.{IsFaultOrNoMemory};

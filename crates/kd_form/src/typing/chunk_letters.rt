@@ -49,7 +49,7 @@ fn write_letters(letters: &[Letter], bytes: &mut [u8])
     }
 }
 
-/// Collects the letters before the first byte that isn't allowed, and returns the index of this byte.
+/// Collects the letters before the first byte that isn't allowed in a text, and returns the index of this byte.
 ///
 /// If all bytes are allowed, returns the number of bytes. On entry, `letters` must be as long as `bytes`.
 fn collect_letters(bytes: &[u8], letters: &mut ArrayVec<Letter, CHUNK>) -> usize
@@ -85,7 +85,7 @@ fn set_length<T: Copy + Default>(items: &mut ArrayVec<T, CHUNK>, count: usize)
     }
 }
 
-/// Types the letters before the first byte that isn't allowed, and returns the index of this byte.
+/// Types the letters before the first byte that isn't allowed in a text, and returns the index of this byte.
 ///
 /// If all bytes are allowed, returns the number of bytes. `lamps` gets the lamps that light up, as capital letters.
 /// `letters` is only a buffer.

@@ -11,7 +11,7 @@ use toml::{Table, Value};
 
 /// A type whose values can be read from the items of an array.
 ///
-/// `Given` is what a reader needs besides the items: for a wheel, the key and the model.
+/// `Given` is what a reader needs besides the items, such as the key and the model for wheels in slots.
 pub trait FromItem<Given> {
     /// The rule for reading an item. It gives a value or a fault for `Given`, the earlier items' values, and the item.
     ghost parse: { Given → List Self → Data → Result Self SheetFault };

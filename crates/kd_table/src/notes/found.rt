@@ -1,4 +1,4 @@
-//! The days and the models in the rows so far, for the notes on later rows.
+//! The days and the models of all earlier rows, for the notes on later rows.
 use super::cell_words::day_words;
 use super::head::Head;
 use super::head_words::missing_of_model;
@@ -9,7 +9,7 @@ use arrayvec::ArrayVec;
 use csv::ByteRecord;
 use kd_tables::Model;
 
-/// The days and the models in the rows so far, for the notes on later rows.
+/// The days and the models of all earlier rows, for the notes on later rows.
 #[derive(Drop)]
 pub struct Found {
     /// For each day, the number of the first row with this day; 0 if no row has this day.
@@ -19,7 +19,7 @@ pub struct Found {
 }
 
 impl Found {
-    /// The state before the first row.
+    /// The state before the first row: no days, and no models.
     pub fn new() -> Self {
         Found {
             rows: [0; 32],

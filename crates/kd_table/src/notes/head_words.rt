@@ -47,8 +47,8 @@ pub fn missing_of_model(head: &Head<'_>, model: Model) -> Words {
     lines
 }
 
-/// Asks whether an unread column is meant to be the column of `cell`. Says nothing if the table has the column of
-/// `cell`, or if no unread column nearly has its name.
+/// If the table lacks the column of `cell`, and an unread column has nearly its name, asks whether that column is
+/// meant.
 fn tell_near(lines: &mut Words, head: &Head<'_>, cell: Cell) {
     if column_of(head.columns(), cell).is_none()
         && let Some(column) = near_column(head.columns(), head.names(), cell)

@@ -122,8 +122,8 @@ fn end_words(head: &Head<'_>, row: &ByteRecord) -> Words {
     lines
 }
 
-/// Whether a row isn't a day, but its cells have no notes (`start` equals `end`). False if the table lacks a column
-/// that the row needs.
+/// Whether a row isn't a day, though its cells have no notes. `start` and `end` are the note's lengths before and after
+/// the cells' notes. False if the table lacks a column that the row needs.
 fn is_untold(head: &Head<'_>, row: &ByteRecord, start: usize, end: usize) -> bool
     ensures { IsNoDay (row_values head.now.options head.now.columns (fields_of row.now))
         → has_columns head.now.options head.now.columns (fields_of row.now) ≡ true

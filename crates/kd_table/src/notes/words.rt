@@ -8,7 +8,7 @@ use itoa::Buffer;
 /// The greatest number of bytes that are shown of a cell.
 const SHOWN: usize = 60;
 
-/// Once the lines have this many bytes, further lines are left out.
+/// If the lines have this many bytes, further lines are left out.
 const ROOM: usize = 2048;
 
 /// The last line, if further lines are left out because there is no room.
@@ -98,7 +98,7 @@ impl Words {
         }
     }
 
-    /// Appends a line.
+    /// Appends the line `words`.
     pub fn tell(&mut self, words: &str) {
         self.begin();
         self.add(words);
