@@ -8,11 +8,12 @@ ghost use Rattle.kd_assign.specs.PartialAssignment.{IsSolvedUpTo};
 use crate::nearest::Nearest;
 use crate::scans::Scans;
 
-/// Gives row `root` a column. The rows before it may get other columns, so that the total cost is the least.
+/// Gives row `root` a column. Rows before `root` may get other columns, to make the total cost the least.
 ///
 /// A tree of rows and columns grows from `root`. In each round the nearest column joins the tree, and then the row that
 /// holds this column. The growth ends at a free column, which no row holds. For each row `r` of the tree, `plans` gets
-/// an assignment. It gives a column to each row up to `root`, except `r`. The old contents of `plans` are never read.
+/// an assignment. This assignment gives a column to each row up to `root`, except row `r`. The old contents of `plans`
+/// are never read.
 pub fn assign_row<const N: usize>(
     cost: &[[u8; N]; N],
     prices: &mut [i16; N],

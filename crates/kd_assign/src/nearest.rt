@@ -14,8 +14,8 @@ pub struct Nearest<const N: usize> {
     /// The ceiling of each column: the lowest price that a row of the tree offers for it.
     ///
     /// A column's room is its ceiling minus its price. The tree grows by the column with the least room, until this
-    /// column is free. Let `r` be the room of the free column. Each column of the tree that has less room gets a lower
-    /// price, so that its room is `r`.
+    /// column is free. Let `r` be the room of the free column. Each column of the tree with less room than `r` gets a
+    /// lower price, so that its room becomes `r`.
     pub ceiling: [i16; N],
 }
 

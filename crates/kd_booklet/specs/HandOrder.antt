@@ -1,5 +1,5 @@
--- An order of a card's settings that suits an operator: rings are set first, while the wheels are out, and windows
--- last.
+-- An order of a card's settings that suits an operator: rings are set first, while the wheels are out, and windows are
+-- turned last.
 use Rattle.std.specs.Prelude.{Bool, true, false, not, List, [], ◌∷◌, ◌++◌, filter, if◌then◌else◌, IsTrue}
 use Rattle.std.specs.Prelude.{IsPermutation}
 use Rattle.std.specs.List.{list_all}
@@ -34,7 +34,7 @@ abbrev pub is_seat : Setting → Bool
 is_seat (Seat slot wheel) = true
 is_seat _ = false
 
--- whether no wheel is seated after the first window is turned
+-- whether no setting seats a wheel after an earlier setting has turned a window
 abbrev pub seats_before_turning : List Setting → Bool
 seats_before_turning [] = true
 seats_before_turning (x ∷ xs) =
@@ -44,8 +44,8 @@ seats_before_turning (x ∷ xs) =
 abbrev pub HandOrderIsPermutation : Type 0
 HandOrderIsPermutation = (xs : List Setting) → IsPermutation xs (in_hand_order xs)
 
--- Suppose that no wheel is seated after the first window is turned. Then a list leads to the same machine in its own
--- order and in the operator's order.
+-- Suppose that no setting of a list seats a wheel after an earlier setting has turned a window. Then the list leads to
+-- the same machine in its own order and in the operator's order.
 abbrev pub HandOrderLeads : Type 0
 HandOrderLeads =
     (m n : Parts) (xs : List Setting) → IsTrue (seats_before_turning xs) → Leads m xs n → Leads m (in_hand_order xs) n

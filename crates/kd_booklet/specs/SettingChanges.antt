@@ -22,12 +22,13 @@ abbrev pub lug_at : Parts → ℕ → Lug → Option Place
 lug_at m bar Left = option_map (λ standing. standing.0) (machine_standing m bar)
 lug_at m bar Right = option_map (λ standing. standing.1) (machine_standing m bar)
 
--- After a list of settings, a thing has the value `due`. Before the list, the thing had another value.
+-- The three values are a thing's value before a list of settings, its value after the list, and the value that a
+-- setting asks for. The last two values are equal. The first value differs from them.
 abbrev pub Becomes : {A : Type 0} → A → A → A → Type 0
 Becomes before after due = (before ≢ due) × (after ≡ due)
 
--- On machine `n`, the wheel in slot `number`, or pin wheel `number`, has the letter `letter`. On machine `m`, the same
--- wheel doesn't have this letter.
+-- On machine `n`, the wheel in slot `number`, or pin wheel `number`, is turned to the letter `letter`. On machine `m`,
+-- this wheel isn't turned to this letter.
 abbrev pub WindowTurns : Parts → Parts → ℕ → ℕ → Type 0
 WindowTurns (Rotor m) n number letter =
     (wheel : Wheel) → is_seated n number wheel ≡ true

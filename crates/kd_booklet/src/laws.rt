@@ -4,7 +4,8 @@ ghost use Rattle.kd_booklet.specs.SettingChanges.{DaySettingsChangeThings};
 
 /// Putting a list of settings in the order that suits an operator adds no setting, and loses none.
 ///
-/// If no wheel is seated after the first window is turned, the list leads to the same machine in both orders.
+/// If no setting seats a wheel after an earlier setting has turned a window, the list leads to the same machine in both
+/// orders.
 pub fn hand_order_leads_alike()
     ensures same { HandOrderIsPermutation }
     ensures leads { HandOrderLeads }

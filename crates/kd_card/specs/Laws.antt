@@ -77,7 +77,7 @@ TextsDetermineCards =
     → IsCard bytes other ys others
     → (day ≡ other) × (xs ≡ ys) × (prices ≡ others)
 
--- No card's text is a proper prefix of another's.
+-- No card's text is a proper prefix of another card's text.
 abbrev pub NoCardBeginsAnother : Type 0
 NoCardBeginsAnother =
     (text rest : List ℕ) (day other : ℕ) (xs ys : List Setting) (prices others : PriceParts) → IsCard text day xs prices
@@ -95,7 +95,7 @@ CardsHaveNoFault =
     (bytes : List ℕ) (day : ℕ) (xs : List Setting) (prices : PriceParts) (fault : CardFault)
     → IsCard bytes day xs prices → ¬ (IsCardFault bytes fault)
 
--- Any bytes have at most one first fault.
+-- Bytes that are read as a card have at most one first fault.
 abbrev pub OneCardFault : Type 0
 OneCardFault =
     (bytes : List ℕ) (fault other : CardFault) → IsCardFault bytes fault → IsCardFault bytes other → fault ≡ other

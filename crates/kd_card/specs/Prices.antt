@@ -44,7 +44,8 @@ pub record IsPriceList (number : ℕ) (prices : List ℤ) : Type 0 where
   pub count : length prices ≡ number
   pub in_range : ArePricesInRange prices
 
--- Each row and column of the table of costs has a price from -9999 to 9999. Kinds are valid and strictly ascending.
+-- Each row and column of the table of costs has a price from -9999 to 9999. If the prices are by kind, the kinds are
+-- valid and strictly ascending.
 abbrev pub ArePrices : PriceParts → Type 0
 ArePrices (Cables cables columns) = IsPriceList 13 cables × IsPriceList 13 columns
 ArePrices (Bars bars rows) = IsPriceList 27 bars × IsPriceList 27 rows

@@ -18,7 +18,7 @@ IsShortest machine day settings =
 
 -- The prices are by kind, and fit. The keys and counts of the kinds agree with the machine's cables and the day's
 -- columns, or with the machine's bars and the day's rows. The prices of a cable and a column, or of a bar and a row,
--- add up to at most their cost.
+-- add up to at most the cost in their cell of the table of costs.
 abbrev pub KindPricesFit : Parts → Day → PriceParts → Type 0
 KindPricesFit (Rotor machine) (Rotor day) (CableKinds cables columns) =
     IsPermutation machine.cables (flat_map (λ k. replicate k.count k.ends) cables.items)

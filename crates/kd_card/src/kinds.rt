@@ -56,7 +56,8 @@ pub struct RowKind {
     pub price: i16,
 }
 
-/// A kind of cables, columns, bars or rows: its key (letters, standing or reading), its count, and the price of each.
+/// A kind of cables, columns, bars or rows. It has a key (letters, standing or reading), a count, and a price for each
+/// member.
 #[derive(Clone, Copy, Default)]
 pub struct KindOf<T> {
     pub key: T,

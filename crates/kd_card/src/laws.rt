@@ -5,7 +5,7 @@ ghost use Rattle.kd_card.specs.Laws.{ProvingCardsAreAsLong, ProvingCardsAreShort
 ghost use Rattle.kd_card.specs.Laws.{ProvingPricesShow, ShownListsAreShortest};
 ghost use Rattle.kd_card.specs.Months.{CardsAreFewestInAll};
 
-/// Different cards have different texts, and no card's text is a proper prefix of another's.
+/// Different cards have different texts, and no card's text is a proper prefix of another card's text.
 ///
 /// The text of a card has no fault. Bytes that aren't a card have only one first fault, which `read_card` returns.
 pub fn no_two_cards_have_one_text()
@@ -79,8 +79,8 @@ pub fn proving_prices_are_tight()
 
 /// If a rotor machine's cards for several days prove themselves, no other lists have fewer settings in total.
 ///
-/// Each card begins with the machine that the card before it reaches. The other lists reach the same days, in the same
-/// order and from the same first machine.
+/// Each card starts from the machine that the previous card has reached. The other lists reach the same days, in the
+/// same order and from the same first machine.
 #[tactic(auto, using(crate::proofs::Months::cards_are_fewest_in_all))]
 pub fn cards_are_fewest_in_all()
     ensures { CardsAreFewestInAll }

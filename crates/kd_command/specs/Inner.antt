@@ -13,11 +13,12 @@ use Rattle.kd_command.specs.CommandLine.{NamedCommand, IsCommandOf, command_shap
 abbrev pub app_without_subcommands : Shape → App
 app_without_subcommands shape = record { top = shape; subs = [] }
 
--- the result of `command_shape`, but with borrowed names of arguments
+-- the result of `command_shape` for arguments whose names are borrowed texts
 abbrev pub borrowed_shape : List ℕ → List (Bor (List ℕ)) → Shape
 borrowed_shape name words = command_shape name (map (λ word. word.now) words)
 
--- the grammar `app` with `commands` added as subcommands, each with the names of its arguments
+-- The grammar `app`, with a subcommand added for each of `commands`. Each of `commands` has a command's name, and the
+-- names of this command's arguments.
 abbrev pub with_commands : App → List (Bor (List ℕ) × Bor (List (Bor (List ℕ)))) → App
 with_commands app commands = fold (λ a command. with_subcommand a (borrowed_shape command.0.now command.1.now)) app
     commands

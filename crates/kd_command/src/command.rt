@@ -80,7 +80,7 @@ pub type NamedCommand<'a> = Command<&'a str, &'a str>;
 /// An action with the names of its files, before any file is read or opened.
 pub type NamedAction<'a> = Action<&'a str, &'a str>;
 
-/// Why a command line gives no command.
+/// Why no command can be made from a command line.
 #[derive(Clone, Copy)]
 pub enum NoCommand {
     /// The words aren't a command of the desk.
@@ -231,7 +231,7 @@ fn grammar<'a>(alloc: Global) -> Result<Grammar<'a>, AllocError>
     with_commands(alloc, desk, &COMMANDS)
 }
 
-/// Adds `commands` to `grammar`. Each of `commands` is a name with the names of its arguments.
+/// Adds `commands` to `grammar`. Each of `commands` has a command's name, and the names of this command's arguments.
 fn with_commands<'a>(
     alloc: Global,
     grammar: Grammar<'a>,

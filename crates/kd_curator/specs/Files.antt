@@ -44,6 +44,6 @@ unborrowed_names names = map (λ name. name.now) names
 abbrev pub behind : List (List ℕ) → Result (List (List ℕ)) FileFault → Result (List (List ℕ)) FileFault
 behind before read = result_map_both (λ texts. before ++ texts) (λ fault. fault) read
 
--- the list `texts`; or the fault, if a file couldn't be read
+-- the texts of all files that were read; or the fault, if a file couldn't be read
 abbrev pub all_read : List (List ℕ) → Result (Unit {0}) FileFault → Result (List (List ℕ)) FileFault
 all_read texts answer = result_map_both (λ done. texts) (λ fault. fault) answer

@@ -1,4 +1,4 @@
--- The machine in a machine file, and the month in a key sheet, with the answers of commands that read these files.
+-- The machine in a machine file, the month in a key sheet, and the answers of commands that read these files.
 -- Test: tests/cases/curator-pages.toml, tests/cases/curator-files.toml
 use Rattle.std.specs.Prelude.{◌≡◌, ◌⊎◌, ℕ, Bool, true, false, List, Option, is_some, Result, Ok, Err, MatchResult}
 use Rattle.std.specs.Result.{result_map_both}

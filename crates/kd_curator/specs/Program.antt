@@ -115,8 +115,8 @@ AnswersAfter false left first answer = answer ≡ first
 abbrev pub IsAnswerAfterFlush : List ℕ → Result (Unit {0}) Stop → Result (Unit {0}) Stop → Type 0
 IsAnswerAfterFlush left first answer = AnswersAfter (is_whole first) left first answer
 
--- `answer` is the program's answer after a command that gave the answer `told`. `Does` holds of `told`. The sink didn't
--- take the bytes `left`.
+-- `told` is a command's answer that satisfies `Does`. `answer` is the program's answer after this command. The bytes
+-- `left` are those that the sink didn't take.
 pub record IsTold (Does : Result (Unit {0}) Refused → Type 0) (left : List ℕ) (answer : Result (Unit {0}) Stop)
     : Type 0 where
   pub told : Result (Unit {0}) Refused
@@ -130,11 +130,11 @@ is_usage _ = false
 
 -- How a command line is carried out.
 -- - `Carried`: the line's command was carried out, with the bytes `texts` of its files.
--- - `FileUnread`: a file of the command couldn't be read. It is the last file that was asked for, and the answer has a
---   remark on it.
+-- - `FileUnread`: a file of the command couldn't be read. The program asked for no later file, and the answer has a
+--   remark on the unread file.
 -- - `Shown`: the words ask for help or for the version.
 -- - `OtherWords`: the words don't mean a command.
--- - `NoMemory`: memory ran out before a file was asked for.
+-- - `NoMemory`: memory ran out before the program asked for a file.
 pub data CarriesOut (l : Language) (words : List (List ℕ)) (known : Option (List ℕ → Option (List ℕ))) (asked : List AskedName)
     (sink : Port) (left : List ℕ) (answer : Result (Unit {0}) Stop) : Type 0 where
   Carried : (command : NamedCommand) → IsCommandLineOf words command → (texts : List (List ℕ))
@@ -235,7 +235,8 @@ abbrev pub HasMonth : NamedCommand → Type 0
 HasMonth (commands.EmptySheet model days) = days ≤ 31
 HasMonth _ = Unit {0}
 
--- What a command for a message wrote to standard error: any notes for a form, and nothing for an order.
+-- What a command for a message wrote to standard error. For a form, it may have written notes; for an order, it wrote
+-- nothing.
 abbrev pub TellsOfMessage : MessageKind → Port → Type 0
 TellsOfMessage kinds.Order errors = IsLeftAlone errors
 TellsOfMessage kinds.Form errors = Tells errors

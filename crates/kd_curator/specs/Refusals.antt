@@ -72,7 +72,7 @@ abbrev pub fault_of_plan : NoPlan → PageFault
 fault_of_plan plans.NoSuchDay = faults.NoSuchDay
 fault_of_plan plans.OtherModel = faults.OtherModel
 
--- The refusal of a day that can't be planned. If several days were asked for, the refusal names the day.
+-- The refusal of a day that can't be planned. If the command is for several days, the refusal names the day.
 abbrev pub day_refusal : Bool → DayFault → Refused
 day_refusal several fault = record {
   day = if several then Some fault.day else None;

@@ -31,7 +31,7 @@ is_same_model _ _ = false
 unfoldable pub has_day_of : Model → List (Option Day) → ℕ → Bool
 has_day_of model month number = option_map_or (λ s. is_same_model (day_model s) model) (day_of month number) false
 
--- the days that are asked for; if no days are named, all days that the month has for the model
+-- the days that the command line names; if it names no days, all days that the month has for the model
 abbrev pub wanted_days : Option (List ℕ) → Model → List (Option Day) → List ℕ
 wanted_days (Some days) model month = days
 wanted_days None model month = filter (has_day_of model month) (range_with_len 1 31)

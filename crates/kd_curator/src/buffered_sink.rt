@@ -78,7 +78,7 @@ impl<W: Sink + Drop> Sink for BufferedSink<W> {
     }
 }
 
-/// Writes `bytes` to `sink`, and returns how many bytes the sink took. Unless the sink failed, it took all bytes.
+/// Writes `bytes` to `sink`, and returns how many bytes the sink took. If the sink doesn't fail, it takes all bytes.
 #[tactic(auto, using(kd_tables::proofs::SeveralPuts::takes_more, kd_tables::proofs::SeveralPuts::still_failed))]
 fn pass_on<W: Sink>(sink: &mut W, bytes: &[u8]) -> usize
     ensures within { result ≤ length bytes.now }

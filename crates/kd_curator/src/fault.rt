@@ -75,7 +75,7 @@ fn worded_text(words: &str) -> Text
 /// Why a command is refused: the first fault, in the order of testing.
 #[derive(Clone, Copy, Debug, PartialEq, Eq)]
 pub struct Refused {
-    /// The day that has the fault, if several days were asked for.
+    /// The day that has the fault, if the command is for several days.
     pub day: Option<u8>,
     /// The file that the refusal is about, if there is one.
     pub blame: Option<Blame>,
@@ -83,7 +83,7 @@ pub struct Refused {
 }
 
 impl Refused {
-    /// The refusal of a day that can't be planned. If `several` days were asked for, the refusal names the day.
+    /// The refusal of a day that can't be planned. If the command is for `several` days, the refusal names the day.
     pub(crate) fn of_day(fault: DayFault, several: bool) -> Refused
         ensures { result ≡ day_refusal several fault }
     {

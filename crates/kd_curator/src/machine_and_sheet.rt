@@ -17,7 +17,7 @@ use kd_state::Machine;
 use std::alloc::Global;
 use toml::Table;
 
-/// The file that a command needs: a machine file, or a key sheet.
+/// The sort of file that a command needs: a machine file, or a key sheet.
 #[derive(Clone, Copy)]
 pub(crate) enum Needed {
     Machine,

@@ -81,7 +81,7 @@ fn plan_or_refuse(machine: &Machine, sheet: &Sheet, days: &Days) -> Result<DayPl
     }
 }
 
-/// The days that are asked for. If `days` is `None`, all days that the sheet has for the model.
+/// The days in `days`. If `days` is `None`, all days that the sheet has for the model.
 fn wanted_days(days: Option<Days>, model: Model, sheet: &Sheet) -> Days
     ensures { result ≡ wanted_days days model sheet.now }
 {

@@ -1,6 +1,5 @@
 //! The command `receive`: writes an HTML page that shows how to decipher a form by hand, and the form's text.
-ghost use Rattle.std.specs.Prelude.{◌≡◌, ◌||◌, false, IsErr, MatchResult};
-ghost use Rattle.kd_form.specs.OnTheKey.{IsKeyFault, IsReadyOnKey};
+ghost use Rattle.std.specs.Prelude.{◌≡◌, ◌||◌, false, IsErr};
 ghost use Rattle.kd_tables.specs.Ports.{port};
 ghost use Rattle.kd_curator.specs.MachineAndSheet.{IsAnswerOnSheet};
 ghost use Rattle.kd_curator.specs.Refusals.{has_written, is_device};
@@ -10,7 +9,7 @@ ghost use Rattle.kd_table.specs.Notes.{Tells};
 
 use crate::fault::{PageFault, Refused};
 use crate::machine_and_sheet::read_both;
-use kd_form::FormFault;
+use kd_form::machine_check::check_machine;
 use kd_message::write_receive_page;
 use kd_page::Language;
 use kd_sheet::Sheet;
@@ -75,7 +74,7 @@ fn write_form<W: Sink, E: Sink>(
     let Some(day) = sheet.day(number) else {
         return Err(Refused::from(PageFault::NoSuchDay));
     };
-    if let Err(fault) = check_key(machine, day) {
+    if let Err(fault) = check_machine(machine, day) {
         return Err(Refused::of_message(fault));
     }
     match write_receive_page(alloc, language, day, form, sink, errors) {
@@ -83,19 +82,4 @@ fn write_form<W: Sink, E: Sink>(
         Ok(false) => Err(Refused::from(PageFault::NotWhole)),
         Err(fault) => Err(Refused::from(fault)),
     }
-}
-
-/// Refuses a machine that isn't ready, or isn't on the day's key.
-fn check_key(machine: &Machine, day: &SheetDay) -> Result<(), FormFault>
-    ensures { MatchResult result
-        (λ _. IsReadyOnKey machine.now day.now)
-        (IsKeyFault machine.now day.now) }
-{
-    if !machine.is_ready() {
-        return Err(FormFault::NotReady);
-    }
-    if !machine.on_key(day) {
-        return Err(FormFault::NotOnKey);
-    }
-    Ok(())
 }

@@ -363,7 +363,7 @@ pub record IsMessageTask (rows : List Row) (kind : MessageKind) (task : MessageT
   pub day : HasDay rows task.day
   pub language : HasLanguage rows task.language
 
--- If `clap` returns an error of this kind, the program may answer with this reason why there is no command.
+-- For an error of this kind from `clap`, the program may give this reason why there is no command.
 abbrev pub IsToldAs : ErrorKind → NoCommand → Type 0
 IsToldAs kind (Asked text) = IsTrue (is_help kind)
 IsToldAs kind (Usage text) = (is_help kind ≡ false) × (kind ≢ OutOfMemory)

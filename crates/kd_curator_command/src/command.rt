@@ -23,7 +23,7 @@ use kd_tables::Model;
 use std::alloc::{AllocError, Global};
 use std::convert::AsStr;
 
-/// The error for a wrong number of days, a wrong model or a needless option of `sheet --empty`.
+/// The error of `sheet --empty` for a wrong number of days, a wrong model or a needless option.
 const NO_MONTH: &str =
     "--empty needs Enigma I, M3, M4 or M-209, then a number of days from 1 to 31, and no other option but -o";
 
@@ -107,7 +107,7 @@ pub enum Task {
         /// The language of the pages; `None` if the option `--in` isn't used.
         language: Option<Language>,
     },
-    /// A list of the settings on the page of the day with this number, for `desk apply`.
+    /// A list of settings for `desk apply`: the settings on a day's page. The value is the day's number.
     List(u8),
 }
 
@@ -115,7 +115,7 @@ pub enum Task {
 #[derive(Clone, Copy)]
 pub struct MessageTask {
     pub kind: MessageKind,
-    /// The day of the key sheet whose key is used.
+    /// The number of the day whose key is used.
     pub day: u8,
     /// The language of the page; `None` if the option `--in` isn't used.
     pub language: Option<Language>,

@@ -17,11 +17,11 @@ use Rattle.kd_desk.specs.Stops.{stop_after}
 
 -- ---- Reading and carrying out a part of a command. No public contract cites these definitions.
 
--- the task, with the function applied to its file that is streamed
+-- the task, with the function applied to its streamed file, if it has one
 abbrev pub with_task_stream : {F O P : Type 0} → (O → P) → Task F O → Task F P
 with_task_stream g task = with_task_files (λ file. file) g task
 
--- the action, with the function applied to its file that is streamed
+-- the action, with the function applied to its streamed file, if it has one
 abbrev pub with_action_stream : {F O P : Type 0} → (O → P) → Action F O → Action F P
 with_action_stream g action = with_action_files (λ file. file) g action
 
@@ -41,7 +41,7 @@ pub record IsTaskDone (left : KnownFile) (machine sheet : List ℕ) (number : �
 
 -- ---- Writing a day of a month. No public contract cites these definitions.
 
--- For the day `s`, the desk can write a card from the machine `m`, and then a machine file of `n`.
+-- For the day `s`, the desk can write a card from the machine `m`, and then the machine file of the machine `n`.
 abbrev pub CanWriteDay : Parts → Day → Parts → Type 0
 CanWriteDay m s n = (file sheet : List ℕ) → machine_and_day file sheet (day_number s) ≡ Ok (m, s)
     → (papers : CardAndFile) × AreWritten file sheet (day_number s) papers × (machine_of papers.file ≡ Ok n)

@@ -41,7 +41,8 @@ pub record AreWritten (file sheet : List ℕ) (number : ℕ) (papers : CardAndFi
   pub applied : IfOk (machine_of file)
       (λ m. Applies m papers.card (sink_with papers.file) success ⊎ LacksMemory success)
 
--- Cards and machine files are written for one day after another. Each card starts from the machine file before it.
+-- Cards and machine files are written for one day after another. Each card starts from the machine of the previous
+-- machine file.
 abbrev pub AreWrittenInTurn : List ℕ → List ℕ → List ℕ → List CardAndFile → Type 0
 AreWrittenInTurn file sheet [] [] = Unit {0}
 AreWrittenInTurn file sheet (number ∷ numbers) (papers ∷ more) =

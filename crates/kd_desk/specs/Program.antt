@@ -80,7 +80,7 @@ pub record AppliesTo (machine list : List ℕ) (sink : Port) (answer : Result (U
   pub refused : IfErr (machine_of machine) (λ fault. AnswersFault answer (File fault))
   pub applied : IfOk (machine_of machine) (λ m. Applies m list sink answer ⊎ LacksMemory answer)
 
--- A task was carried out with a machine and a day. An order or a form is a port that is read.
+-- A task was carried out with a machine and a day. An order or a form is read from a port.
 abbrev pub DoesTask : Task (List ℕ) Port → ℕ → Port → Result (Unit {0}) DeskFault → Parts → Day → Type 0
 DoesTask tasks.Card number sink answer m s = Prints (IsChosenCard m s number) m s number sink answer
 DoesTask (tasks.Check card) number sink answer m s = Checks m s number card sink answer
@@ -142,10 +142,10 @@ abbrev pub is_stopped_by_port : Result (Unit {0}) Stop → Bool
 is_stopped_by_port (Err (Refused fault)) = is_device (Err fault)
 is_stopped_by_port _ = false
 
--- `asked` has the file names that were asked for:
--- - none, if the answer is `Usage`;
--- - if it is `Unread`, the names up to and including the first file that couldn't be read or opened;
--- - otherwise all names, or none if memory ran out while the command line was read.
+-- `asked` has the names of the files that the program asked for:
+-- - if the answer is `Usage`, no names;
+-- - if the answer is `Unread`, the names up to and including the first file that couldn't be read or opened;
+-- - otherwise all names, or no names if memory ran out while the command line was read.
 abbrev pub AsksFor : List (List ℕ) → List AskedName → Result (Unit {0}) Stop → Type 0
 AsksFor names asked (Err Usage) = asked ≡ []
 AsksFor names asked (Err (Unread fault)) = AreAskedFor names [] asked false
@@ -161,7 +161,7 @@ CarriesOutKnown left known command source sink answer =
 
 -- How the program answers the command line `words`. `left` is what is known of the opened file at the end.
 -- - `carried`: if the files' bytes are known, the command is carried out.
--- - `asks`, `none_asked`: which files are asked for.
+-- - `asks`, `none_asked`: which files the program asks for.
 -- - `usage`, `other_words`: when the answer is `Usage`.
 -- - `untouched`, `failed`: what happens to the ports.
 pub record IsRun (words : List (List ℕ)) (known : Option (List ℕ → Option (List ℕ))) (left : KnownFile)

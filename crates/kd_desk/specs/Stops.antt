@@ -11,7 +11,7 @@ use Rattle.kd_sheet.specs.declared.fault.SheetFault.TheVariants.{NoMemory}
 use Rattle.kd_desk.specs.declared.stop.Stop.{Stop}
 use Rattle.kd_desk.specs.declared.stop.Stop.TheVariants.{Usage, ReadFailed, Refused}
 
--- why the program stops if the command line gives no command
+-- why the program stops if no command can be made from the command line
 abbrev pub stop_without_command : NoCommand → Stop
 stop_without_command none.Usage = Usage
 stop_without_command none.NoMemory = Refused (File NoMemory)

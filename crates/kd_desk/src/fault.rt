@@ -30,9 +30,9 @@ pub enum DeskFault {
     Device,
     /// A source or a file has more than `READ_LIMIT` bytes.
     ReadTooLong,
-    /// The sheet has no day with the number asked for.
+    /// The key sheet has no day with the command's day number.
     NoSuchDay,
-    /// The card is for another day than the day asked for.
+    /// The card is for another day than the command.
     OtherDay,
     /// The card doesn't prove itself shortest, for this reason.
     Doubtful(Doubt),

@@ -12,13 +12,13 @@ use kd_sheet::read_machine;
 use kd_tables::{Sink, Source};
 use std::alloc::Global;
 
-/// Types the text from `source` on the machine in the file `machine`, and writes the lamps, then LF.
+/// Types the text from `source` on the machine in the file `machine`, and writes the ciphertext, then LF.
 ///
-/// The text has capital letters; spaces, CR and LF between them are skipped. The lamps are written as capital letters.
-/// The faults of the machine file are tested first, then `NotReady`. At these faults, no text is read, and nothing is
-/// written. Then the text is read. The text is refused at the first byte that isn't allowed, or if it has more than
-/// 1,048,576 bytes. If the text is refused, or a read fails, the lamps of the letters read until then are written,
-/// without LF. If a write fails, only a prefix of the lamps is written.
+/// The text has capital letters; spaces, CR and LF between them are skipped. The ciphertext is written in capital
+/// letters. The faults of the machine file are tested first, then `NotReady`. At these faults, no text is read, and
+/// nothing is written. Then the text is read. The text is refused at the first byte that isn't allowed, or if it has
+/// more than 1,048,576 bytes. If the text is refused, or a read fails, the ciphertext of the letters read until then is
+/// written, without LF. If a write fails, only a prefix of the ciphertext is written.
 pub fn run_type<R: Source, W: Sink>(
     alloc: Global,
     machine: &[u8],

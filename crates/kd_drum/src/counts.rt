@@ -1,4 +1,4 @@
-//! Tabulates how many bars are met, for each set of wheels whose acting pins are effective.
+//! For each set of wheels, tabulates how many bars are met if only these wheels' acting pins are effective.
 ghost use Rattle.std.specs.Prelude.{◌≡◌, ◌≤◌, ◌||◌};
 ghost use Rattle.kd_drum.specs.Counts.{AreCounts, is_in_set, bars_met_by};
 

@@ -10,7 +10,8 @@ use Rattle.kd_tables.specs.declared.reflector.Reflector.{Reflector}
 use Rattle.kd_step.specs.Stepper.{window_after}
 use Rattle.kd_enigma.specs.Rotor.{rotor}
 
--- A rotor machine's key. Its three lists are in order from the left; `plugs` is the plugboard's permutation.
+-- A rotor machine's key. The lists of wheels, rings and window letters are in order from the left; `plugs` is the
+-- plugboard's permutation.
 pub record RotorKey : Type 0 where
   pub wheels : List Wheel
   pub rings : List ℕ

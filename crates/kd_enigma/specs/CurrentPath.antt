@@ -1,6 +1,5 @@
 -- The current's path: in through some wheels, through the core, and back through the same wheels. The core is all that
--- lies to the left of these wheels: the reflector, perhaps with further wheels before it. No public contract cites this
--- file.
+-- lies to the left of these wheels: the reflector, and perhaps further wheels. No public contract cites this file.
 use Rattle.std.specs.Prelude.{ℕ, List, ◌∷◌, map}
 use Rattle.kd_tables.specs.Permutation.{alphabet, followed_by, inverse}
 use Rattle.kd_tables.specs.declared.wheel.Wheel.{Wheel}

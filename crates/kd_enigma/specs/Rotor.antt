@@ -12,7 +12,7 @@ use Rattle.kd_tables.specs.declared.wheel.Wheel.{Wheel}
 abbrev pub offset : ℕ → ℕ → ℕ
 offset ring letter = (letter + (26 - ring)) % 26
 
--- the permutation of a wiring that is turned by a number of places, `by`
+-- the permutation of a wiring that is turned by `by` places
 unfoldable pub wiring_turned_by : ℕ → List ℕ → List ℕ
 wiring_turned_by by wiring = followed_by (followed_by (shift by) wiring) (shift (26 - by))
 

@@ -32,7 +32,8 @@ use Rattle.kd_findings.specs.declared.place.Place.{Place}
 abbrev pub in_file : Key → Place
 in_file key = record { entry = None; day = None; key = key }
 
--- the place of the key in the first argument's entry; if the first argument has no entry, at the top of the file
+-- The place of a key in the first argument's entry. If the first argument has no entry, the key is at the top of the
+-- file.
 abbrev pub at_key : Place → Key → Place
 at_key place key = record place { key = key }
 

@@ -33,7 +33,7 @@ pub record NamesPlace (text : List ℕ) (start : ℕ) (words : List ℕ) : Type 
   pub plain : IsInOneLine reason
   pub whole : words ≡ place_words (line_at text start) (column_at text start) reason
 
--- The words have the line and the column of some byte of the text, or of the text's end. Then they have a reason in one
+-- The words name a place by its line and column: a byte of the text, or the text's end. Then they have a reason in one
 -- line.
 pub record SaysNotToml (text words : List ℕ) : Type 0 where
   pub start : ℕ

@@ -70,7 +70,7 @@ abbrev pub model_day_faults : Place → Members → Model → List (Place × She
 model_day_faults place table M209 = pin_day_faults place table
 model_day_faults place table model = rotor_day_faults place model table
 
--- the place of the key `day` in an entry; the list has the items before the entry
+-- the place of the key `day` in an entry; the first argument has all items of the array `day` before this entry
 abbrev pub day_place : List Data → Members → Place
 day_place earlier table = in_entry (length earlier + 1) (result_ok (number_in table)) keys.Day
 
@@ -81,7 +81,7 @@ table_faults earlier table =
     ++ after_model (at_key (day_place earlier table) keys.Model) (model_day_faults (day_place earlier table) table)
     (model_in table)
 
--- the faults of an entry; the list has the items before the entry
+-- the faults of an entry; the first argument has all items of the array `day` before this entry
 abbrev pub entry_faults : List Data → Data → List (Place × SheetFault)
 entry_faults earlier item = option_map_or (table_faults earlier) (as_table item)
     ((in_entry (length earlier + 1) None keys.Day, BadValue keys.Day) ∷ [])

@@ -25,8 +25,8 @@ pub struct Explanation {
     pub words: String,
 }
 
-/// The words that explain `fault`, from `checked`. If `checked` has another fault or none, the words only say that the
-/// desk refuses the value.
+/// The words in `checked` that explain `fault`. If `checked` has a different fault or no fault, the words only say that
+/// the desk refuses the value.
 fn explain(
     alloc: Global,
     fault: SheetFault,

@@ -5,8 +5,8 @@ ghost use Rattle.kd_findings.specs.Unread.{is_name_of};
 use kd_sheet::Key;
 use kd_slips::near_names::is_near;
 
-/// Wrong names that may be written for a key, each with the right key. They are names of keys in other files, or in
-/// common use.
+/// Names that a person may wrongly write for a key, each with the right key. Some are names of keys in other files,
+/// others are common words, such as `stecker`.
 const OTHER_NAMES: [(&str, Key); 12] = [
     ("plugs", Key::Cables),
     ("plugboard", Key::Cables),

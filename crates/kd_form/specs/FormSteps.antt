@@ -50,8 +50,8 @@ pub record HoldsLine (held part : List ℕ) : Type 0 where
   pub unbroken : IsWithout 10 part
   pub begins : HasBegunHeading part
 
--- `first` has the first six bytes of the last line of `body`, or this whole line if it is shorter. The line before
--- `body` is `line`.
+-- `first` has the first six bytes of the last line of `body`, or all bytes of this line if it is shorter. The line
+-- `line` comes directly before `body`.
 pub record HasLastLineStart (line body first : List ℕ) : Type 0 where
   pub settled : List ℕ
   pub tail : List ℕ
@@ -78,12 +78,13 @@ pub record HoldsPart (s : Day) (b : PartBody) (number : ℕ) (expected : Option 
   pub holds : HoldsBody s b part body
   pub due : HasDueNumbers number expected b.heading
 
--- The reader holds what it has read of the part `part`: a heading line, or a heading and a body.
+-- The reader holds the beginning of a part's heading line, or the heading and the first letters of the part's body.
 abbrev pub HoldsFormStage : Day → FormStage → ℕ → Option ℕ → List ℕ → Type 0
 HoldsFormStage s (stages.Heading line) number expected part = HoldsLine line.items part × (length part < 6 → number ≡ 1)
 HoldsFormStage s (stages.Body b) number expected part = HoldsPart s b number expected part
 
--- A body follows the heading `h`. The bytes `made` are the text to which the letters of this body are deciphered.
+-- A body with the heading `h` and the letters `letters` is deciphered without a fault. The bytes `made` are the body's
+-- text.
 abbrev pub IsBodyPlaintext : Day → Heading → List ℕ → List ℕ → Type 0
 IsBodyPlaintext s h letters made = (text : List ℕ) × IsBodyAnswer s h.part h letters (Ok text)
     × (made ≡ plaintext_bytes s text)
@@ -117,7 +118,7 @@ IsHeadingAnswer number expected found = do
 abbrev pub current_part_start : FormReader → List ℕ → PartStart
 current_part_start r front = record { number = r.number; expected = r.expected; bytes_before = length front }
 
--- All parts are read, and the next part would start at `q`.
+-- No unread part is left, and the next part would start at `q`.
 abbrev pub IsAtPartStart : PartStart → PartsProperty
 IsAtPartStart q p parts = (p ≡ q) × (parts ≡ [])
 

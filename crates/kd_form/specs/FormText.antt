@@ -20,12 +20,13 @@ use Rattle.kd_form.specs.PartReading.{PartStart, ReadPart, IsContentAnswer, IsPa
 abbrev pub first_part_start : PartStart
 first_part_start = record { number = 1; expected = None; bytes_before = 0 }
 
--- the start of the part after `part`; the part `part` starts at `p`, and says that there are `count` parts
+-- the start of the part after `part`. The part `part` starts at `p`, and its heading says that the form has `count`
+-- parts.
 abbrev pub next_part_start : PartStart → ℕ → List ℕ → PartStart
 next_part_start p count part = record
     { number = p.number + 1; expected = Some count; bytes_before = p.bytes_before + length part }
 
--- The type of statements about the unread parts of a form and the place where they start, such as `IsAnswerAt`.
+-- the type of statements such as `IsAnswerAt`: about a form's unread parts, and the place where these parts start
 abbrev pub PartsProperty : Type 1
 PartsProperty = PartStart → List (List ℕ) → Type 0
 
@@ -91,15 +92,15 @@ IsReceiveFault s form fault = IsFormAnswer s form (Err fault)
 -- ---- Which faults no further bytes can change, and what is written before a fault.
 -- Test: tests/cases/desk-messages.toml, tests/refusals
 
--- The first unread part, which begins at `p`, has `fault`, and no further bytes can change this. If this part is the
--- form's last, its heading line is complete, and the fault is in this line or in a byte of the body.
+-- The first unread part begins at `p`. It has the fault `fault`, which no further bytes can change. If this part is the
+-- form's last part, its heading line is complete. The fault is then in the heading line, or in a byte of the body.
 abbrev pub IsPartFaultForGood : Day → FormFault → PartsProperty
 IsPartFaultForGood s fault p [] = ⊥
 IsPartFaultForGood s fault p (part ∷ []) =
     ((line body : List ℕ) × IsFirstPart 10 part line body) × IsContentAnswer s p part (Err fault)
 IsPartFaultForGood s fault p (part ∷ next ∷ others) = IsPartAnswer s p part (Err fault)
 
--- The form has `fault`, and no further bytes can change this. `text` is the text of the parts before the fault.
+-- The form has the fault `fault`, which no further bytes can change. `text` is the text of the parts before the fault.
 -- `NoHeading`: the form can't begin with a heading line. `AtPart`: the fault is in one of the form's parts.
 pub data IsRefusedForGood (s : Day) (form text : List ℕ) (fault : FormFault) : Type 0 where
   NoHeading : ((more : List ℕ) → ¬ (BeginsHeading (form ++ more))) → text ≡ [] → fault ≡ BadHeading 1

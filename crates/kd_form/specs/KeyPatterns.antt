@@ -40,7 +40,7 @@ pub record IsAnyKeyLine (s : Day) (bytes : List ℕ) : Type 0 where
   pub of_the_day : AreKeys s keys
   pub keyed : IsKeyLine keys bytes
 
--- The day is for a rotor machine with `slots` slots, three or four.
+-- The day is for a rotor machine with `slots` slots. The number `slots` is 3 or 4.
 pub record IsRotorDayWith (s : Day) (slots : ℕ) : Type 0 where
   pub day : RotorDay
   pub is : s ≡ Rotor day

@@ -24,8 +24,8 @@ OrdersStayRefused =
 abbrev pub FormsHaveOneAnswer : Type 0
 FormsHaveOneAnswer = (s : Day) (form : List ℕ) → HasOneAnswer (IsFormAnswer s form)
 
--- If a form is refused for good, appended bytes change neither the fault nor the text of the parts before the fault.
--- The longer form is refused for good, too.
+-- If a form is refused for good, it stays refused with the same fault when bytes are appended. The text of the parts
+-- before the fault stays the same.
 abbrev pub FormsStayRefused : Type 0
 FormsStayRefused =
     (s : Day) (form more text : List ℕ) (fault : FormFault) → IsRefusedForGood s form text fault

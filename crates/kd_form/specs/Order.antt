@@ -34,7 +34,7 @@ pub record IsOrderHead (s : Day) (keys : List Keys) (bytes : List ℕ) : Type 0 
 abbrev pub IsAnyOrderHead : Day → List ℕ → Type 0
 IsAnyOrderHead s bytes = (keys : List Keys) × IsOrderHead s keys bytes
 
--- `order` is the head `head`, which has the keys `keys`, and then the text `text`.
+-- `order` is the head `head` and then the text `text`. The head has the keys `keys`.
 pub record IsOrder (s : Day) (order : List ℕ) (keys : List Keys) (head text : List ℕ) : Type 0 where
   pub joined : order ≡ head ++ text
   pub is_head : IsOrderHead s keys head

@@ -33,7 +33,7 @@ pub record IsHeadBegun (s : Day) (keys : List Keys) (line order : List ℕ) : Ty
   pub few : length keys ≤ 99
   pub begins : IsPatternFault (IsHeadLine s (length keys)) line faults.Incomplete
 
--- After one more byte, the head is still open, or complete, or wrong at this byte.
+-- After one more byte, the head is incomplete (`Open`), complete (`Text`), or wrong at this byte (`Bad`).
 abbrev pub IsHeadStep : Day → List Keys → List ℕ → List ℕ → HeadStep → Type 0
 IsHeadStep s keys line order Open = IsHeadBegun s keys line order
 IsHeadStep s keys line order Text = IsOrder s order keys order []
@@ -47,8 +47,8 @@ pub record AreSuitedKeys (s : Day) (keys : List Keys) : Type 0 where
   pub suited : InTurn (IsKeysAnswer s) 1 keys (Ok tt)
   pub few : length keys ≤ 99
 
--- The keys suit the day. The writer `w` has received `letters`. It has written `sent`, all parts that can be written so
--- far. It still holds the letters that follow, but at most as many as one part can have.
+-- The keys suit the day. The writer `w` has received `letters`. It has written `sent`: all parts that can be written so
+-- far. The writer still holds the letters after these parts, at most as many as one part can have.
 pub record AreLettersTaken (s : Day) (keys : List Keys) (w : PartWriter) (letters sent : List ℕ) : Type 0 where
   pub suited : AreSuitedKeys s keys
   pub counted : w.count ≡ length letters

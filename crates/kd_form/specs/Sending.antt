@@ -70,7 +70,7 @@ IsMadeAnswer s keys letters = do
 -- ---- The result of reading an order: its form, or its first fault.
 -- Test: tests/cases/desk-messages.toml
 
--- An order cut in two: its head, which has a line for each of `keys`, and its text.
+-- An order cut in two: its head and its text. The head has a line for each of `keys`.
 pub record OrderParts : Type 0 where
   pub keys : List Keys
   pub head : List ℕ

@@ -39,7 +39,7 @@ IsFeedAnswer m old new byte made answer =
     (HasFaultForGood m (bytes ++ byte ∷ []) text)
 
 -- At the end of the message, the reader outputs `made`, which completes the message's result. If the message has a
--- fault, `made` completes the text that is written before the fault is returned.
+-- fault, `made` completes the text that a call writes before it returns the fault.
 abbrev pub IsEndAnswer : Message → (List ℕ → List ℕ → Type 0) → List ℕ → Result (Unit {0}) FormFault → Type 0
 IsEndAnswer m old made answer = (bytes text : List ℕ) → HasReadSoFar m old bytes text
     → IsMessageAnswer m bytes (text ++ made) answer
@@ -56,8 +56,8 @@ is_device_interruption _ = false
 
 -- ---- bytes, one after another
 
--- `text` is incomplete: a proper prefix of the text `due`. All of `due` had to be written after a prefix of `bytes` was
--- read.
+-- `text` is incomplete. Once a call has read some prefix of `bytes`, it must have written a longer text, which begins
+-- with `text`.
 pub record IsPrefixOfDue (m : Message) (bytes text : List ℕ) : Type 0 where
   pub front : List ℕ
   pub due : List ℕ

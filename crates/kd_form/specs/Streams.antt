@@ -14,21 +14,21 @@ use Rattle.kd_form.specs.OnTheKey.{IsReadyOnKey, IsKeyFault}
 -- - `stands`: the first bytes of a message have a fault that no further bytes can change.
 -- - `refused`: a whole message has a fault.
 -- - `becomes`: a whole message has a result.
--- - `written_before`: a text is written before the fault is returned. Without a fault, the text is written before more
---   bytes are read.
+-- - `written_before`: a call writes a text before it returns the fault. Without a fault, it writes the text before it
+--   reads more bytes.
 pub record Message : Type 1 where
   pub stands : List ℕ → FormFault → Type 0
   pub refused : List ℕ → FormFault → Type 0
   pub becomes : List ℕ → List ℕ → Type 0
   pub written_before : Option FormFault → List ℕ → List ℕ → Type 0
 
--- The bytes have no fault so far. `text` is all that is written before any further byte is read.
+-- The bytes have no fault so far. Before a call reads the next byte, it must have written exactly `text`.
 pub record IsOpen (m : Message) (bytes text : List ℕ) : Type 0 where
   pub unrefused : (fault : FormFault) → ¬ (m.stands bytes fault)
   pub written : m.written_before None bytes text
 
--- The bytes are the whole message. Either the message's result is `text`, or the message has a fault and `text` is
--- written before the fault.
+-- The bytes are the whole message. Either the message's result is `text`, or the message has a fault. With a fault, a
+-- call writes `text` and then returns the fault.
 abbrev pub IsMessageAnswer : Message → List ℕ → List ℕ → Result (Unit {0}) FormFault → Type 0
 IsMessageAnswer m bytes text answer =
     MatchResult answer (λ _. m.becomes bytes text)
@@ -38,9 +38,8 @@ IsMessageAnswer m bytes text answer =
 -- Code: `stream_message` reads a message chunk by chunk. The readers of orders and forms take the chunks byte by byte.
 -- Test: tests/cases/desk-messages.toml
 
--- `text` is all that must have been written at some moment of the call. `ByThen`: at this moment, a prefix of `read`
--- has been read, and this prefix has no fault. `ByTheEnd`: this moment is the end of the message, because the source
--- ends after `read`.
+-- `text` is all that the call must have written at a certain moment. `ByThen`: the call has read a prefix of `read`,
+-- and this prefix has no fault. `ByTheEnd`: the call has read the whole message, because the source ends after `read`.
 pub data IsDue (m : Message) (source : Port) (read text : List ℕ) : Type 0 where
   ByThen : (front : List ℕ) → StartsWith read front → IsOpen m front text → IsDue m source read text
   ByTheEnd : (answer : Result (Unit {0}) FormFault) → IsAtEnd source.has → IsMessageAnswer m read text answer
@@ -62,7 +61,7 @@ pub record FallsShort (due text : List ℕ) : Type 0 where
 -- - `FaultAtEnd`: the bytes have a fault only because the message ends after them.
 -- - `TooLong`: one byte more than the limit was read.
 -- - `SourceFails`: the source failed, and all text for the bytes read was written.
--- - `SinkFails`: the sink failed, and only a proper prefix of what had to be written was written.
+-- - `SinkFails`: the sink failed. The call had to write a text, but wrote only a proper prefix of this text.
 pub data IsStreamAnswer (m : Message) (source sink : Port) (read text : List ℕ)
     (answer : Result (Unit {0}) FormFault) : Type 0 where
   MessageComplete : length read ≤ read_limit → IsAtEnd source.has → m.becomes read text → KeepFailureFlags source sink

@@ -1,4 +1,4 @@
--- Typed texts, which are one kind of message: a text becomes the ciphertext of its letters, and then LF.
+-- Typed texts are one kind of message. A text becomes the ciphertext of its letters, and then LF.
 -- Code: `type_stream` reads chunks of at most 4,096 bytes, and presses a key for each letter of a chunk.
 -- Test: tests/cases/desk-messages.toml, tests/refusals
 use Rattle.std.specs.Prelude.{◌≡◌, ℕ, ◌<◌, ◌≤◌, List, [], ◌∷◌, ◌++◌, length, take, slice_index, All, IsTrue}
@@ -23,12 +23,12 @@ typed_letters bytes = letters_from None bytes
 abbrev pub cipher_text : (List ℕ → List ℕ) → List ℕ → List ℕ
 cipher_text enciphers bytes = letters_text (enciphers (typed_letters bytes))
 
--- The fault is `BadByte`, with the position of the first byte that isn't allowed in a text, counted from 1.
+-- The fault is `BadByte` with the position of the first byte that isn't allowed in a text. Positions are counted from
+-- 1.
 abbrev pub IsTextFault : List ℕ → FormFault → Type 0
 IsTextFault bytes fault = IsBytesAnswer 1 bytes (Err fault)
 
--- the rules for typed texts, as a `Message`. All letters before the first byte that isn't allowed in a text are
--- enciphered.
+-- the rules for typed texts, as a `Message`. Letters are enciphered up to the first byte that isn't allowed in a text.
 abbrev pub text_message : (List ℕ → List ℕ) → Message
 text_message enciphers = record {
   stands = IsTextFault;
@@ -52,7 +52,7 @@ pub record IsTypedChunk (key left : EngineKey) (bytes lamps : List ℕ) : Type 0
   pub cipher : lamps ≡ cipher_text (cipher key) bytes
   pub after : left ≡ engine_key_after key (length (typed_letters bytes))
 
--- The first `front` of `bytes` are allowed in a text. The byte after them, if there is one, isn't allowed.
+-- The first `front` bytes of `bytes` are allowed in a text. If another byte follows them, this byte isn't allowed.
 pub record IsAllowedUpTo (bytes : List ℕ) (front : ℕ) : Type 0 where
   pub within : front ≤ length bytes
   pub allowed : All (λ b. IsTrue (is_text_byte b)) (take front bytes)

@@ -11,7 +11,7 @@ pub mod heading;
 pub mod internal_key;
 pub mod keys;
 pub mod laws;
-mod machine_check;
+pub mod machine_check;
 pub mod receiving;
 pub mod sending;
 mod stream;

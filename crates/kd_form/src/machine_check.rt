@@ -6,7 +6,7 @@ use super::fault::FormFault;
 use kd_state::{Machine, SheetDay};
 
 /// Refuses a machine that isn't ready, or isn't on the day's key.
-pub(crate) fn check_machine(machine: &Machine, day: &SheetDay) -> Result<(), FormFault>
+pub fn check_machine(machine: &Machine, day: &SheetDay) -> Result<(), FormFault>
     ensures { MatchResult result
         (λ _. IsReadyOnKey machine.now day.now)
         (IsKeyFault machine.now day.now) }

@@ -48,9 +48,9 @@ pub fn receive(
 ///
 /// At most one part is held in memory, and nothing is allocated. `NotReady` and `NotOnKey` are returned before anything
 /// is read. A fault that further bytes can't change is returned at once, before the rest of the source is read. Other
-/// faults are found at the form's end. Before a fault of the form is returned, the texts of the parts before the fault
-/// are written. `ReadTooLong` means that the source has more than `READ_LIMIT` bytes. `Device` means that a read from
-/// `source` or a write to `sink` failed.
+/// faults are found at the form's end. If the form has a fault, `sink` gets the texts of the parts before this fault.
+/// `ReadTooLong` means that the source has more than `READ_LIMIT` bytes. `Device` means that a read from `source` or a
+/// write to `sink` failed.
 pub fn receive_stream<R: Source, W: Sink>(
     machine: &Machine,
     day: &SheetDay,

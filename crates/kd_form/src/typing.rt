@@ -17,10 +17,10 @@ use kd_tables::{Letter, Sink, Source, put_all};
 
 /// Types the text from `source` on `machine`, and writes the ciphertext to `sink`, then LF.
 ///
-/// `NotReady` is returned before anything is read or written. The first byte that isn't a capital letter, a space, CR
-/// or LF is refused before further chunks are read. Before the refusal, the ciphertext of all letters before this byte
-/// is written. If the sink fails to take this ciphertext, the fault is `Device`. At most 1,048,576 bytes are read, and
-/// then one more, which shows whether the source has ended.
+/// `NotReady` is returned before anything is read or written. A byte that isn't a capital letter, a space, CR or LF is
+/// refused, and no further chunk is read. `sink` still gets the ciphertext of all letters before this byte. If `sink`
+/// fails to take this ciphertext, the fault is `Device`. At most 1,048,576 bytes are read, and then one more, which
+/// shows whether the source has ended.
 pub fn type_stream<R: Source, W: Sink>(
     machine: &Machine,
     source: &mut R,
@@ -47,7 +47,7 @@ pub fn type_stream<R: Source, W: Sink>(
 #[derive(Drop)]
 pub(crate) struct Typist {
     engine: Engine,
-    /// The number of the text's bytes that were read.
+    /// How many bytes of the text were read.
     read: usize,
     /// The letters of the current chunk, enciphered in place.
     ///

@@ -1,10 +1,11 @@
-//! The record of the file names that were asked for.
+//! The record of the file names that a program asked for.
 ghost use Rattle.std.specs.Prelude.{◌≡◌, ◌<◌, [], ◌∷◌, ◌++◌, length};
 
 use arrayvec::ArrayVec;
 use std::marker::Model;
 
-/// The file names that were asked for, in order. A flag beside each name says whether the file could be read or opened.
+/// The file names that a program asked for, in order. A flag beside each name says whether the file could be read or
+/// opened.
 ///
 /// There are at most three names: no command names more files.
 #[derive(Drop)]
@@ -31,7 +32,7 @@ impl<'n> AskedNames<'n> {
         }
     }
 
-    /// Records that `name` was asked for; `had` says whether the file could be read or opened.
+    /// Records that the program asked for `name`; `had` says whether the file could be read or opened.
     pub fn add(&mut self, name: &'n str, had: bool)
         requires { length self.old < 3 }
         ensures { self.new ≡ self.old ++ (name.now, had) ∷ [] }

@@ -8,7 +8,7 @@ use crate::file_fault::FileFault;
 use kd_tables::Source;
 use std::alloc::Global;
 
-/// Files that can be asked for by name, with a record of the names asked for.
+/// Files that a program asks for by name, with a record of the names that it has asked for.
 pub trait Files<'n> {
     /// An opened file, which is streamed.
     type Opened: Source + Drop;
@@ -18,8 +18,8 @@ pub trait Files<'n> {
     /// The map is missing (`None`) if the files' bytes aren't known, as for the host's files.
     ghost known: { Self → Option (List ℕ → Option (List ℕ)) } = { λ _. None };
 
-    /// The file names that were asked for, in order. A flag beside each name says whether the file could be read or
-    /// opened.
+    /// The file names that the program asked for, in order. A flag beside each name says whether the file could be read
+    /// or opened.
     ghost asked: { Self → List AskedName };
 
     /// What is known of the last file given to `take_back`: its unread bytes, and whether a read of it failed.
@@ -28,7 +28,7 @@ pub trait Files<'n> {
     /// Reads the file `name` whole.
     ///
     /// Returns `Device` if the file can't be opened, or a read fails. Returns `ReadTooLong` if the file has more than
-    /// 1,048,576 bytes. At most three names may be asked for.
+    /// 1,048,576 bytes. A program may ask for at most three names.
     fn read_content(&mut self, alloc: Global, name: &'n str) -> Result<Content, FileFault>
         requires { length (asked self.old) < 3 }
         ensures content { IfSome (known self.old)
@@ -38,7 +38,7 @@ pub trait Files<'n> {
 
     /// Opens the file `name` for streaming.
     ///
-    /// Returns `Device` if the file can't be opened. At most three names may be asked for.
+    /// Returns `Device` if the file can't be opened. A program may ask for at most three names.
     fn open(&mut self, name: &'n str) -> Result<Self::Opened, FileFault>
         requires { length (asked self.old) < 3 }
         ensures opened { IfSome (known self.old) (λ held.

@@ -20,7 +20,7 @@ pub struct HostFiles<'n> {
 }
 
 impl<'n> HostFiles<'n> {
-    /// Gives access to the files that `rt` can open. No name has been asked for yet.
+    /// Gives access to the files that `rt` can open. The record of names is empty.
     pub fn new(rt: &'n HostRuntime) -> Self
         ensures { result.asked ≡ [] }
     {

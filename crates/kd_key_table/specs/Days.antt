@@ -20,7 +20,8 @@ has_day_of model month number = option_map_or (λ s. same_model (day_model s) mo
 abbrev pub days_of : Model → List (Option Day) → List ℕ
 days_of model month = filter (has_day_of model month) LAST_DAY_FIRST
 
--- The earliest of some days. The number is the latest of these days, and the list has all others, in falling order.
+-- The earliest of some days. The first argument is the latest of these days. The list has all other days, in falling
+-- order.
 abbrev pub first_of : ℕ → List ℕ → ℕ
 first_of last [] = last
 first_of last (day ∷ earlier) = first_of day earlier

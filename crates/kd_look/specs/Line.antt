@@ -55,23 +55,25 @@ ends_line text index = slice_index text index == 10 || index + 1 == length text
 unfoldable pub has_value_at : List ℕ → Sought → ℕ → Bool
 has_value_at text sought index = ends_line text index && reads_value sought (take (index + 1) text)
 
--- The number of the first line such that the text up to its end is a document with the entry or key to look for. Only
--- lines that end before the byte with this index are tried.
+-- The number of the first line that gives a document with the entry or key to look for. The text is cut off after each
+-- line in turn. The second argument is an index: only lines that end before the byte at this index are tried.
 abbrev pub line_before : List ℕ → ℕ → Sought → Option ℕ
 line_before text end sought = option_map (line_at text) (find (has_value_at text sought) (range_with_len 0 end))
 
--- Whether the text has more than 65,536 bytes, or more than 2,048 line ends. No lines of faults are looked for in such
--- a text.
+-- Whether the text has more than 65,536 bytes, or more than 2,048 line ends. In such a text, faults get no line
+-- numbers.
 abbrev pub is_too_long : List ℕ → Bool
 is_too_long text = nat_lt 65536 (length text) || nat_lt 2048 (count_by (λ byte. byte == 10) text)
 
--- The number of the first line such that the text up to its end is a document with the entry or key to look for. `None`
--- if there is no such line, or the text is too long.
+-- The number of the first line that gives a document with the entry or key to look for. The text is cut off after each
+-- line in turn. `None` if there is no such line, or the text is too long.
 abbrev pub line_number : List ℕ → Sought → Option ℕ
 line_number text sought = if is_too_long text then None else line_before text (length text) sought
 
--- The entry or key to look for if a key is missing. For an entry without the key, the entry itself. For a document
--- without the key `day`, any key of the document. `None` if the document lacks another key.
+-- The entry or key to look for if a key is missing:
+-- - in an entry: the entry itself
+-- - in the document, and the key is `day`: any key of the document
+-- - in the document, and the key isn't `day`: `None`
 abbrev pub sought_without : Option ℕ → Key → Option Sought
 sought_without (Some entry) key = Some (soughts.Entry entry)
 sought_without None keys.Day = Some soughts.AnyKey
@@ -92,7 +94,7 @@ line_of_fault text place fault = option_and_then (line_number text) (sought_for 
 abbrev pub line_of : List ℕ → Finding → Option ℕ
 line_of text finding = line_of_fault text finding.place finding.fault
 
--- the line of a finding, if this line ends before the byte with this index
+-- the line of a finding, if this line ends before the byte whose index is the second argument
 unfoldable pub line_so_far : List ℕ → ℕ → Finding → Option ℕ
 line_so_far text end finding = option_and_then (line_before text end) (sought_for finding.place finding.fault)
 

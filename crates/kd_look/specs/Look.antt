@@ -53,8 +53,8 @@ abbrev pub is_device : Result Outcome LookFault → Bool
 is_device (Err Device) = true
 is_device _ = false
 
--- A report on the files was written or, if the sink failed, only a prefix of the report. If the sink didn't fail, the
--- answer is the outcome for all files.
+-- A report on the files was written, and the answer is the outcome for all files. Or the sink failed, and only a prefix
+-- of the report was written.
 pub record WritesReport (files : List NamedText) (sink : Port) (answer : Result Outcome LookFault) : Type 0 where
   pub text : List ℕ
   pub made : IsWholeReport files text
@@ -62,7 +62,7 @@ pub record WritesReport (files : List NamedText) (sink : Port) (answer : Result 
   pub answered : IfOk answer (λ found. found ≡ outcome_of_all files)
   pub device : OnErr answer (answer ≡ Err Device)
 
--- A report on the files was written, or the answer is that memory ran out. The answer that memory ran out is always
--- allowed.
+-- A report was written as `WritesReport` says, or the answer is that memory ran out. The contract doesn't say when
+-- memory runs out.
 abbrev pub IsLookAnswer : List NamedText → Port → Result Outcome LookFault → Type 0
 IsLookAnswer files sink answer = WritesReport files sink answer ⊎ (answer ≡ Err NoMemory)

@@ -23,8 +23,9 @@ is_of_sort sorts.WithoutGroups day = option_map_or (λ values. length values.gro
 unfoldable pub has_day : List (Option Day) → Sort → ℕ → Bool
 has_day month sort number = option_map_or (is_of_sort sort) (day_of month number) false
 
--- The words that the day `number` adds to the lines for its sort, such as `M3: days 4 to 9`. Each line begins with
--- `title`. `before` says whether the previous day is of this sort, `after` whether the next day is.
+-- What the day `number` adds to the lines for its sort, such as `M3: days 4 to 9`. A line's first day adds the line's
+-- beginning, with `title`. Its last day adds the line's end, and days between add nothing. `before` and `after` say
+-- whether the previous day and the next day are of this sort.
 unfoldable pub day_words : List ℕ → Bool → Bool → ℕ → List ℕ
 day_words title before after number =
     if before then (if after then [] else decimal number ++ codes "\n")

@@ -14,11 +14,11 @@ use kd_sheet::{Key, SheetFault};
 use std::alloc::{AllocError, Global};
 use toml::{Table, Value};
 
-/// The greatest number of bytes of a file in which the lines of faults are looked for.
+/// The most bytes that a file may have, so that its faults get line numbers.
 const MOST_BYTES: usize = 65_536;
 
-/// The greatest number of line ends of a file in which the lines of faults are looked for. The file is parsed up to
-/// each line end.
+/// The most line ends that a file may have, so that its faults get line numbers. The file is parsed up to each line
+/// end.
 const MOST_LINES: usize = 2_048;
 
 /// The entry or key to look for in a document, to find the line of a fault.
@@ -60,7 +60,7 @@ fn has_any_key(document: &Table) -> bool
     !document.is_empty()
 }
 
-/// Whether `document` has `key` or, if there is a number `entry`, whether the entry with this number has `key`.
+/// Whether a table has `key`: the entry with the number `entry` or, if `entry` is `None`, `document` itself.
 fn has_key(document: &Table, entry: Option<usize>, key: Key) -> bool
     ensures { result
         ≡ option_map_or (is_given key) (table_at (table_view document.now) entry) false }
@@ -82,10 +82,10 @@ fn has_value(document: &Table, sought: Sought) -> bool
     }
 }
 
-/// The entry or key to look for if `key` is missing.
-///
-/// For an entry without the key, the entry itself. For a document without the key `day`, any key of the document.
-/// `None` if the document lacks another key.
+/// The entry or key to look for if `key` is missing:
+/// - in an entry: the entry itself
+/// - in the document, and `key` is `day`: any key of the document
+/// - in the document, and `key` isn't `day`: `None`
 fn sought_without(entry: Option<usize>, key: Key) -> Option<Sought>
     ensures { result ≡ sought_without entry key }
 {

@@ -54,7 +54,7 @@ fn push_first_day(text: &mut String, title: &str, after: bool, number: u8) -> Re
     text.push_str(if after { " to " } else { "\n" })
 }
 
-/// Appends the end of a line: the line's last day. If the next day belongs to the line, too, appends nothing.
+/// Appends a line's last day, and ends the line. If the next day also belongs to the line, appends nothing.
 #[tactic(auto, using(std::proofs::Common::append_assoc), unfolding(crate::specs::SheetWords::day_words))]
 fn push_last_day(text: &mut String, title: &str, after: bool, number: u8) -> Result<(), AllocError>
     ensures { OnOk result

@@ -46,8 +46,8 @@ abbrev pub heading_count : Option PartNumbers → ℕ
 heading_count (Some numbers) = numbers.letters
 heading_count None = 0
 
--- Whether the short line `short` explains a wrong count: the heading says `counted` letters, but the body has `came`
--- letters. It does if the body would have `counted` letters with 50 letters on this line.
+-- Whether a short line explains why the heading says `counted` letters, but the body has `came` letters. It does if the
+-- body would have `counted` letters with 50 letters on this line.
 abbrev pub explains : ℕ → ℕ → ShortLine → Bool
 explains counted came short = counted + short.letters == came + 50
 
@@ -85,11 +85,11 @@ pub record IsFoundIn (s : Day) (part : List ℕ) (numbers : Option PartNumbers) 
   pub is_its : found ≡ text_of answer
   pub shown : IfSome found (IsPartShown s part)
 
--- The numbers of a part, which may have been read by count:
+-- The numbers of a part that may have been read by count:
 -- - if the received heading is valid: `given`, the numbers in this heading
 -- - if the received heading is damaged, but the part has a text by count: `counted`, the numbers in the heading with
 --   the new count
--- - in all other cases: none
+-- - in all other cases: `None`
 abbrev pub numbers_by_count : Option PartNumbers → Option PartNumbers → Option DamagedText → Option PartNumbers
 numbers_by_count (Some given) counted found = Some given
 numbers_by_count None counted (Some shown) = counted

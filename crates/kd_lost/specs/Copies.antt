@@ -13,7 +13,7 @@ use Rattle.kd_lost.specs.Lost.{IsLetterFor}
 abbrev pub HaveOneLetter : List (Option ℕ) → Type 0
 HaveOneLetter copies = (letter : ℕ) × All (λ got. IsLetterFor got letter) copies
 
--- The answer for key letter `number`: the letter in its copies, or why there is none.
+-- The answer for key letter `number`: the letter that its copies give, or the reason why they give no letter.
 abbrev pub IsKeyLetterAnswer : ℕ → List (Option ℕ) → AnswerRule PartDamage ℕ
 IsKeyLetterAnswer number copies = do
   _ ← Demands (HaveOneLetter copies) (CopiesDiffer number)

@@ -121,8 +121,8 @@ abbrev pub AreReadWith : Day → List DamagedPart → List ℕ → List DamagedP
 AreReadWith s copies form reads = AreReadOf s (completed_parts copies 0 (damaged_parts_of form)) reads
 
 -- `parts` are the parts of the form. First, each part is read alone. If all parts are of one message, each part is read
--- again, with letters from its copies in place of lost letters. If the second reading gives any part fewer letters, or
--- another number, `parts` come from the first reading.
+-- again, with letters from its copies in place of lost letters. If the second reading lacks a letter of the first
+-- reading, or changes the numbers of a part, `parts` come from the first reading.
 pub record AreFormParts (s : Day) (form : List ℕ) (parts : List DamagedPart) : Type 0 where
   pub alone : List DamagedPart
   pub read : AreReadOf s (damaged_parts_of form) alone

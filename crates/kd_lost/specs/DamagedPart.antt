@@ -109,8 +109,8 @@ IsDamagedTextAnswer s part = IsDamagedLinesAnswer s (first_line part) (body_of p
 
 -- ---- What the text of a part is, for all completions.
 
--- `shown` has the text of `part`, without the lost letters. A completion of `part` has some letter in place of each
--- lost letter. At least one completion has a text. For each completion with a text, `shown` has the text's letters
+-- `shown` has the text of `part`, with `None` for each lost letter. A completion of `part` has some letter in place of
+-- each lost letter. At least one completion has a text. For each completion with a text, `shown` has the text's letters
 -- wherever no letter was lost. The group and the list letters aren't tested.
 pub record IsPartShown (s : Day) (part : List ℕ) (shown : DamagedText) : Type 0 where
   pub whole : List ℕ

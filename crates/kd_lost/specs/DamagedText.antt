@@ -81,7 +81,8 @@ pub record AreLostCopies (received : List (Option ℕ)) (lost : LostCopies) : Ty
   pub at_start : IsTrue lost.at_start ↔ Any (λ got. got ≡ None) (take 10 received)
   pub at_end : IsTrue lost.at_end ↔ Any (λ got. got ≡ None) (drop (length received - 10) received)
 
--- `shown` has the warnings for the body `received`.
+-- The warnings in `shown` are right for the body `received`: the test of its group or list letters, and which copies of
+-- the indicators lost letters.
 abbrev pub AreWarnings : Day → Option Indicator → List (Option ℕ) → DamagedText → Type 0
 AreWarnings s (Some i) received shown = IsGroupTest s (slice_range received 2 5) shown.group × (shown.copies ≡ None)
 AreWarnings s None received shown =
@@ -112,9 +113,9 @@ abbrev pub text_window : Day → TextKeys → List ℕ
 text_window s (text_keys.Rotor i) = deciphered_key s i
 text_window s (text_keys.Pin pin) = pin.internal.items
 
--- `shown` has the text of the body `received`, without the lost letters, whatever the lost letters were. It also has
--- `received` itself, the keys, and the warnings. With these keys, the machine deciphers the body to the letters in
--- `shown`.
+-- `shown` has the text of the body `received`, with `None` for each lost letter. The text is the same whatever the lost
+-- letters were. `shown` also has `received` itself, the keys, and the warnings. With these keys, the machine deciphers
+-- the body to the letters in `shown`.
 pub record IsTextShown (s : Day) (i : Option Indicator) (received : List (Option ℕ))
     (shown : DamagedText) : Type 0 where
   pub each : (whole text : List ℕ) → Completes received whole → IsLettersText s i whole text

@@ -16,14 +16,14 @@ abbrev pub after_blanks : List ℕ → List ℕ
 after_blanks [] = []
 after_blanks (byte ∷ bytes) = if is_blank byte then after_blanks bytes else byte ∷ bytes
 
--- how many signs of the first line of `bytes` equal the sign of `word` at the same place; small letters mean capitals
+-- the number of places of `word` at which the first line of `bytes` has the same sign; small letters mean capitals
 abbrev pub right_signs : List ℕ → List ℕ → ℕ
 right_signs (letter ∷ word) (byte ∷ bytes) =
     if byte == 10 then 0 else (if meant_byte byte == letter then 1 else 0) + right_signs word bytes
 right_signs [] bytes = 0
 right_signs (letter ∷ word) [] = 0
 
--- how many signs of the first line of `bytes` equal the sign of `word` at the same place, or are lost
+-- the number of places of `word` at which the first line of `bytes` has the same sign or a lost sign
 abbrev pub fitting_signs : List ℕ → List ℕ → ℕ
 fitting_signs (letter ∷ word) (byte ∷ bytes) =
     if byte == 10 then 0

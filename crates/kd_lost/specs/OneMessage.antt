@@ -95,8 +95,10 @@ counts_agree one other =
 abbrev pub heading_repeats : DamagedPart → DamagedPart → Bool
 heading_repeats one other = counts_agree one other && keys_agree one other
 
--- Whether part `one` isn't read, and its group or its list letters are of another day. The group or the list letters of
--- part `other` aren't of another day.
+-- Whether part `one` may be from another day than part `other`. Three conditions must hold:
+-- - Part `one` isn't read, not even by count.
+-- - The group or the list letters of part `one` are of another day.
+-- - The group or the list letters of part `other` aren't of another day.
 abbrev pub is_stranger : DamagedPart → DamagedPart → Bool
 is_stranger one other =
     is_none (shown_text one) && (is_of_other_day one && not (is_of_other_day other))

@@ -32,8 +32,8 @@ letter_of_copy same shown place None = None
 letter_of_copy same shown place (Some text) =
     if same && has_keys_of shown text then slice_index_or text.received.items place None else None
 
--- The letter at `place` of the part `other`, if `other` is a copy of the part `read` with the text `shown`. `None` if
--- the letter is lost, or `other` isn't a copy.
+-- The letter at `place` of the part `other`. `None` if the letter is lost, or if `other` isn't a copy of the part
+-- `read`. `shown` is the text of `read`.
 abbrev pub copied_letter : DamagedPart → DamagedText → ℕ → DamagedPart → Option ℕ
 copied_letter read shown place other =
     letter_of_copy (is_same_part read.numbers other.numbers) shown place (shown_text other)
@@ -51,7 +51,7 @@ known_letter (copy ∷ copies) read shown place =
 
 -- ---- A part with the letters of its copies.
 
--- the byte or, if it stands for a lost letter that a copy has, the copy's letter
+-- the copy's letter, if the byte stands for a lost letter and a copy has this letter; otherwise the byte
 abbrev pub completed_byte : Option ℕ → ℕ → ℕ
 completed_byte (Some letter) byte = if is_lost byte then letter + 65 else byte
 completed_byte None byte = byte
@@ -64,15 +64,15 @@ completed_from copies read shown place (byte ∷ bytes) =
     completed_byte (known_letter copies read shown place) byte
     ∷ completed_from copies read shown (if is_some (received_letter byte) then place + 1 else place) bytes
 
--- The part, with letters from its copies in place of lost letters. A part without a text is unchanged. `read` is what
--- was read of the part alone.
+-- The part, with letters from its copies in place of lost letters. A part without a text is unchanged. `read` is the
+-- result of reading the part without its copies.
 abbrev pub completed_with : List DamagedPart → DamagedPart → Option DamagedText → List ℕ → List ℕ
 completed_with copies read None part = part
 completed_with copies read (Some shown) part =
     first_line part ++ completed_from copies read shown 0 (from_line_end part)
 
--- The part, with letters from its copies in place of lost letters. `copies` are all parts, each read alone. The second
--- argument is what was read of the part alone.
+-- The part, with letters from its copies in place of lost letters. `copies` are all parts of the form, each read
+-- without the others. The second argument is the result of reading this part without the others.
 abbrev pub completed_of : List DamagedPart → Option DamagedPart → List ℕ → List ℕ
 completed_of copies None part = part
 completed_of copies (Some read) part = completed_with copies read (shown_text read) part

@@ -14,7 +14,7 @@ letters_on bytes = length (received_letters bytes)
 abbrev pub is_short : ℕ → Bool
 is_short letters = not (letters == 0) && not (letters == 50)
 
--- for each line after the first, the bytes from the start of this line to the end
+-- for each line of a body after the first, all bytes of the body from the start of this line on
 abbrev pub later_lines : List ℕ → List (List ℕ)
 later_lines [] = []
 later_lines (byte ∷ bytes) = if byte == 10 then bytes ∷ later_lines bytes else later_lines bytes

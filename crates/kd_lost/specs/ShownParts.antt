@@ -57,7 +57,8 @@ is_text_worse counted None (Some other) = true
 is_text_worse counted one None = false
 
 -- Whether the text of the second part is better than the text of the first part, or is the only text. A text is better
--- if it has fewer lost letters. With equally many, a text read with the heading's count is better than a text by count.
+-- if it has fewer lost letters. With equally many lost letters, a text read with the heading's count is better than a
+-- text by count.
 abbrev pub is_worse : DamagedPart → DamagedPart → Bool
 is_worse one other = is_text_worse (is_err one.text && is_ok other.text) (shown_text one) (shown_text other)
 
@@ -68,7 +69,8 @@ better part (Some later) =
     if is_worse part later then Some later else Some part
 
 -- The part that is shown under `number`: of the parts with this number, the first with the best text. A text is better
--- if it has fewer lost letters. With equally many, a text read with the heading's count is better than a text by count.
+-- if it has fewer lost letters. With equally many lost letters, a text read with the heading's count is better than a
+-- text by count.
 abbrev pub shown_under : List DamagedPart → ℕ → Option DamagedPart
 shown_under [] number = None
 shown_under (part ∷ parts) number =
@@ -114,7 +116,8 @@ IsReadWhole part =
 abbrev pub IsNumberWhole : List DamagedPart → ℕ → Type 0
 IsNumberWhole parts number = MatchOption (shown_under parts number) ⊥ IsReadWhole
 
--- Neither the group nor the list letters of the part show another day or network. The part may be one that isn't read.
+-- The part's group or list letters don't show another day or network. They can be tested even in a part that isn't
+-- read.
 abbrev pub MayBeOfTheDay : DamagedPart → Type 0
 MayBeOfTheDay part = IsFalse (is_of_other_day part)
 

@@ -27,7 +27,8 @@ abbrev pub test_or : GroupTest → Option DamagedText → GroupTest
 test_or other (Some shown) = shown.group
 test_or other None = other
 
--- Whether the group or the list letters of a part are of another day. The part may be one that isn't read.
+-- Whether the group or the list letters of a part are of another day. They can be tested even in a part that isn't
+-- read.
 abbrev pub is_of_other_day : DamagedPart → Bool
 is_of_other_day part = is_wrong_day (test_or part.group (shown_text part))
 

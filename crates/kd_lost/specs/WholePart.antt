@@ -1,4 +1,4 @@
--- The text of a part in which no letter is lost, whatever letters its group or its list letters are.
+-- The text of a part in which no letter is lost. The part's group or list letters may be any letters.
 -- Test: tests/messages-as-worked
 use Rattle.std.specs.Prelude.{◌≡◌, ℕ, ◌-◌, List, length, take, drop, slice_index, All, IsTrue, Option, Some, None}
 use Rattle.kd_tables.specs.Text.{is_text_byte}

@@ -84,12 +84,12 @@ pub(crate) fn find_by_count(
     }
 }
 
-/// The numbers of a part, which may have been read by count.
+/// The numbers of a part that may have been read by count.
 ///
 /// - If the received heading is valid: `given`, the numbers in this heading.
 /// - If the received heading is damaged, but a text was found by count: `counted`, the numbers that were read with this
 ///   text.
-/// - In all other cases: none.
+/// - In all other cases: `None`.
 pub(crate) fn numbers_by_count(
     given: Option<PartNumbers>,
     counted: Option<PartNumbers>,

@@ -10,8 +10,7 @@ use arrayvec::ArrayVec;
 use kd_form::keys::PinKeys;
 use kd_tables::Letter;
 
-/// Puts the keys together from the eight key letters before the text, `start`, and the eight key letters after it,
-/// `end`.
+/// Puts the keys together from their two copies: `start` stands before the text, `end` stands after the text.
 pub(crate) fn keys_of_copies(
     start: &[Option<Letter>],
     end: &[Option<Letter>],
@@ -62,7 +61,7 @@ fn push_key_letters(
     Ok(())
 }
 
-/// Key letter `number`, from all its copies. The error says why there is none.
+/// Key letter `number`, from all its copies. The error says why the copies give no letter.
 fn key_letter(number: u8, copies: &[Option<Letter>]) -> Result<Letter, PartDamage>
     ensures { IsKeyLetterAnswer number copies.now result }
 {

@@ -11,7 +11,7 @@ pub enum PartDamage {
     HeadingDamaged,
     /// A letter of the ground setting or of the enciphered message key is lost in the heading.
     HeadingKeyLost,
-    /// A byte of the body is neither a letter nor a lost letter, nor a space or line end.
+    /// A byte of the body isn't allowed there: it is no letter, no lost letter, no space, and no part of a line end.
     BadByte,
     /// The body has more or fewer letters than its heading says.
     CountWrong,

@@ -1,11 +1,11 @@
-//! `DamagedText`: what can be read of the text of a part, with its warnings.
+//! `DamagedText`: a part's text, as far as it can be read, and the warnings about it.
 
 use arrayvec::ArrayVec;
 use kd_form::heading::Indicator;
 use kd_form::keys::PinKeys;
 use kd_tables::Letter;
 
-/// What can be read of the text of a part in which letters were lost.
+/// A part's text, as far as it can be read. Letters of the part may be lost.
 #[derive(Drop)]
 pub struct DamagedText {
     /// The letters of the text; `None` where a letter was lost.

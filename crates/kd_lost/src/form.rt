@@ -1,4 +1,4 @@
-//! Reads a form in which letters were lost, part by part.
+//! Reads a damaged form part by part. Letters of the form may be lost.
 ghost use Rattle.std.specs.Prelude.{◌≡◌, ◌≢◌, ◌↔◌, ◌+◌, IsTrue, ◌<◌, ◌≤◌, length, IfOk, IfSome, MatchOption, MatchResult, [], false, option_copied, slice_get};
 ghost use Rattle.std.specs.Bool.{OnFalse, OnTrue};
 ghost use Rattle.kd_form.specs.declared.heading.Heading.{Heading};
@@ -35,9 +35,9 @@ pub enum DamagedFormFault {
 /// Reads each part of `form`. A letter that is lost in one copy of a part is taken from another copy.
 ///
 /// A part begins at each line that is taken for a heading. Such a line begins like `PART`. It also has a digit or a
-/// slash, or a lost sign in place of the part's number. Lines before the first heading are passed over. But they stay
-/// if one of them begins like `PART`, or with two groups of five letters: it may belong to a part. If `receive` reads a
-/// form, it cuts the form into the same parts as this function.
+/// slash, or a lost sign in place of the part's number. Lines before the first heading are passed over. But if one of
+/// these lines begins like `PART`, or with two groups of five letters, it may belong to a part. Then none of these
+/// lines is passed over. If `receive` reads a form, it cuts the form into the same parts as this function.
 pub fn read_damaged_form(
     alloc: Global,
     day: &SheetDay,

@@ -145,7 +145,9 @@ pub(crate) fn after_blanks(bytes: &[u8]) -> &[u8]
     left
 }
 
-/// Whether `bytes` begin with `PART`, in which letters may be lost, and one may be wrong.
+/// Whether `bytes` begin with the word `PART`, perhaps damaged.
+///
+/// At least two of its letters are right, at most one is wrong, and the others are lost. No fifth letter follows.
 fn begins_with_part(bytes: &[u8]) -> bool
     ensures { result ≡ begins_with_part bytes.now }
 {
@@ -226,14 +228,14 @@ fn are_right(least: usize, word: &[u8], bytes: &[u8]) -> bool
     right_signs(word, bytes) >= least
 }
 
-/// Whether at least `least` signs of `bytes` equal the sign of `word` at the same place, or are lost.
+/// Whether at least `least` places of `word` have the same sign in `bytes`, or a lost sign in `bytes`.
 fn are_fitting(least: usize, word: &[u8], bytes: &[u8]) -> bool
     ensures { result ≡ nat_le least (fitting_signs word.now bytes.now) }
 {
     fitting_signs(word, bytes) >= least
 }
 
-/// How many signs of the first line of `bytes` equal the sign of `word` at the same place.
+/// The number of places of `word` at which the first line of `bytes` has the same sign.
 fn right_signs(word: &[u8], bytes: &[u8]) -> usize
     ensures signs { result ≡ right_signs word.now bytes.now }
     ensures few { result ≤ length word.now }
@@ -248,7 +250,7 @@ fn right_signs(word: &[u8], bytes: &[u8]) -> usize
     0
 }
 
-/// How many signs of the first line of `bytes` equal the sign of `word` at the same place, or are lost.
+/// The number of places of `word` at which the first line of `bytes` has the same sign or a lost sign.
 fn fitting_signs(word: &[u8], bytes: &[u8]) -> usize
     ensures signs { result ≡ fitting_signs word.now bytes.now }
     ensures few { result ≤ length word.now }
@@ -291,7 +293,7 @@ fn has_digit_line(bytes: &[u8]) -> bool
 /// The greatest number of signs of a heading line that `heading_signs` returns.
 const MOST_SIGNS: usize = 64;
 
-/// The first signs of a heading line as it came, at most 64. `?` stands for each sign that may not be in a heading.
+/// The first signs of a received heading line, at most 64. `?` stands for each sign that may not be in a heading.
 pub(crate) fn heading_signs(line: &[u8]) -> ArrayString<64>
     ensures { result.bytes ≡ heading_signs line.now }
 {

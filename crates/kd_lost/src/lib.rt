@@ -1,8 +1,8 @@
 //! Reads all parts of a form in which letters were lost on the air, as far as this is possible without guessing.
 //!
-//! A lost letter is a `?` or `-`, and a small letter means its capital letter. The text of a part is shown without the
-//! lost letters. A part whose keys were lost isn't read. Parts may come twice or in another order. This crate also says
-//! which parts are shown, and whether the shown parts are one whole message.
+//! A lost letter is a `?` or `-`, and a small letter means its capital letter. In the text of a part, lost letters stay
+//! lost. A part whose keys were lost isn't read. Parts may come twice or in another order. This crate also says which
+//! parts are shown, and whether the shown parts are one whole message.
 #![tactic(auto)]
 
 mod body;

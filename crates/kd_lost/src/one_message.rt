@@ -61,9 +61,12 @@ fn frames_agree(one: &DamagedPart, other: &DamagedPart) -> bool
     heading_repeats(one, other) && !is_stranger(one, other) && !is_stranger(other, one)
 }
 
-/// Whether part `one` isn't read, and its group or its list letters are of another day.
+/// Whether part `one` may be from another day than part `other`.
 ///
-/// The group or the list letters of part `other` aren't of another day.
+/// Three conditions must hold:
+/// - Part `one` isn't read, not even by count.
+/// - The group or the list letters of part `one` are of another day.
+/// - The group or the list letters of part `other` aren't of another day.
 fn is_stranger(one: &DamagedPart, other: &DamagedPart) -> bool
     ensures { result ≡ is_stranger one.now other.now }
 {

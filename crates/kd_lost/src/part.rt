@@ -1,4 +1,4 @@
-//! Reads a part of a form in which letters were lost.
+//! Reads one part of a form. Letters of the part may be lost.
 ghost use Rattle.std.specs.Prelude.{◌≡◌, ◌↔◌, All, IsTrue, MatchResult, IfOk, None, false, length};
 ghost use Rattle.kd_state.specs.LineWords.{IsWithout};
 ghost use Rattle.kd_form.specs.FormParts.{IsHeading};
@@ -31,21 +31,20 @@ use kd_form::receiving::heading_reader::heading_of_ended_line;
 use kd_state::{SheetDay, split_once};
 use kd_tables::Letter;
 
-/// What can be read of a part of a form in which letters were lost.
+/// The result of reading one part of a form. Letters of the part may be lost.
 #[derive(Drop)]
 pub struct DamagedPart {
     /// The numbers in the heading. If only its count is damaged, and the part is read by count, `letters` is the number
     /// of received letters. For any other damaged heading, `None`.
     pub numbers: Option<PartNumbers>,
-    /// The first signs of the heading line as it came, at most 64. `?` stands for each sign that may not be in a
-    /// heading.
+    /// The first signs of the received heading line, at most 64. `?` stands for each sign that may not be in a heading.
     pub heading: ArrayString<64>,
     /// How many letters the received body has, lost ones included.
     pub came: usize,
     /// The first letters of the body, at most 525. A sign that may not be in a body counts as a lost letter.
     pub body: ArrayVec<Option<Letter>, 525>,
-    /// Whether the group or the list letters in the body are the day's letters. They are tested also if the part isn't
-    /// read, but not if its heading is damaged.
+    /// Whether the group or the list letters in the body are the day's letters. A part that isn't read is tested, too,
+    /// but not a part with a damaged heading.
     pub group: GroupTest,
     /// The text, or why it can't be read.
     pub text: Result<DamagedText, PartDamage>,
@@ -59,8 +58,8 @@ pub struct DamagedPart {
     /// The number of the first group that doesn't have five letters, though letters follow the group. `None` if each group
     /// but the last has five letters.
     pub short_group: Option<usize>,
-    /// Whether needless blanks in the part's first line were dropped. They are dropped if the line isn't a heading with
-    /// them.
+    /// Whether needless blanks in the part's first line were dropped. They are dropped if the line, with its blanks,
+    /// isn't a heading.
     pub respaced: bool,
     /// Whether each byte of the part means itself: none is a small letter or a tab.
     pub as_spelled: bool,
@@ -81,7 +80,7 @@ pub struct PartNumbers {
     pub letters: usize,
 }
 
-/// Reads a part of a form, without the letters that were lost.
+/// Reads one part of a form. In the text, `None` stands for each lost letter.
 ///
 /// `day` says which headings are valid. If no letter is lost, the text is the one that `receive` gives. If a letter of
 /// a key is lost, but you know it, put it into the form, and read the form again.

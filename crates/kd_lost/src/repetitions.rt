@@ -61,7 +61,7 @@ fn push_completed(
     Ok(())
 }
 
-/// `byte` or, if it stands for a lost letter that a copy has, the copy's letter.
+/// The copy's letter, if `byte` stands for a lost letter and a copy has this letter; otherwise `byte`.
 fn completed_byte(
     copies: &[DamagedPart],
     read: &DamagedPart,
@@ -98,9 +98,9 @@ fn known_letter(
     }
 }
 
-/// The letter at `place` of `other`, if `other` is a copy of the part `read` with the text `shown`.
+/// The letter at `place` of `other`. `None` if the letter is lost, or if `other` isn't a copy of the part `read`.
 ///
-/// `None` if the letter is lost, or `other` isn't a copy.
+/// `shown` is the text of `read`.
 fn copied_letter(
     read: &DamagedPart,
     shown: &DamagedText,

@@ -60,8 +60,8 @@ pub fn times_of(parts: &[DamagedPart], number: u16) -> usize
 
 /// The part that is shown under `number`: of the parts with this number, the first with the best text.
 ///
-/// A text is better if it has fewer lost letters. With equally many, a text read with the heading's count is better
-/// than a text by count.
+/// A text is better if it has fewer lost letters. With equally many lost letters, a text read with the heading's count
+/// is better than a text by count.
 pub fn shown_under(parts: &[DamagedPart], number: u16) -> Option<&DamagedPart>
     ensures { MatchOption result
         (shown_under parts.now number ≡ None)
@@ -202,7 +202,7 @@ fn is_read_whole(part: &DamagedPart) -> bool
     }
 }
 
-/// Whether no letter is lost.
+/// Whether none of `letters` is lost.
 fn are_received(letters: &[Option<Letter>]) -> bool
     ensures { IsTrue result ↔ All (λ got. got ≢ None) letters.now }
 {

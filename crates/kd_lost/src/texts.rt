@@ -32,7 +32,7 @@ pub fn is_wrong_day(group: GroupTest) -> bool
 
 /// Whether the group or the list letters of `part` are of another day.
 ///
-/// `part` may be one that isn't read.
+/// They can be tested even in a part that isn't read.
 pub(crate) fn is_of_other_day(part: &DamagedPart) -> bool
     ensures { result ≡ is_of_other_day part.now }
 {

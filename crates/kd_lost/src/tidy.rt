@@ -8,8 +8,8 @@ use crate::form::{DamagedFormFault, ends_part};
 use crate::heading_line::{after_blanks, is_blank, may_be_part};
 use std::alloc::Global;
 
-/// `form` without a byte order mark, and without the lines before its first heading. The lines stay if one may belong to
-/// a part.
+/// `form` without a byte order mark, and without the lines before its first heading. These lines stay if one of them
+/// may belong to a part.
 pub(crate) fn tidied(form: &[u8]) -> &[u8]
     ensures { result.now ≡ tidied form.now }
 {
@@ -39,10 +39,10 @@ fn without_mark(form: &[u8]) -> &[u8]
     }
 }
 
-/// The bytes from a heading on: the first heading after the first line. `None` if there is no such heading.
-///
-/// `None`, too, if a line between the first line and this heading may belong to a part. A part with a damaged heading
-/// mustn't be dropped in silence.
+/// The bytes from a heading on: the first heading after the first line. `None` in two cases:
+/// - There is no such heading.
+/// - A line between the first line and this heading may belong to a part. A part with a damaged heading mustn't be
+///   dropped in silence.
 fn later_heading(bytes: &[u8]) -> Option<&[u8]>
     ensures { MatchOption result
         (later_heading bytes.now ≡ None)

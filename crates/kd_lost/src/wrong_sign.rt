@@ -1,4 +1,4 @@
-//! `WrongSign`: the first sign of a body that may not be in a body.
+//! `WrongSign`: the first sign in a part's body that isn't allowed there.
 ghost use Rattle.std.specs.Prelude.{◌≡◌, ◌+◌, ◌<◌, ◌≤◌, ◌^◌, ◌==◌, if◌then◌else◌, is_some, length, take};
 ghost use Rattle.kd_lost.specs.Lost.{received_letter, received_letters};
 ghost use Rattle.kd_lost.specs.WrongSign.{IsFirstWrongSign};

@@ -12,7 +12,7 @@ use Rattle.kd_pictures.specs.Words.{model_name}
 use Rattle.kd_message.specs.declared.texts.TheConstants as texts
 use Rattle.kd_part_sheet.specs.Rows.{pieces}
 
--- the head of the sheet with the form: its title, with the model and the day, and fields to fill in
+-- the head of the sheet with the form: a title that gives the model and the day, and fields to fill in
 abbrev pub form_head : Language → Day → List ℕ
 form_head l s = filled (text_in l texts.FORM) (model_name (day_model s) ∷ decimal (day_number s) ∷ [])
 

@@ -79,7 +79,7 @@ FormsReadAreWhole =
 abbrev pub IsOn : List ℕ → List ℕ → Type 0
 IsOn page piece = (before : List ℕ) × (after : List ℕ) × (page ≡ before ++ piece ++ after)
 
--- Each letter of the text `other` that isn't lost stands in `text`, too, at the same place.
+-- Wherever the text `other` has a letter that isn't lost, `text` has the same letter at the same place.
 abbrev pub HasLettersOf : DamagedText → DamagedText → Type 0
 HasLettersOf text other =
     (place letter : ℕ) → slice_get other.letters.items place ≡ Some (Some letter)
@@ -102,7 +102,7 @@ abbrev pub clear_text : Language → Day → PartName → ℕ → List ℕ → L
 clear_text l s name times letters =
     text_part_head l name ++ came_text l times ++ (text_begin name.model ++ plaintext_bytes s letters ++ TEXT_END.now)
 
--- The page of a whole message has the text of each part, without a lost letter.
+-- The page of a whole message has the complete text of each part: no letter is lost.
 abbrev pub WholeMessagesAreOnThePage : Type 0
 WholeMessagesAreOnThePage =
     (l : Language) (s : Day) (parts : List DamagedPart) (number : ℕ) → IsWhole parts → 1 ≤ number

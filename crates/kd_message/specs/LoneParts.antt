@@ -41,7 +41,7 @@ heading_example models.M3 = texts.THREE_LETTER_HEADING.now
 heading_example models.M4 = texts.FOUR_LETTER_HEADING.now
 heading_example models.M209 = texts.HEADING_WITHOUT_KEYS.now
 
--- the words that say that a heading is damaged, with the line as it came, and an example of a valid heading
+-- the words for a damaged heading: that it is damaged, the received line, and an example of a valid heading
 unfoldable pub damaged_heading : Language → Model → DamagedPart → List ℕ
 damaged_heading l model part =
     heading_fault l part.line (text_in l texts.HEADING_DAMAGED) ++ text_in l texts.HEADING_CAME ++ part.heading.bytes

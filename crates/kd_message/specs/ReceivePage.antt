@@ -103,8 +103,8 @@ abbrev pub number_or : ℕ → Option PartNumbers → ℕ
 number_or before (Some numbers) = numbers.part
 number_or before None = before
 
--- The words in `section` for each part without a number among `parts`, if the last part number before this part is
--- `after`. `before` is the last part number before `parts`.
+-- The words in `section` for some of `parts`: those without a number, if the last numbered part before them has the
+-- number `after`. `before` is the number of the last numbered part before `parts`.
 abbrev pub lone_after : Section → Language → Day → ℕ → ℕ → List DamagedPart → List ℕ
 lone_after section l s after before [] = []
 lone_after section l s after before (part ∷ parts) =

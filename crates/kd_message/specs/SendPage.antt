@@ -140,7 +140,7 @@ is_device _ = false
 -- What `write_send_page` answers:
 -- - `PageWritten`: the order has a form, and the page was written. Or the sink failed, and only a prefix of the page
 --   was written.
--- - `Refused`: nothing was written, for a fault that `send` returns, too.
+-- - `Refused`: nothing was written. The answer is a fault that `send` can return for this order.
 pub data IsSendPageAnswer (l : Language) (m : Parts) (s : Day) (order : List ℕ) (sink : Port)
     (answer : Result (Unit {0}) SendPageFault) : Type 0 where
   PageWritten : (form page : List ℕ) → IsReadyOnKey m s → IsFormOf s order form → IsSendPage l s order form page

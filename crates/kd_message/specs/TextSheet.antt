@@ -30,7 +30,7 @@ use Rattle.kd_part_sheet.specs.Rows.{pieces}
 use Rattle.kd_lost.specs.ShownParts.{are_in_order, is_one_message, numbers_of}
 use Rattle.kd_lost.specs.Texts.{is_wrong_day}
 
--- the head of the sheet with the text: its title, with the model and the day, and fields to fill in
+-- the head of the sheet with the text: a title that gives the model and the day, and fields to fill in
 abbrev pub text_sheet_head : Language → Day → List ℕ
 text_sheet_head l s = filled (text_in l texts.TEXT_SHEET) (model_name (day_model s) ∷ decimal (day_number s) ∷ [])
 
@@ -93,8 +93,8 @@ abbrev pub begins_late : List DamagedPart → Bool
 begins_late [] = false
 begins_late (part ∷ parts) = nat_lt 1 part.line
 
--- The sentence that lines, blanks, tabs or small letters of the form were passed over, or read as what they mean. Empty
--- if all of the form was read as it stands.
+-- The sentence that not all of the form was read as it stands. Some lines or blanks were passed over, or tabs or small
+-- letters were read as spaces or capitals. Empty if all of the form was read as it stands.
 abbrev pub passed_text : Language → List DamagedPart → List ℕ
 passed_text l parts =
     if begins_late parts || is_any_smoothed parts then text_in l texts.PASSED_OVER else []
@@ -177,7 +177,7 @@ abbrev pub is_copy_lost : Option LostCopies → Bool
 is_copy_lost None = false
 is_copy_lost (Some copies) = copies.at_start || copies.at_end
 
--- whether the day couldn't be tested: a letter of the group, or a list letter in both copies, is lost
+-- whether the day couldn't be tested: a letter of the group is lost, or a list letter is lost in both copies
 abbrev pub is_not_tested : GroupTest → Bool
 is_not_tested tests.Right = false
 is_not_tested tests.Wrong = false
@@ -246,7 +246,8 @@ sign_groups l part =
     if has_lost part.body.items then lost_groups l [] false 1 (pieces 5 part.body.items)
     else sign_group l part.wrong_sign
 
--- the sentence with the count in the heading, which is on line `line` of the form, and the number of letters that came
+-- The sentence that gives the heading's count, and the number of letters that came. The heading is on line `line` of
+-- the form.
 unfoldable pub counts_text : Language → ℕ → ℕ → ℕ → List ℕ
 counts_text l line counted came =
     line_words l line 1 ++ text_in l texts.COUNT_WRONG ++ decimal counted ++ text_in l texts.COUNT_CAME ++ decimal came
@@ -265,8 +266,8 @@ short_text l line None = []
 -- The words for what to ask for if the count is wrong or damaged:
 -- - if a group is short: the count, and the first short group
 -- - if no group is short, and the count is damaged: the count
--- - if no group is short, and the count is wrong: the count; if the other station says that the count is right, the
---   part's lines
+-- - if no group is short, and the count is wrong: the count, or the part's lines if the other station says that the
+--   count is right
 abbrev pub count_asked : Language → PartDamage → Option ℕ → List ℕ
 count_asked l damage (Some group) = text_in l texts.ITS_COUNT ++ COMMA.now ++ group_words l group
 count_asked l damages.HeadingDamaged None = text_in l texts.ITS_COUNT
@@ -350,7 +351,8 @@ groups_told l came (Some group) =
     text_in l texts.SHORT_GROUP ++ decimal group ++ text_in l texts.SHORT_GROUP_END
 groups_told l came None = text_in l texts.FULL_GROUPS ++ decimal came ++ text_in l texts.FULL_GROUPS_END
 
--- a part that is read by count: what is wrong with the count, the text, and what to ask for
+-- the words for a part that is read by count: first what is wrong with its count, then its text, and then what to ask
+-- for
 unfoldable pub counted_text : Language → Sheet → Day → PartName → DamagedPart → PartDamage → DamagedText → List ℕ
 counted_text l sheet s name part damage shown =
     text_in l texts.BY_COUNT ++ counted_reason l part damage ++ groups_told l part.came part.short_group

@@ -18,7 +18,7 @@ use kd_pictures::{Language, draw, draw_in};
 use kd_state::SheetDay;
 use kd_tables::Sink;
 
-/// Writes what is wrong with the count, the text by count, and what to ask for.
+/// Writes the text by count. Before it stands what is wrong with the count, and after it what to ask for.
 pub(crate) fn draw_counted_text<W: Sink>(
     sink: &mut W,
     language: Language,

@@ -18,7 +18,7 @@ use kd_pictures::{Language, draw, draw_in};
 use kd_state::SheetDay;
 use kd_tables::{Letter, Sink};
 
-/// Writes the head of the sheet with the form: its title, with the model and the day, and fields to fill in.
+/// Writes the head of the sheet with the form: a title that gives the model and the day, and fields to fill in.
 pub(crate) fn draw_form_head<W: Sink>(sink: &mut W, language: Language, day: &SheetDay)
     ensures { Draws W.taken W.has_failed sink.old sink.new (form_head language day.now) }
 {

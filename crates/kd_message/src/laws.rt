@@ -41,7 +41,7 @@ pub fn whole_messages_agree()
     ensures repetitions { RepetitionsHaveTheLetters }
 {}
 
-/// The page of a whole message has the text of each part, without a lost letter.
+/// The page of a whole message has the complete text of each part: no letter is lost.
 pub fn whole_messages_are_on_the_page()
     ensures { WholeMessagesAreOnThePage }
 {}

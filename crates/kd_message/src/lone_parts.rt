@@ -91,7 +91,7 @@ pub(crate) fn draw_lone_reason<W: Sink>(
     }
 }
 
-/// Writes that a heading is damaged, with the line as it came, and an example of a valid heading.
+/// Writes that a heading is damaged, then the received line, and an example of a valid heading.
 fn draw_damaged_heading<W: Sink>(sink: &mut W, language: Language, model: Model, part: &DamagedPart)
     ensures { Draws W.taken W.has_failed sink.old sink.new
         (damaged_heading language model part.now) }

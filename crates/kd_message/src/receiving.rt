@@ -51,8 +51,8 @@ pub enum ReceivePageFault {
     Device,
 }
 
-/// Writes the page in `language` that shows how to decipher `form` by hand, and the form's text. The machine is on the
-/// day's key.
+/// Writes the page in `language` that has the text of `form`, and shows how to decipher `form` by hand. The machine is
+/// on the day's key.
 ///
 /// Writes to `notes` what is wrong with the form, and what to ask for. Returns whether the form is one whole message of
 /// the day, with no letter of its text lost. For `Device`, a prefix of the page is written. For the other faults,
@@ -141,7 +141,7 @@ fn sheet_count(parts: &[DamagedPart]) -> u16
     u16::from(total_of(parts)).max(parts.len() as u16)
 }
 
-/// Writes notes on what is wrong with a form with the parts `parts`.
+/// Writes notes on what is wrong with the form that has the parts `parts`.
 fn draw_notes<E: Sink>(notes: &mut E, language: Language, day: &SheetDay, parts: &[DamagedPart])
     requires few { length parts.now ≤ 255 }
     requires workable { AreWorkable day.now parts.now }
@@ -263,9 +263,10 @@ fn draw_shown<W: Sink>(
     }
 }
 
-/// Writes the words in `section` for each part without a number, if the last part number before this part is `after`.
+/// Writes the words in `section` for some of `parts`: those without a number that come after part `after`.
 ///
-/// `before` is the last part number before `parts`.
+/// The last numbered part before them has the number `after`. `before` is the number of the last numbered part before
+/// `parts`.
 fn draw_lone_after<W: Sink>(
     sink: &mut W,
     section: Section,
@@ -306,8 +307,9 @@ fn number_or(before: u8, numbers: &Option<PartNumbers>) -> u8
     }
 }
 
-/// Writes the words in `section` for a part without a number, if the last part number before it, `before`, equals
-/// `after`.
+/// Writes the words in `section` for a part without a number, if `is_there`. Otherwise writes nothing.
+///
+/// `after` is the number of the last numbered part before this part.
 fn draw_lone_if<W: Sink>(
     sink: &mut W,
     is_there: bool,

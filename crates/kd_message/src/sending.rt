@@ -40,7 +40,7 @@ use std::alloc::Global;
 /// Why the page of an order isn't written.
 #[derive(Clone, Copy, Debug, PartialEq, Eq)]
 pub enum SendPageFault {
-    /// A fault that `send` returns, too: a fault of the machine or of the order, or a lack of memory.
+    /// A fault that `send` can return for this order: a fault of the machine or of the order, or a lack of memory.
     Order(FormFault),
     /// A write to the sink failed.
     Device,
@@ -60,7 +60,7 @@ impl From<FormFault> for SendPageFault {
 /// Writes the page in `language` that shows how to encipher `order` by hand on `machine`. The machine must be on the
 /// day's key.
 ///
-/// For a fault that `send` returns, too, nothing is written. For `Device`, a prefix of the page is written.
+/// If the fault is `Order`, nothing is written. If it is `Device`, a prefix of the page is written.
 pub fn write_send_page<W: Sink>(
     alloc: Global,
     language: Language,

@@ -31,7 +31,7 @@ use kd_pictures::{Language, draw, draw_in};
 use kd_state::SheetDay;
 use kd_tables::{Letter, Model, Sink};
 
-/// Writes the head of the sheet with the text: its title, with the model and the day, and fields to fill in.
+/// Writes the head of the sheet with the text: a title that gives the model and the day, and fields to fill in.
 pub(crate) fn draw_text_sheet_head<W: Sink>(sink: &mut W, language: Language, day: &SheetDay)
     ensures { Draws W.taken W.has_failed sink.old sink.new (text_sheet_head language day.now) }
 {
@@ -46,9 +46,10 @@ pub(crate) fn draw_text_sheet_head<W: Sink>(sink: &mut W, language: Language, da
     );
 }
 
-/// Writes that lines, blanks, tabs or small letters of the form were passed over, or read as what they mean.
+/// Writes that not all of the form was read as it stands.
 ///
-/// For example, a small letter means its capital. Writes nothing if all of the form was read as it stands.
+/// Some lines or blanks were passed over, or tabs or small letters were read as spaces or capitals. Writes nothing if
+/// all of the form was read as it stands.
 pub(crate) fn draw_passed<W: Sink>(sink: &mut W, language: Language, parts: &[DamagedPart])
     ensures { Draws W.taken W.has_failed sink.old sink.new (passed_text language parts.now) }
 {
@@ -278,7 +279,7 @@ pub(crate) fn unread_warnings(group: GroupTest) -> Warnings
     }
 }
 
-/// Whether the day couldn't be tested: a letter of the group, or a list letter in both copies, is lost.
+/// Whether the day couldn't be tested: a letter of the group is lost, or a list letter is lost in both copies.
 fn is_not_tested(group: GroupTest) -> bool
     ensures { result ≡ is_not_tested group }
 {

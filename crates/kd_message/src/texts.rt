@@ -1,4 +1,5 @@
-//! The fixed texts of a message's pages, except those of the sheets. Texts with words are in English and in German.
+//! The fixed texts of a message's pages, except the texts of the parts' sheets. Texts with words are in English and in
+//! German.
 
 use kd_pictures::texts::Text;
 
@@ -44,12 +45,12 @@ pub const LONE_FIRST: Text = (
     "Ein Teil ohne Nummer, am Anfang",
 );
 
-/// A part without a number, in the list of the sheets: the signs before its words, and after them.
+/// A part without a number in the list of the sheets: the markup before and after the part's words.
 pub const LISTED_LONE: &str = "<li><a href=\"#text\">";
 
 pub const LISTED_LONE_END: Text = ("</a>, not read\n", "</a>, nicht lesbar\n");
 
-/// The head of a part without a number, on the sheet with the text: the signs before its words, and after them. The
+/// On the sheet with the text, the head of a part without a number: the markup before and after the part's words. The
 /// values are the model and the day.
 pub const LONE_HEAD: &str = "<section>\n<h2>";
 
@@ -95,7 +96,8 @@ pub const TEXT_WORDS: &str = "<p class=\"text words\">";
 
 pub const TEXT_END: &str = "</p>\n";
 
-/// The sentence that lines, blanks, tabs or small letters of the form were passed over, or read as what they mean.
+/// The sentence that not all of the form was read as it stands. Some lines or blanks were passed over, or tabs or small
+/// letters were read as spaces or capitals.
 pub const PASSED_OVER: Text = (
     "<p>Some of the form was passed over, or read as what it means: lines before the first heading, blanks in a heading, tabs, small letters.</p>\n",
     "<p>Einiges im Spruch ist übergangen oder gelesen, wie es gemeint ist: Zeilen vor dem ersten Spruchkopf, Leerzeichen in einem Spruchkopf, Tabulatoren, Kleinbuchstaben.</p>\n",
@@ -235,8 +237,8 @@ pub const COUNT_CAME: Text = (", but ", ", eingegangen: ");
 
 pub const COUNT_END: Text = (" came.", ".");
 
-/// The paragraph about a part that is read by count: the words before what is wrong with its count. Then, for a damaged
-/// count, the words before and after the number of letters that came.
+/// The start of the paragraph about a part that is read by count. Then, for a damaged count, the words before and after
+/// the number of letters that came.
 pub const BY_COUNT: Text = (
     "<p class=reason><b>Read by the letters that came.</b> ",
     "<p class=reason><b>Gelesen nach den eingegangenen Buchstaben.</b> ",

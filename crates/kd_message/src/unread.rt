@@ -190,7 +190,7 @@ fn draw_sign_group<W: Sink>(sink: &mut W, language: Language, sign: &Option<Wron
     }
 }
 
-/// Writes the heading's count, with the heading's line, and the number of letters that came.
+/// Writes the line number of the heading, the heading's count, and the number of letters that came.
 pub(crate) fn draw_counts<W: Sink>(sink: &mut W, language: Language, part: &DamagedPart)
     ensures { Draws W.taken W.has_failed sink.old sink.new
         (counts_text language part.now.line (heading_count part.now.numbers) part.now.came) }

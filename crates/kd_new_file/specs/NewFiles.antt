@@ -9,7 +9,7 @@ use Rattle.std.specs.Map.{update}
 abbrev pub FilesByName : Type 0
 FilesByName = List ℕ → Option (List ℕ)
 
--- the files after the file `name` gets the bytes `content`, or is removed if `content` is `None`
+-- all files after a change: the file `name` gets the bytes `content`, or is removed if `content` is `None`
 abbrev pub with_content : FilesByName → List ℕ → Option (List ℕ) → FilesByName
 with_content files name content = update bytes_eq files name content
 

@@ -12,7 +12,7 @@ const NAMES: u8 = 100;
 
 /// Begins a new file under another name, in the folder of `name`. Returns this other name, and the empty file.
 ///
-/// The other name is `name`, then `.part`, then the first number from 1 to 100 that is free.
+/// The other name is `name`, then `.part`, then a number: the first from 1 to 100 that gives an unused name.
 pub fn begin<N: NewFiles>(
     alloc: Global,
     files: &mut N,

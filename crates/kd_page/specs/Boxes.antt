@@ -36,7 +36,7 @@ slot_name model slot =
     let after = slots_of model - slot in
     if after == 0 then Right else if after == 1 then Middle else if after == 2 then Left else Greek
 
--- the slot in the list that holds the wheel; `None` for a spare wheel, which is in the box
+-- which slot of the list holds the wheel; `None` for a spare wheel, which is in the box
 abbrev pub slot_holding : Parts → Wheel → List ℕ → Option ℕ
 slot_holding m wheel [] = None
 slot_holding m wheel (slot ∷ slots) = if is_seated m slot wheel then Some slot else slot_holding m wheel slots
@@ -65,7 +65,7 @@ abbrev pub lug_word : Lug → Word
 lug_word lugs.Left = LeftLug
 lug_word lugs.Right = RightLug
 
--- The words for the place of a lug before the settings. Empty if the machine has no bar with this number.
+-- The words for the place of a lug before the settings. Empty if the machine doesn't have the lug's bar.
 abbrev pub lug_from_text : Language → Lug → Option (Place × Place) → List ℕ
 lug_from_text l lug None = []
 lug_from_text l lugs.Left (Some bar) = filled (text_in l LUG_FROM) (place_text bar.0 ∷ [])

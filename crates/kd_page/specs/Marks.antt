@@ -48,9 +48,9 @@ turns_pin_wheel wheel _ = false
 
 -- ---- The laws.
 
--- Machine `m` is the machine before the list, and machine `n` the machine after it. A thing that no setting of the list
--- sets is the same on both machines, so a page marks no change of this thing. A slot gets a new wheel only if the list
--- puts this wheel into the slot.
+-- Machine `m` is the machine before the list, and machine `n` the machine after it. If no setting of the list sets a
+-- thing, this thing is the same on both machines. So a page doesn't mark it as changed. A slot gets a new wheel only if
+-- the list puts this wheel into the slot.
 pub record MarksHaveSettings (m n : Parts) (list : List Setting) : Type 0 where
   pub rings : (wheel : Wheel) → list_any (sets_ring wheel) list ≡ false → machine_ring n wheel ≡ machine_ring m wheel
   pub reflector : list_any sets_reflector list ≡ false → machine_reflector n ≡ machine_reflector m

@@ -1,5 +1,5 @@
--- The table of a Converter's pins, with marks for the pins that are effective after the settings, and frames for the
--- pins that change.
+-- The table of a Converter's pins. It marks the pins that are effective after the settings, and frames the pins that
+-- change.
 use Rattle.std.specs.Prelude.{decimal, ℕ, ◌==◌, Bool, false, not, if◌then◌else◌, List, [], ◌∷◌, ◌++◌, flat_map, take}
 use Rattle.std.specs.Prelude.{drop}
 use Rattle.std.specs.Prelude.{Option, Some, None}
@@ -24,7 +24,8 @@ use Rattle.kd_pictures.specs.Words.{mark_text}
 abbrev pub pin_spot : ℕ → ℕ → Spot
 pin_spot wheel letter = record { step = Pins; row = Some wheel; cell = Some letter }
 
--- whether the pin is the same before and after the settings; the first argument says whether it is effective after them
+-- whether the settings leave the pin as it was; the two arguments say whether the pin is effective after the settings,
+-- and before them
 abbrev pub is_same_pin : Bool → Option Bool → Bool
 is_same_pin effective was = option_map_or (λ old. if old then effective else not effective) was false
 

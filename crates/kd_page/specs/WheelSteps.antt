@@ -1,5 +1,5 @@
 -- The steps of the rings, and of the wheels and the reflector. They say which parts come from the box, and which parts
--- go into the box, and have the checkbox of each setting.
+-- go into the box. They have the checkbox of each setting.
 use Rattle.std.specs.Prelude.{ℕ, ◌||◌, ◌==◌, Bool, false, if◌then◌else◌, List, [], ◌∷◌, ◌++◌, flat_map}
 use Rattle.std.specs.Prelude.{Option, Some, None, is_some, option_and_then, option_map}
 use Rattle.std.specs.Option.{option_map_or}

@@ -193,7 +193,7 @@ fn slot_name(model: Model, slot: u8) -> Word
     }
 }
 
-/// The slot of `slots` that holds the wheel. `None` if no slot does, and the wheel is a spare one in the box.
+/// Which of `slots` holds the wheel. `None` if none of them holds it: it is then a spare wheel in the box.
 pub(crate) fn slot_holding(machine: &Machine, wheel: Wheel, slots: &[u8]) -> Option<u8>
     ensures { result ≡ slot_holding machine.now wheel slots.now }
 {

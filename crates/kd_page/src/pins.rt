@@ -1,5 +1,5 @@
-//! The table of a Converter's pins, with marks for the pins that are effective after the settings, and frames for the
-//! pins that change.
+//! The table of a Converter's pins. It marks the pins that are effective after the settings, and frames the pins that
+//! change.
 ghost use Rattle.std.specs.Prelude.{◌≡◌, ◌++◌, flat_map};
 ghost use Rattle.kd_tables.specs.Permutation.{alphabet};
 ghost use Rattle.kd_pictures.specs.Drawing.{Draws};

@@ -38,7 +38,7 @@ abbrev pub sign_of : Option ℕ → Sign
 sign_of None = signs.Lost
 sign_of (Some letter) = signs.Letter letter
 
--- the cell of a letter of the received form that the operator doesn't press; `None` is a lost letter
+-- the cell of a received letter that the operator doesn't press; `None` is a lost letter
 abbrev pub skipped : Option ℕ → Cell
 skipped letter = record { above = sign_of letter; below = signs.Nothing; is_pressed = false; mark = marks.NoMark }
 
@@ -48,8 +48,8 @@ text_sign for_space None = signs.Lost
 text_sign None (Some letter) = signs.Letter letter
 text_sign (Some space) (Some letter) = if letter == space then signs.Nothing else signs.Letter letter
 
--- The cells of letters of the received form that are pressed. Below each letter stands its letter of the text, or
--- nothing for a space.
+-- The cells of received letters that the operator presses. Below each letter stands the letter of the text that it
+-- gives, or nothing for a space.
 abbrev pub received_cells : Option ℕ → List (Option ℕ) → List (Option ℕ) → List Cell
 received_cells for_space (key ∷ keys) (letter ∷ text) =
     record { above = sign_of key; below = text_sign for_space letter; is_pressed = true; mark = marks.NoMark }
@@ -67,8 +67,8 @@ mark_of taken letter =
     if taken == 6 then marks.NotNeeded
     else if is_some (place_on (ring_of (taken + 1)) letter) then marks.Taken (taken + 1) else marks.StruckOut
 
--- The last wheel that took a printed letter, up to and including a letter with this mark. The first argument is the
--- last wheel that took a letter before this letter; 0 if none did.
+-- The last wheel that took a printed letter, once a letter with this mark is printed. The first argument is the last
+-- wheel that took an earlier letter; 0 if none did.
 abbrev pub taken_after : ℕ → Mark → ℕ
 taken_after taken marks.NoMark = taken
 taken_after taken marks.NotNeeded = taken

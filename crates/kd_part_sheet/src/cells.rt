@@ -92,7 +92,7 @@ pub fn push_pressed<const N: usize>(
     }
 }
 
-/// Appends the cells of letters of the received form that the operator doesn't press.
+/// Appends the cells of received letters that the operator doesn't press.
 pub fn push_skipped<const N: usize>(cells: &mut ArrayVec<Cell, N>, letters: &[Option<Letter>])
     requires { length cells.old.items + length letters.now ≤ N }
     ensures { cells.new.items ≡ cells.old.items ++ map skipped letters.now }
@@ -117,7 +117,7 @@ fn sign_of(letter: Option<Letter>) -> Sign
     }
 }
 
-/// Appends the cells of letters of the received form that are pressed.
+/// Appends the cells of received letters that the operator presses.
 ///
 /// Below each letter of `keys` stands its letter in `text`, or nothing if the letter in `text` is `for_space`.
 pub fn push_received<const N: usize>(
@@ -194,9 +194,9 @@ fn mark_of(taken: u8, letter: Letter) -> Mark
     }
 }
 
-/// The last wheel that took a printed letter, up to and including a letter with the mark `mark`.
+/// The last wheel that took a printed letter, once a letter with the mark `mark` is printed.
 ///
-/// `taken` is the last wheel that took a letter before this letter; 0 if none did.
+/// `taken` is the last wheel that took an earlier letter; 0 if none did.
 fn taken_after(taken: u8, mark: Mark) -> u8
     ensures { result ≡ taken_after taken mark }
 {

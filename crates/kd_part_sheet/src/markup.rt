@@ -38,8 +38,8 @@ pub const MARKS_END: &str = "</i>";
 
 pub const STRUCK_OUT: &str = "-";
 
-/// A window in the title of the picture. Its values are the slot, the letter, and the letter's number; on a Converter,
-/// the wheel and the letter.
+/// A rotor machine's window in the picture's title. The values are the slot, the letter, and the letter's number. Then
+/// a Converter's wheel in the picture's title. The values are the wheel and the letter.
 pub const WINDOW_WORDS: &str = "~: ~ ~";
 
 pub const WHEEL_WORDS: &str = "~: ~";

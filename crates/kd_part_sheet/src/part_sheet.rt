@@ -71,7 +71,7 @@ pub fn draw_part_sheet<W: Sink>(
     draw(sink, SHEET_END);
 }
 
-/// Writes `text` if `is_there`.
+/// Writes `text` if `is_there` is true; otherwise writes nothing.
 pub fn draw_if<W: Sink>(sink: &mut W, is_there: bool, text: &str)
     ensures { Draws W.taken W.has_failed sink.old sink.new (text_if is_there text.now) }
 {
@@ -89,9 +89,9 @@ pub struct Warnings {
     pub letters_lost: bool,
     /// A letter is lost in a copy of the indicators, and no list letter is lost in both copies.
     pub copies_lost: bool,
-    /// The group or the list letters of the form differ from those of the day.
+    /// The form's group or list letters aren't the day's.
     pub wrong_day: bool,
-    /// A letter of the group, or a list letter in both copies, is lost.
+    /// A letter of the group is lost, or a list letter is lost in both copies.
     pub not_tested: bool,
 }
 

@@ -73,7 +73,7 @@ fn pressed_count(row: &[Cell]) -> usize
     row.iter().filter(|cell| cell.is_pressed).count()
 }
 
-/// Writes a row. `progress` counts the letters of this row, too.
+/// Writes a row. `progress` counts the letters of all rows so far, this row included.
 fn draw_row<W: Sink>(
     sink: &mut W,
     language: Language,

@@ -258,7 +258,7 @@ pub const WINDOW: Text = (
     "<text class=\"label\" x=\"~\" y=\"16\" font-size=\"18\">Platz ~</text>\n<rect class=\"set\" x=\"~\" y=\"24\" width=\"40\" height=\"40\"/>\n<text class=\"bold\" x=\"~\" y=\"53\" font-size=\"26\">~</text>\n<text class=\"bold\" x=\"~\" y=\"51\" font-size=\"20\">~</text>\n",
 );
 
-/// The beginning of the title of the picture of a Converter's wheels.
+/// How the title begins in the picture of a Converter's wheels.
 pub const WHEELS: Text = (
     "<figure class=shown><svg role=\"img\" viewBox=\"0 0 600 66\"><title>Wheels to set, from the left: ",
     "<figure class=shown><svg role=\"img\" viewBox=\"0 0 600 66\"><title>Räder, von links einzustellen: ",

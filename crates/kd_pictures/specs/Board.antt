@@ -31,8 +31,8 @@ cable_of m number = unwrap_or (machine_cable m number) (None, None)
 abbrev pub has_plug : Parts → ℕ → ℕ → Bool
 has_plug m number letter = has_letter (cable_letters (cable_of m number)) letter
 
--- whether a cable's end has a plug at some letter, but the other machine's cable with the same number has no plug at
--- this letter
+-- whether a cable's end has a plug that moves: the other machine's cable with this number has no plug at the same
+-- letter
 abbrev pub end_moves : Parts → ℕ → Option ℕ → Bool
 end_moves n number end = option_map_or (λ letter. not (has_plug n number letter)) end false
 

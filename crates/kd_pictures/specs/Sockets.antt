@@ -45,10 +45,10 @@ label_y letter = if socket_row letter == 0 then 24 else if socket_row letter == 
 abbrev pub line_x : ℕ → ℕ
 line_x letter = if socket_row letter == 2 then socket_x letter + 10 else socket_x letter
 
--- whether the lines of cables at the sockets of two letters are at least 10 units of the picture apart
+-- whether the cable lines to the sockets of two letters are at least 10 units of the picture apart
 abbrev pub are_apart : ℕ → ℕ → Bool
 are_apart one other = nat_le (line_x one + 10) (line_x other) || nat_le (line_x other + 10) (line_x one)
 
--- The lines of cables at the sockets of two letters never lie on each other.
+-- The cable lines to the sockets of two different letters never lie on each other.
 abbrev pub LinesAreApart : Type 0
 LinesAreApart = (one other : ℕ) → one < 26 → other < 26 → one ≢ other → IsTrue (are_apart one other)

@@ -22,8 +22,8 @@ pub fn languages_say_the_same()
     ensures words { WordsTellWhatToDo }
 {}
 
-/// The lines of cables at the sockets of two letters never lie on each other. They are at least 10 units of the picture
-/// apart.
+/// The cable lines to the sockets of two different letters never lie on each other. They are at least 10 units of the
+/// picture apart.
 #[tactic(auto, using(crate::proofs::LinesApart::lines_are_apart))]
 pub fn lines_are_apart()
     ensures { LinesAreApart }

@@ -8,7 +8,7 @@ use crate::drawing::{draw, draw_bytes};
 use kd_tables::Sink;
 use std::path::Path;
 
-/// Writes the name of the key sheet in the file `path`: the file's name, without folder and ending.
+/// Writes the name of a key sheet: the name of its file `path`, without folder and ending.
 ///
 /// Signs that HTML reads as markup are left out.
 #[tactic(auto, unfolding(crate::specs::SheetName::sheet_name))]

@@ -291,8 +291,8 @@ pub const BOXED_REFLECTOR: Text = (" reflector <b>~</b>", " Umkehrwalze <b>~</b>
 
 pub const BOXED_END: &str = "</p>\n";
 
-/// The words before the wheels that come from the box, each with its ring. The first words are for the rings before the
-/// settings, the second words for the rings once they are set. Then the text for a wheel.
+/// The words before a list of wheels from the box and their rings. The first text is for the rings before the settings,
+/// the second text for the rings after this step. Then the text for one wheel.
 pub const BOX_BEFORE: Text = (
     "<p>Compare these rings in the box, too:",
     "<p>Auch diese Ringe im Kasten vergleichen:",

@@ -23,8 +23,9 @@ use crate::words::Word;
 use kd_state::Machine;
 use kd_tables::{Letter, Reflector, Sink, Wheel};
 
-/// Writes the picture of the machine `before`, and below it the picture of the machine `after`, in which the
-/// differences are marked.
+/// Writes the picture of the machine `before`, and below it the picture of the machine `after`.
+///
+/// The lower picture marks the differences from `before`.
 pub fn draw_both<W: Sink>(sink: &mut W, language: Language, before: &Machine, after: &Machine)
     ensures { Draws W.taken W.has_failed sink.old sink.new (both_bands language before.now after.now) }
 {
@@ -38,7 +39,7 @@ pub fn draw_both<W: Sink>(sink: &mut W, language: Language, before: &Machine, af
     draw(sink, WHEELS_END);
 }
 
-/// Writes the picture of the machine `after` alone, which is used if nothing changes.
+/// Writes only the picture of the machine `after`. It is used if nothing changes.
 pub fn draw_one<W: Sink>(sink: &mut W, language: Language, after: &Machine)
     ensures { Draws W.taken W.has_failed sink.old sink.new (one_band language after.now) }
 {

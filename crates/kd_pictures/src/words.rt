@@ -6,7 +6,7 @@ use crate::language::Language;
 use crate::texts;
 use kd_tables::Model;
 
-/// A fixed word: the language's code, the name of a step, a slot, a picture or a lug, or the way to set a pin.
+/// A fixed word: the language's code, the way to set a pin, or the name of a step, slot, picture or lug.
 #[derive(Clone, Copy)]
 pub enum Word {
     Language,

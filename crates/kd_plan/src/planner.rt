@@ -88,7 +88,7 @@ fn pin_card(parts: &PinParts, entry: &PinEntry) -> Card
     Card { settings, prices }
 }
 
-/// `prices`, or only zeros if `total`, the cost of the assignment, is 0.
+/// `prices`, or only zeros if the assignment's cost `total` is 0.
 fn prices_or_zeros<const N: usize>(total: u16, prices: [i16; N]) -> [i16; N]
     requires { All (λ price. unsigned_abs price ≤ 4 * N) prices }
     ensures due { result

@@ -74,7 +74,7 @@ IsByNumberAnswer machine day settings prices = do
   IsNeededAnswer machine day settings
 
 -- The result of checking a card: success if the card proves itself, otherwise the first doubt. If the prices are by
--- kind, the price of each cable, column, bar or row is found first.
+-- kind, the check first finds the price of each cable, column, bar or row.
 abbrev pub IsCheckedAnswer : Parts → Day → List Setting → PriceParts → AnswerRule Doubt (Unit {0})
 IsCheckedAnswer machine day settings prices = do
   _ ← Demands (model_of machine ≡ day_model day) OtherModel
@@ -88,9 +88,9 @@ IsDoubt machine day settings prices doubt = IsCheckedAnswer machine day settings
 
 -- ---- The steps of finding the first doubt. No public contract cites these definitions.
 
--- The result of checking settings by two lists of `number` prices, for the rows and for the columns of the table of
--- costs. If the settings lead to the day and are proved shortest, the result is success. Otherwise it is the first
--- doubt.
+-- The result of checking settings by prices: success if the settings lead to the day and are proved shortest, otherwise
+-- the first doubt. There are two lists of `number` prices: one for the rows of the table of costs, and one for its
+-- columns.
 abbrev pub IsByPricesAnswer : Parts → Day → List Setting → ℕ → List ℤ → List ℤ → AnswerRule Doubt (Unit {0})
 IsByPricesAnswer machine day settings number rows columns answer =
     (prices : PriceParts) → machine_prices prices ≡ rows → day_prices prices ≡ columns → table_size prices ≡ number

@@ -28,10 +28,10 @@ pub record CanBeKinds {K X : Type 0} (format : KindFormat K X) (pairs : List (X 
   pub one_price : HaveOnePriceEach pairs
   pub fine : All (IsValidKeyAndPrice format) pairs
 
--- The list `new` is the list `old`, followed by added kinds. A kind has its key as often as its count says. Together,
--- the added kinds have the keys of `kind` and of `pairs`, with their prices. Suppose that all these keys can be grouped
--- into valid kinds. Then the added kinds are valid and strictly ascending. If the key of `kind` comes after a kind
--- `last`, all added kinds come after `last`, too.
+-- The list `new` is the list `old`, followed by added kinds. A kind stands for as many copies of its key and price as
+-- its count says. Together, the added kinds stand for the copies of `kind`, and then for `pairs`. Suppose that all
+-- these keys can be grouped into valid kinds. Then the added kinds are valid and strictly ascending. If the key of
+-- `kind` comes after a kind `last`, all added kinds come after `last`, too.
 pub record AppendsKinds {K X : Type 0} (format : KindFormat K X) (kind : KindOf X) (pairs : List (X × ℤ))
     (old new : List K) : Type 0 where
   pub made : List K
@@ -47,7 +47,7 @@ pub record AppendsKinds {K X : Type 0} (format : KindFormat K X) (kind : KindOf 
 abbrev pub HasNoneLeft : {X : Type 0} → List (KindOf X) → X → Type 0
 HasNoneLeft kinds key = All (λ pair. pair.0 ≢ key) (expansion kinds)
 
--- The kinds in `left` lack one key that the kinds in `kinds` have: `key`, with the price `price`. All other keys and
--- prices are the same. Here, a kind has its key as often as its count says.
+-- `left` are the kinds `kinds` after one copy of `key`, with the price `price`, is taken away. All other keys and
+-- prices are the same. Here, a kind has as many copies of its key and price as its count says.
 abbrev pub TakesOne : {X : Type 0} → List (KindOf X) → X → ℤ → List (KindOf X) → Type 0
 TakesOne kinds key price left = IsPermutation (expansion kinds) ((key, price) ∷ expansion left)

@@ -15,7 +15,8 @@ pub(crate) struct Carried {
     pub need_result: Result<(), Doubt>,
 }
 
-/// Carries out `settings` in turn. Returns the machine reached, and any doubt about the first needless setting.
+/// Carries out `settings` in turn. Returns the machine after the settings, and the doubt about the first needless
+/// setting, if there is one.
 ///
 /// A setting is needed if it changes a cable or a bar, or lowers the number of loose things by one. The error is the
 /// doubt about the first setting that the machine refuses.

@@ -98,9 +98,9 @@ fn bar_prices(
     }
 }
 
-/// Finds the first doubt about a card's `settings`, given the prices of rows and columns of the table of costs.
+/// Finds the first doubt about a card's `settings`, from the prices of the table's rows and columns.
 ///
-/// If the prices weren't found, the result is the doubt in `prices`.
+/// If `prices` is a doubt, the result is this doubt.
 fn check_by_prices<const N: usize>(
     machine: &Machine,
     day: &SheetDay,

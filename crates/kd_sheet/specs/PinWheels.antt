@@ -40,6 +40,6 @@ pins_in table = value_at keys.Pins table >>= read_array keys.Pins (nat_eq 6) pin
 
 -- ---- Reading items one by one. No public contract cites this definition.
 
--- the pins of the six wheels, from a list with an item for each wheel, from wheel 1 to wheel 6
+-- the pins of the six wheels, from a list of six items: the first item is for wheel 1, and so on
 abbrev pub pins_of_items : List Data → Result PinSet SheetFault
 pins_of_items items = read_items pins_for items >>= (λ pins. Ok (pin_set pins))

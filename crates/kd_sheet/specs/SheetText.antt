@@ -15,7 +15,7 @@ use Rattle.kd_sheet.specs.declared.key.Key.TheVariants as keys
 abbrev pub section_gap : Bool → List ℕ
 section_gap started = if started then codes "\n" else []
 
--- the section of a day: the gap before it, the line `[[day]]`, and the day's lines
+-- the section of a day: an empty line if there is an earlier section, the line `[[day]]`, and the day's lines
 abbrev pub section_text : Bool → List (List ℕ) → List ℕ
 section_text started lines = section_gap started ++ codes "[[day]]\n" ++ concat lines
 

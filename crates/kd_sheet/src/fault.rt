@@ -18,8 +18,11 @@ pub enum SheetFault {
     Missing(Key),
     /// A key's value is wrong.
     ///
-    /// The value or one of its items may have the wrong type, form or length, or be a number out of range. It may name
-    /// no wheel, or no reflector of the model. It may have a letter that isn't on its pin wheel, or name a pin twice.
+    /// The value, or one of its items, has one of these faults:
+    /// - It has the wrong type, form or length.
+    /// - It is a number out of range.
+    /// - It should name a wheel, or a reflector of the model, but doesn't.
+    /// - It has a letter that isn't on its pin wheel, or names a pin twice.
     BadValue(Key),
     /// A letter occurs twice among the cables, or among the pairs.
     LetterTwice,
@@ -27,7 +30,9 @@ pub enum SheetFault {
     WheelTwice,
     /// A wheel is in a slot where the model doesn't allow it.
     WheelNotAllowed,
-    /// The bar or the row with this number, counted from 1, has no valid standing or reading.
+    /// The bar with this number has no valid standing, or the row with this number has no valid reading.
+    ///
+    /// Bars and rows are counted from 1.
     BadRow(u8),
     /// Two days of a sheet have this number.
     DayTwice(u8),

@@ -59,7 +59,8 @@ fn pin_machine_text(parts: &PinParts) -> FileString
 
 /// Writes the file of `machine`: in version 2 for the M4, otherwise in version 1.
 ///
-/// On the fault `Device`, the sink has taken a prefix of the text. `read_machine` reads the text as the same machine.
+/// If the call returns `Device`, the sink has taken a prefix of the text. `read_machine` reads the whole text as
+/// `machine`.
 #[tactic(auto, using(crate::proofs::ReadBack::parts_are_read_back))]
 pub fn write_machine<W: Sink>(sink: &mut W, machine: &Machine) -> Result<(), Device>
     ensures text { Writes (W.taken sink.old) (W.taken sink.new) (machine_text machine.now) result }

@@ -54,7 +54,7 @@ impl Sheet {
         days.get_mut(index)?.take()
     }
 
-    /// Inserts `day` into the sheet, in place of a day with the same number.
+    /// Inserts `day` into the sheet. If the sheet has a day with the same number, `day` replaces that day.
     pub(crate) fn insert(&mut self, day: SheetDay)
         ensures { self.new ≡ slice_set self.old (day_number day - 1) (Some day) }
     {

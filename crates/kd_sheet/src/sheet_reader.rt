@@ -46,7 +46,7 @@ fn sheet_of_items(items: &[Value]) -> Result<Sheet, SheetFault>
 
 /// Reads a key sheet, or returns its first fault.
 ///
-/// `NoMemory` may replace any other result, as in `read_machine`.
+/// `NoMemory` may replace any other result: the contract doesn't say when memory runs out.
 pub fn read_sheet(alloc: Global, bytes: &[u8]) -> Result<Sheet, SheetFault>
     ensures { AgreesOrNoMemory SheetFault.NoMemory (sheet_of bytes.now) result }
 {

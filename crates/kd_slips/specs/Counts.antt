@@ -24,13 +24,14 @@ abbrev pub count : Counted → DayCounts → ℕ
 count Pairs day = day.pairs
 count Groups day = day.groups
 
--- whether `other` is for the same model as `day`, and has more pairs or groups; `counted` says which are compared
+-- whether `other` is for the same model as `day`, and has more pairs or groups; `counted` says whether pairs or groups
+-- are compared
 abbrev pub has_more : Counted → DayCounts → DayCounts → Bool
 has_more counted day other =
     (model_eq.ghosts).eq other.model day.model && nat_lt (count counted day) (count counted other)
 
--- whether `other` has more pairs or groups than `day`, and the most of all days of the same model; `counted` says what
--- is compared
+-- Whether `other` has more pairs or groups than `day`, and no day of the same model has more than `other`. `counted`
+-- says whether pairs or groups are compared.
 abbrev pub has_most : Counted → List DayCounts → DayCounts → DayCounts → Bool
 has_most counted days day other = has_more counted day other && not (list_any (has_more counted other) days)
 
@@ -50,8 +51,8 @@ few_words start counted day most =
     start ++ codes "day " ++ decimal day.day ++ codes " has " ++ count_words counted (count counted day)
     ++ codes ", and day " ++ decimal most.day ++ codes " has " ++ decimal (count counted most) ++ codes "\n"
 
--- The warning about a day. Empty if no day of the same model has more pairs or groups. `counted` says which are
--- compared.
+-- The warning about a day. Empty if no day of the same model has more pairs or groups. `counted` says whether pairs or
+-- groups are compared.
 abbrev pub few_line : List ℕ → List DayCounts → DayCounts → Counted → List ℕ
 few_line start days day counted =
     option_map_or (few_words start counted day) (find (has_most counted days day) days) []

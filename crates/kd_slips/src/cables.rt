@@ -42,7 +42,9 @@ fn check_apart(alloc: Global, earlier: &str, text: &str, byte: u8) -> Result<(),
     )
 }
 
-/// Refuses the cable `text` at place `place` of `items`, if it has a letter twice, or has a letter of an earlier item.
+/// Refuses the cable `text` if it has a letter twice, or a letter of an earlier cable.
+///
+/// `text` is the item at place `place` of `items`.
 fn check_new(alloc: Global, items: &[Value], place: usize, text: &str) -> Result<(), Slip>
     ensures { IfErr result (HasFault LetterTwice None) }
 {

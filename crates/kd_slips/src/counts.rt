@@ -48,15 +48,18 @@ fn count(counted: Counted, day: &DayCounts) -> usize
     }
 }
 
-/// Whether `other` is for the same model as `day`, and has more pairs or groups. `counted` says which are compared.
+/// Whether `other` is for the same model as `day`, and has more pairs or groups.
+///
+/// `counted` says whether pairs or groups are compared.
 fn has_more(counted: Counted, day: &DayCounts, other: &DayCounts) -> bool
     ensures { result ≡ has_more counted day.now other.now }
 {
     other.model == day.model && count(counted, day) < count(counted, other)
 }
 
-/// Whether one of `days` is for the same model as `day`, and has more pairs or groups. `counted` says which are
-/// compared.
+/// Whether one of `days` is for the same model as `day`, and has more pairs or groups.
+///
+/// `counted` says whether pairs or groups are compared.
 fn is_topped(counted: Counted, day: &DayCounts, days: &[DayCounts]) -> bool
     ensures { result ≡ list_any (has_more counted day.now) days.now }
 {
@@ -66,16 +69,18 @@ fn is_topped(counted: Counted, day: &DayCounts, days: &[DayCounts]) -> bool
     }
 }
 
-/// Whether `other` has more pairs or groups than `day`, and the most of all days of the same model in `days`.
+/// Whether `other` has more pairs or groups than `day`, and no day in `days` has more than `other`.
 ///
-/// `counted` says whether pairs or groups are compared.
+/// Only days of the same model are compared. `counted` says whether pairs or groups are compared.
 fn has_most(counted: Counted, days: &[DayCounts], day: &DayCounts, other: &DayCounts) -> bool
     ensures { result ≡ has_most counted days.now day.now other.now }
 {
     has_more(counted, day, other) && !is_topped(counted, other, days)
 }
 
-/// The first day of `rest` that has the most pairs or groups of all days of its model in `days`, and more than `day`.
+/// The first of `rest` that has more pairs or groups than `day`, and that no day in `days` surpasses.
+///
+/// Only days of the same model are compared.
 fn find_most(
     counted: Counted,
     days: &[DayCounts],
@@ -153,8 +158,9 @@ fn push_words(
     lines.push_str("\n")
 }
 
-/// Appends the warning about `day`, if another day of the same model in `days` has more pairs or groups. `counted` says
-/// which are compared.
+/// Appends the warning about `day`, if another day of the same model in `days` has more pairs or groups.
+///
+/// `counted` says whether pairs or groups are compared.
 fn push_few(
     lines: &mut String,
     start: &str,

@@ -34,8 +34,7 @@ pub fn refuse<T>(fault: SheetFault, words: Result<String, AllocError>) -> Result
     Err(Slip::Fault(fault, None, words?))
 }
 
-/// Refuses the item of a list with the number `item`: returns a slip with this fault and these words. Items are counted
-/// from 1.
+/// Refuses item number `item` of a list: returns a slip with this fault and these words. Items are counted from 1.
 pub fn refuse_item<T>(
     fault: SheetFault,
     item: usize,

@@ -18,7 +18,7 @@ use Rattle.kd_state.specs.Machine.{cable_letters, ring_at, letter_at}
 use Rattle.kd_state.specs.Setting.{is_same_place}
 use Rattle.kd_state.specs.SheetDay.{Day}
 
--- whether one of the two is true and the other false
+-- whether exactly one of the two conditions is true
 abbrev pub exactly_one : Bool → Bool → Bool
 exactly_one a b = if a then not b else b
 
@@ -91,6 +91,6 @@ loose_count = by_model 0
 abbrev pub place_of_pin_wheel : ℕ → Place
 place_of_pin_wheel wheel = slice_index_or (ZeroLeft ∷ One ∷ Two ∷ Three ∷ Four ∷ Five ∷ Six ∷ []) wheel Six
 
--- the standing whose two lugs are at these two places, given in either order
+-- the standing whose two lugs are at these two places; the two places may come in either order
 abbrev pub standing_across : Place → Place → Place × Place
 standing_across one other = if nat_lt (place_rank one) (place_rank other) then (one, other) else (other, one)

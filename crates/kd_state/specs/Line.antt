@@ -66,9 +66,9 @@ pub record BeginsWithAllSettings (bytes : List ℕ) (settings : List Setting) (r
   pub few : length settings ≤ 192
   pub none_more : BeginsWithNoSetting rest
 
--- Why the bytes aren't the text of a list. `BadLine` has the number, counted from 1, of the first line that has no LF
--- or isn't the line of a setting. At most 192 settings come before this line. `TooMany` means that the bytes begin with
--- the lines of 193 settings.
+-- Why the bytes aren't the text of a list. `BadLine` has the number of the first line that has no LF or isn't the line
+-- of a setting. Lines are counted from 1. At most 192 settings come before this line. `TooMany` means that the bytes
+-- begin with the lines of 193 settings.
 abbrev pub IsListFault : List ℕ → ListFault → Type 0
 IsListFault bytes (BadLine line) =
     (settings : List Setting) × (rest : List ℕ)

@@ -111,11 +111,11 @@ abbrev pub model_of : Parts → Model
 model_of (Rotor machine) = machine.model
 model_of (Pin machine) = M209
 
--- the ring of a wheel, in a slot or in the box; `None` if the model lacks the wheel
+-- the ring of a wheel; the wheel may be in a slot or in the box. `None` if the model lacks the wheel.
 abbrev pub ring_at : RotorParts → Wheel → Option ℕ
 ring_at machine wheel = slice_get machine.rings (place_in_box machine.model wheel)
 
--- the window letter of a wheel, in a slot or in the box; `None` if the model lacks the wheel
+-- the window letter of a wheel; the wheel may be in a slot or in the box. `None` if the model lacks the wheel.
 abbrev pub letter_at : RotorParts → Wheel → Option ℕ
 letter_at machine wheel = slice_get machine.letters (place_in_box machine.model wheel)
 

@@ -19,7 +19,7 @@ pair_in_order column = option_map (λ pair. smaller_first pair.0 pair.1) column
 abbrev pub columns_in_order : List (ℕ × ℕ) → List (Option (ℕ × ℕ))
 columns_in_order pairs = map pair_in_order (columns_of pairs)
 
--- the 13 cables of a day: a cable for each pair, its letters in alphabetical order, and then empty cables
+-- the 13 cables of a day: first a cable for each pair, with the pair's letters in alphabetical order; then empty cables
 abbrev pub cables_of : List (ℕ × ℕ) → List (Option ℕ × Option ℕ)
 cables_of pairs =
     map (λ pair. cable_in_order (Some pair.0) (Some pair.1)) pairs ++ replicate (13 - length pairs) (None, None)

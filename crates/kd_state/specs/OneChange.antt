@@ -24,8 +24,8 @@ pub record IsItemChanged {X : Type 0} (before : List X) (number : ℕ) (value : 
   pub others : (other : ℕ) → other ≢ number → numbered_item after other ≡ numbered_item before other
 
 -- The machine has no reason to refuse the setting. The machine `after` is this machine with one item of one part
--- changed. Everything else stays, also the rings and letters of the wheels in the box. `Seat` also empties the wheel's
--- old slot.
+-- changed. Nothing else changes, not even the rings and letters of wheels in the box. But `Seat` also empties the
+-- wheel's old slot.
 abbrev pub MakesOneChange : Parts → Setting → Parts → Type 0
 MakesOneChange (Rotor m) (Pull cable letter) after =
     (held : Option ℕ × Option ℕ) × (numbered_item m.cables cable ≡ Some held) × Contains (cable_letters held) letter

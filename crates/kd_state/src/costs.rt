@@ -83,7 +83,7 @@ fn standings_of(row: Reading) -> (Standing, Option<Standing>)
     }
 }
 
-/// The standing whose two lugs are at the places `one` and `other`, given in either order.
+/// The standing whose two lugs are at the places `one` and `other`; either place may be the left one.
 fn standing_across(one: Place, other: Place) -> Standing
     requires { place_rank one ≢ place_rank other }
     ensures { result ≡ costs.standing_across one other }

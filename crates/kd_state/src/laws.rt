@@ -32,7 +32,7 @@ pub fn settings_keep_machines()
 
 /// A machine carries a setting out exactly if it has no reason to refuse the setting. Then only one thing changes.
 ///
-/// All else stays, also the rings and letters of the wheels in the box.
+/// Nothing else changes, not even the rings and letters of wheels in the box.
 #[tactic(auto, using(crate::proofs::OneChange::settings_change_one_thing))]
 pub fn settings_change_one_thing()
     ensures { SettingsChangeOneThing }
@@ -49,7 +49,9 @@ pub fn settings_lead_or_are_refused()
     ensures { LeadsOrRefuses }
 {}
 
-/// An engine made from a machine enciphers as the machine does, also after both are turned to the same letters.
+/// An engine made from a machine enciphers as the machine does.
+///
+/// The two still encipher alike after both are turned to the same letters.
 #[tactic(auto, using(crate::proofs::Keys::engine_cipher, crate::proofs::Keys::turned_engine))]
 pub fn engines_encipher_as_their_machines()
     ensures standing { EngineEnciphersAsMachine }

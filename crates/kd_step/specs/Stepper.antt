@@ -60,7 +60,7 @@ abbrev pub window_after : List Wheel → List ℕ → ℕ → List ℕ
 window_after wheels window zero = window
 window_after wheels window (suc n) = next_window wheels (window_after wheels window n)
 
--- `n` steps lead to the window `window_after`, and to no other window.
+-- From each window, `n` steps lead to exactly one window: the window that `window_after` gives.
 abbrev pub ChainsEndInWindowAfter : Type 0
 ChainsEndInWindowAfter =
     (wheels : List Wheel) (first last : List ℕ) (n : ℕ)

@@ -1,7 +1,7 @@
 //! Laws of steps: they follow from the definition of a step, whatever the code does.
 ghost use Rattle.kd_step.specs.Stepper.{ChainsEndInWindowAfter, SlowWheelsMoveTogether};
 
-/// From each window, `n` steps lead to exactly one window, `window_after`.
+/// From each window, `n` steps lead to exactly one window: the window that `window_after` gives.
 pub fn chains_end_in_window_after()
     ensures { ChainsEndInWindowAfter }
 {}

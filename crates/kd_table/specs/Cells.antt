@@ -75,7 +75,7 @@ abbrev pub is_optional : Cell → Bool
 is_optional cells.Groups = true
 is_optional cell = false
 
--- whether the table has each column that the row's model needs, or an option for it
+-- whether, for each column that the row's model needs, the table has the column, or an option replaces it
 abbrev pub has_columns : OptionTexts → Columns → List (List ℕ) → Bool
 has_columns options columns row =
     list_all (λ cell. is_optional cell || has_text options columns cell) (row_cells (row_model options columns row))

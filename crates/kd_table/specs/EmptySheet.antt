@@ -1,5 +1,5 @@
 -- A key sheet to fill in. It has a section for each day. In a section, `?` stands for each missing letter and number. A
--- day with `?` is refused, so that a forgotten day can't be taken for a key.
+-- day that still has a `?` is refused, so that nobody uses a day that isn't filled in.
 -- Test: tests/cases/curator-sheet.toml
 use Rattle.std.specs.Prelude.{codes, false, ℕ, List, [], ◌∷◌, ◌++◌, map, replicate}
 use Rattle.std.specs.List.{range_with_len}

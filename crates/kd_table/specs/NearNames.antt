@@ -17,7 +17,8 @@ all_cells =
     cells.Day ∷ cells.Model ∷ cells.Reflector ∷ cells.Wheels ∷ cells.Rings ∷ cells.Window ∷ cells.Plugs ∷ cells.Groups
     ∷ cells.List ∷ cells.Pins1 ∷ cells.Pins2 ∷ cells.Pins3 ∷ cells.Pins4 ∷ cells.Pins5 ∷ cells.Pins6 ∷ cells.Bars ∷ []
 
--- whether `name` and `known` differ in at most two successive letters, or in one letter if `known` has fewer than five
+-- whether `name` and `known` differ in at most two successive letters; if `known` has fewer than five letters, in at
+-- most one letter
 abbrev pub is_near_name : List ℕ → List ℕ → Bool
 is_near_name name known = is_near (if nat_lt (length known) 5 then 1 else 2) name known
 
@@ -26,16 +27,18 @@ abbrev pub is_near_column : Cell → List ℕ → Bool
 is_near_column cell name =
     is_near_name name (english_name cell) || is_near_name name (german_name cell) || is_near_name name (short_name cell)
 
--- whether the column at `place` isn't read, but nearly has one of the names of the cell's column
+-- whether the column at `place` isn't read, but its name is nearly one of the names for the cell's column
 abbrev pub is_meant : Columns → List (List ℕ) → Cell → ℕ → Bool
 is_meant columns head cell place =
     not (is_column_read columns place) && is_near_column cell (cell_at (Some place) head)
 
--- the first column, among the first 64, that isn't read, but nearly has one of the names of the cell's column
+-- the first column, among the first 64, that isn't read, but whose name is nearly one of the names for the cell's
+-- column
 abbrev pub near_column : Columns → List (List ℕ) → Cell → Option ℕ
 near_column columns head cell = find (is_meant columns head cell) (range_with_len 0 64)
 
--- whether the cell's column is misnamed: the table lacks it, and an unread column nearly has one of its names
+-- whether the cell's column is misnamed: the table lacks this column, and an unread column's name is nearly one of the
+-- missing column's names
 abbrev pub lacks_near : Columns → List (List ℕ) → Cell → Bool
 lacks_near columns head cell = not (is_some (column_of columns cell)) && is_some (near_column columns head cell)
 

@@ -75,8 +75,8 @@ HasHead table head = (rows : List (List (List ℕ))) × AreRows table (head ∷ 
 
 -- ---- A table that means days.
 
--- The note on a table that isn't refused, with the first row `head` and these days. It has the notes on unread columns,
--- and the warnings about days that have fewer pairs, or fewer groups, than another day of their model.
+-- The note on a table that isn't refused, with the first row `head` and these days. It has the notes on unread columns.
+-- It also warns about each day that has fewer pairs, or fewer groups, than another day of its model.
 unfoldable pub taken_note : List (List ℕ) → List Day → List ℕ
 taken_note head days = unread_note head ++ few_lines (codes "warning: ") (map counts_of days)
 
@@ -94,12 +94,12 @@ TellsTaken options table notes =
 
 -- ---- Faults.
 
--- the words for a row's number and, if it is known, for the row's day
+-- the words for a row's number and, if the row's day is known, for this day
 abbrev pub row_number : ℕ → Option ℕ → List ℕ
 row_number number None = decimal number ++ codes ", "
 row_number number (Some day) = (decimal number ++ codes " (day ") ++ (decimal day ++ codes "), ")
 
--- the words for a row's place: its number and, if it is known, its day
+-- the words for a row's place: the row's number and, if the row's day is known, this day
 abbrev pub row_place : ℕ → Option ℕ → List ℕ
 row_place number day = codes "row " ++ row_number number day
 

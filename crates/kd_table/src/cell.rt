@@ -167,7 +167,8 @@ fn has_column(options: &TableOptions<&[u8]>, columns: &Columns, cell: Cell) -> b
     is_optional(cell) || has_text(options, columns, cell)
 }
 
-/// Whether the table has each column of `cells` that is needed, or an option for it.
+/// Whether, for each of `cells`, the table has the cell's column, has an option in its place, or doesn't need the
+/// column.
 fn has_each_column(options: &TableOptions<&[u8]>, columns: &Columns, cells: &[Cell]) -> bool
     ensures { result ≡ list_all
         (λ cell. is_optional cell || has_text (texts_of options.now) columns.now cell) cells.now }
@@ -180,7 +181,7 @@ fn has_each_column(options: &TableOptions<&[u8]>, columns: &Columns, cells: &[Ce
     }
 }
 
-/// Whether the table has each column that the model of `row` needs, or an option for it.
+/// Whether, for each column that the model of `row` needs, the table has the column, or an option replaces it.
 pub fn has_columns(options: &TableOptions<&[u8]>, columns: &Columns, row: &ByteRecord) -> bool
     ensures { result ≡ has_columns (texts_of options.now) columns.now (fields_of row.now) }
 {

@@ -1,4 +1,4 @@
-//! Makes a key sheet from a table of days, as a spreadsheet saves it, or writes a key sheet to fill in.
+//! Makes a key sheet from a table of days that a spreadsheet has saved. Also writes key sheets to fill in.
 #![tactic(auto)]
 
 mod cell;

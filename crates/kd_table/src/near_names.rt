@@ -30,8 +30,8 @@ pub static ALL_CELLS: [Cell; 16] = [
     Cell::Bars,
 ];
 
-/// Whether `name` and `known` differ in at most two successive letters, or in one letter if `known` has fewer than
-/// five.
+/// Whether `name` and `known` differ in at most two successive letters. If `known` has fewer than five letters, whether
+/// they differ in at most one letter.
 pub fn is_near_name(name: &[u8], known: &str) -> bool
     ensures { result ≡ is_near_name name.now known.now }
 {
@@ -48,28 +48,30 @@ fn is_near_column(cell: Cell, name: &[u8]) -> bool
         || is_near_name(name, short_name(cell))
 }
 
-/// Whether the column at `place` isn't read, but nearly has one of the names of the column of `cell`.
+/// Whether the column at `place` isn't read, but its name is nearly one of the names for the column of `cell`.
 fn is_meant(columns: &Columns, head: &ByteRecord, cell: Cell, place: usize) -> bool
     ensures { result ≡ is_meant columns.now (fields_of head.now) cell place }
 {
     !is_column_read(columns, place) && is_near_column(cell, cell_at(head, Some(place)))
 }
 
-/// The first column that isn't read, but nearly has one of the names of the column of `cell`.
+/// The first column that isn't read, but whose name is nearly one of the names for the column of `cell`.
 pub fn near_column(columns: &Columns, head: &ByteRecord, cell: Cell) -> Option<usize>
     ensures { result ≡ near_column columns.now (fields_of head.now) cell }
 {
     (0..COLUMNS).find(|place| is_meant(columns, head, cell, *place))
 }
 
-/// Whether the column of `cell` is misnamed: the table lacks it, and an unread column nearly has one of its names.
+/// Whether the column of `cell` is misnamed. The table then lacks this column, and an unread column's name is nearly
+/// one of the missing column's names.
 fn lacks_near(columns: &Columns, head: &ByteRecord, cell: Cell) -> bool
     ensures { result ≡ lacks_near columns.now (fields_of head.now) cell }
 {
     column_of(columns, cell).is_none() && near_column(columns, head, cell).is_some()
 }
 
-/// Whether the column of one of `cells` is missing, though an unread column nearly has one of its names.
+/// Whether the column of one of `cells` is misnamed. The table then lacks this column, and an unread column's name is
+/// nearly one of the missing column's names.
 fn lacks_near_any(columns: &Columns, head: &ByteRecord, cells: &[Cell]) -> bool
     ensures { result ≡ list_any (lacks_near columns.now (fields_of head.now)) cells.now }
 {

@@ -3,7 +3,7 @@ ghost use Rattle.std.specs.Prelude.{◌≡◌, ℕ, ◌+◌, ◌-◌, ◌%◌, �
 
 use std::marker::Model;
 
-/// Item `x` is the place of the letter after letter `x` in the alphabet, with A after Z.
+/// For each letter, in the order of the alphabet: the place of the next letter, with A after Z.
 ///
 /// A rotor machine calls `next` at each key press, and a table is faster than a comparison.
 static NEXT: [u8; 26] = [

@@ -14,7 +14,7 @@ use Rattle.kd_step.specs.Stepper.{with_last_moved}
 use Rattle.kd_enigma.specs.Cipher.{RotorKey, IsPlugboard, path, product, rotors}
 
 -- The table of a rotor machine.
--- - `into` has a row for each letter in the right window: the places that the current of each key reaches, in through
+-- - `into` has a row for each letter in the right window. The row says which place each key's current reaches through
 --   the plugboard and the right wheel.
 -- - `core` has a row for each combination of letters in the other windows: the places at which the current comes out of
 --   the core.
@@ -38,7 +38,7 @@ right_slot slots = drop (length slots - 1) slots
 abbrev pub letter_in : List ℕ → ℕ → ℕ
 letter_in window from_right = slice_index window (length window - (from_right + 1))
 
--- the number of the row of `core` for these window letters; in base 26, each letter is a digit from 0 to 25
+-- the number of the core's row for these window letters; the letters are the number's digits in base 26
 abbrev pub row_number : List ℕ → ℕ
 row_number [] = 0
 row_number (letter ∷ letters) = letter * 26 ^ length letters + row_number letters
@@ -49,7 +49,7 @@ window_by table window =
     with_last_moved (slice_index table.steps (26 * letter_in window 1 + letter_in window 0)) window
 
 -- The letter that lights up for `key` while the windows show `window`. The current of `key` comes out of the core at
--- some place. The letter whose own key leads the current into the core at this place lights up.
+-- some place. One key leads its own current into the core at this place. This key's letter lights up.
 abbrev pub lamp_by : RotorTable → List ℕ → ℕ → ℕ
 lamp_by table window key =
     let into = slice_index_or table.into (letter_in window 0) [] in
@@ -65,8 +65,8 @@ typed_by table window (key ∷ text) =
 
 -- ---- The table of a key.
 
--- The places that the current of each key reaches, through the plugboard and the right wheel. The right window shows
--- `letter`.
+-- For each key, the place that the key's current reaches through the plugboard and the right wheel. The right window
+-- shows `letter`.
 unfoldable pub into_row : RotorKey → ℕ → List ℕ
 into_row key letter = product (key.plugs ∷ rotors (right_slot key.wheels) (right_slot key.rings) (letter ∷ []))
 
@@ -85,7 +85,8 @@ core_key key = record {
 unfoldable pub core_row : RotorKey → List ℕ → List ℕ
 core_row key window = path (core_key key) window
 
--- the letters of `count` windows for the row of `core` with this number: the number's last `count` digits in base 26
+-- the `count` window letters that belong to the core's row with this number: the number's last `count` digits in base
+-- 26
 abbrev pub letters_with_number : ℕ → ℕ → List ℕ
 letters_with_number zero number = []
 letters_with_number (suc count) number = number / 26 ^ count % 26 ∷ letters_with_number count number

@@ -36,7 +36,8 @@ pin_lines table = map pins_text table.pins ++ map letters_text table.rows
 abbrev pub lines_of : List ℕ → List (List ℕ)
 lines_of text = slice_split (λ byte. byte == 10) text
 
--- The table that a text has. The first line gives `steps`, the next 26 lines `into`, and all later lines `core`.
+-- The table of a rotor machine, read from a text. The first line is `steps`, the next 26 lines are `into`, and all
+-- later lines are `core`.
 unfoldable pub rotor_table_in : List ℕ → RotorTable
 rotor_table_in text =
     let lines = lines_of text in
@@ -46,7 +47,7 @@ rotor_table_in text =
       core = map letters_of (drop 27 lines);
     }
 
--- The table that a text has. The first six lines give `pins`, and all later lines `rows`.
+-- The table of a Converter, read from a text. The first six lines are `pins`, and all later lines are `rows`.
 unfoldable pub pin_table_in : List ℕ → PinTable
 pin_table_in text =
     let lines = lines_of text in

@@ -9,8 +9,9 @@ use kd_enigma::Plugs;
 use kd_state::SheetWheel;
 use kd_tables::{Letter, unwiring, wiring};
 
-/// The places that the current of each key reaches, through the plugboard and a wheel. The wheel's window shows
-/// `letter`.
+/// For each key, the place that the key's current reaches through the plugboard and a wheel.
+///
+/// The wheel's window shows `letter`.
 pub(crate) fn inward(plugs: Plugs, seated: SheetWheel, letter: Letter) -> [Letter; 26]
     requires { IsPlugboard plugs }
     ensures { result ≡ followed_by plugs (rotor seated.wheel seated.ring letter) }
@@ -56,7 +57,7 @@ fn around_one(core: &[Letter; 26], seated: SheetWheel, letter: Letter) -> [Lette
     row
 }
 
-/// The place that the current from `letter` reaches through this wiring, turned by `by` places.
+/// The place that the current from `letter` reaches through `wiring` turned by `by` places.
 #[tactic(auto, using(crate::proofs::WaysAround::turned_at))]
 fn through(wiring: &[Letter; 26], by: Letter, letter: Letter) -> Letter
     ensures value { result ≡ slice_index (wiring_turned_by by wiring.now) letter }

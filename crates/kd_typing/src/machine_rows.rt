@@ -1,4 +1,4 @@
-//! The rows of the table of a machine of any model.
+//! The rows of a machine's table, for machines of any model.
 ghost use Rattle.std.specs.Prelude.{◌≡◌, ◌≤◌, ◌⊎◌, ◌↔◌, IsOk, IfOk, OnOk, IsSome, IfSome, OnSome};
 ghost use Rattle.arrayvec.specs.ArrayVec.{array_vec_len};
 ghost use Rattle.kd_pictures.specs.Drawing.{Draws};

@@ -7,7 +7,7 @@ use kd_pins::PinSet;
 use kd_tables::{Letter, Reading};
 use std::marker::Model;
 
-/// A Converter's pins, letters and readings of bars, from which the rows of its table are made.
+/// A Converter's key, from which its table is made: its pins, its shown letters, and its bars' readings.
 #[derive(Drop)]
 pub struct PinRows {
     pins: PinSet,
@@ -25,7 +25,7 @@ impl Model for PinRows {
 }
 
 impl PinRows {
-    /// The rows for a Converter. It has these pins, these letters on its wheels, and bars with the readings `bars`.
+    /// The rows for a Converter with these pins, these shown letters, and bars with the readings `bars`.
     pub fn new(pins: PinSet, letters: [Letter; 6], bars: [Reading; 27]) -> Self
         ensures { result ≡ record { pins = pins_of pins; letters = letters; bars = bars } }
     {

@@ -14,8 +14,10 @@ use kd_pictures::template::draw_letter;
 use kd_tables::{Letter, Sink};
 
 impl PinRows {
-    /// Writes the table as lines, with LFs between them. Each wheel has a line of digits, one for each letter: 1 if the
-    /// acting pin is effective, and 0 if it isn't. Then come the rows.
+    /// Writes the table as lines, with LFs between them.
+    ///
+    /// Each wheel has a line with a digit for each letter. The digit is 1 if the acting pin is effective while this
+    /// letter shows, and otherwise 0. Then come the rows.
     pub fn draw<W: Sink>(&self, sink: &mut W)
         ensures { Draws W.taken W.has_failed sink.old sink.new
             (lines_text (pin_lines (pin_table self.now))) }

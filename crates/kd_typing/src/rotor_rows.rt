@@ -48,8 +48,9 @@ impl RotorRows {
         }
     }
 
-    /// The places that the current of each key reaches, through the plugboard and the right wheel. The right window
-    /// shows `letter`.
+    /// For each key, the place that the key's current reaches through the plugboard and the right wheel.
+    ///
+    /// The right window shows `letter`.
     #[tactic(auto, using(crate::proofs::WaysAround::into_of_wheels))]
     pub fn into_at(&self, letter: Letter) -> [Letter; 26]
         ensures { result ≡ into_row self.now letter }

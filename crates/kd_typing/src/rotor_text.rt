@@ -14,9 +14,11 @@ use kd_state::SheetWheel;
 use kd_tables::{Letter, Sink};
 
 impl RotorRows {
-    /// Writes the table as lines, with LFs between them. The first line has a digit for each pair of letters in the
-    /// middle and the right window: how many wheels move at the next key press. Then come the rows of the right wheel,
-    /// from A on. Last come the rows of the core, in the alphabetical order of its windows.
+    /// Writes the table as lines, with LFs between them.
+    ///
+    /// The first line has a digit for each pair of letters in the middle and the right window: how many wheels move at
+    /// the next key press. Then come the rows of the right wheel, from A on. Last come the rows of the core, in the
+    /// alphabetical order of the core's window letters.
     #[tactic(auto, using(crate::proofs::TableTexts::rotor_text_is))]
     pub fn draw<W: Sink>(&self, sink: &mut W)
         ensures { Draws W.taken W.has_failed sink.old sink.new

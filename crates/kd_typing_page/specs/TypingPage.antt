@@ -37,7 +37,7 @@ script_words l model = if is_converter model then text_in l texts.PIN_WORDS else
 unfoldable pub data_text : Language → Model → List ℕ → List ℕ
 data_text l model letters = texts.START.now ++ letters_text letters ++ script_words l model
 
--- the script, which is the same on every page, and the end of the file
+-- the script and the end of the file; the script is the same on every page
 unfoldable pub script_text : List ℕ
 script_text = texts.SCRIPT_HEAD.now ++ SCRIPT.now ++ texts.FOOT.now
 

@@ -3,8 +3,9 @@
 
 use kd_pictures::texts::Text;
 
-/// The file's title; its value is the model. The next text is the policy: it names, by their SHA-256, the only script
-/// and the only style sheet that the page may use. The text after the policy is the start of the body.
+/// The file's title; the machine's model stands in place of `~`. The next text is the policy: it names, by their
+/// SHA-256, the only script and the only style sheet that the page may use. The text after the policy is the start of
+/// the body.
 pub const TITLE: Text = ("~: typing", "~: Tippen");
 
 pub const POLICY: &str =
@@ -12,8 +13,8 @@ pub const POLICY: &str =
 
 pub const BODY: &str = "</style>\n<body>\n";
 
-/// The head of a rotor machine's page; its value is the model. The next text is the head of a Converter's page. The
-/// windows or wheels follow the head.
+/// The head of a rotor machine's page; the machine's model stands in place of `~`. The next text is the head of a
+/// Converter's page. The windows or wheels follow the head.
 pub const ROTOR_HEAD: Text = (
     "<main class=enigma>\n<header><h1>~ <small>Press a key: a lamp shows the letter.</small></h1></header>\n<p id=off>This page needs JavaScript: without it no key works. If this is a preview, open the file in a browser.</p>\n<div>\n<div class=windows role=group aria-label=\"Windows\">\n",
     "<main class=enigma>\n<header><h1>~ <small>Taste drücken: Die Lampe zeigt den Buchstaben.</small></h1></header>\n<p id=off>Diese Seite braucht JavaScript: Ohne JavaScript wirkt keine Taste. Ist dies nur eine Vorschau, die Datei in einem Browser öffnen.</p>\n<div>\n<div class=windows role=group aria-label=\"Fenster\">\n",
@@ -24,8 +25,8 @@ pub const PIN_HEAD: Text = (
     "<main class=alphabet>\n<header><h1>~ <small>Buchstaben drücken: Die Maschine druckt einen.</small></h1></header>\n<p id=off>Diese Seite braucht JavaScript: Ohne JavaScript wirkt keine Taste. Ist dies nur eine Vorschau, die Datei in einem Browser öffnen.</p>\n<div>\n<div class=windows role=group aria-label=\"Räder\">\n",
 );
 
-/// The start of a slot's window, before its letters. The next two texts are the letters, which are the same for all
-/// slots, and the end of the window.
+/// The start of a slot's window, before its letters. The next text is the letters: all windows have the same letters.
+/// The text after the letters is the end of the window.
 pub const WINDOW: Text = (
     "<div class=wheel><button type=button value=1 aria-label=\"slot ~: next letter\">▲</button><label><span>slot ~</span><select autocomplete=off aria-label=\"slot ~: window\">",
     "<div class=wheel><button type=button value=1 aria-label=\"Platz ~: nächster Buchstabe\">▲</button><label><span>Platz ~</span><select autocomplete=off aria-label=\"Platz ~: Fenster\">",
@@ -39,7 +40,8 @@ pub const WINDOW_END: Text = (
     "</select><small></small></label><button type=button value=-1 aria-label=\"Platz ~: voriger Buchstabe\">▼</button></div>\n",
 );
 
-/// The start of a pin wheel, before its letters. The next two texts are for one letter, and for the end of the wheel.
+/// The start of a pin wheel, before its letters. The next text is one letter, and the text after it is the end of the
+/// wheel.
 pub const WHEEL: Text = (
     "<div class=wheel><button type=button value=1 aria-label=\"wheel ~: next letter\">▲</button><label><span>wheel ~</span><select autocomplete=off aria-label=\"wheel ~: letter\">",
     "<div class=wheel><button type=button value=1 aria-label=\"Rad ~: nächster Buchstabe\">▲</button><label><span>Rad ~</span><select autocomplete=off aria-label=\"Rad ~: Buchstabe\">",

@@ -12,7 +12,7 @@ use kd_tables::Wheel;
 
 /// Counts the loose things of `machine`: all that isn't as `day` says, except cables and bars.
 ///
-/// The count is 0 if only the machine or only the day is of a Converter M-209.
+/// The count is 0 if the machine is a Converter M-209 and the day is for a rotor machine, or the other way round.
 pub fn loose_count(machine: &Machine, day: &SheetDay) -> usize
     ensures value { result ≡ costs.loose_count machine.now day.now }
     ensures few { result ≤ 137 }

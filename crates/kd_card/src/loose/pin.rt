@@ -11,7 +11,7 @@ use kd_pins::PinSet;
 use kd_state::{PinEntry, PinParts, Setting, Settings};
 use kd_tables::{Letter, Ring, ring1, ring2, ring3, ring4, ring5, ring6};
 
-/// Lists the settings for the pins and wheel letters of a Converter M-209 that aren't as the day says.
+/// Lists the settings for a Converter M-209's pins and wheel letters that aren't as the day says.
 ///
 /// Pins come first, then letters. No setting changes a bar.
 pub fn pin_settings(parts: &PinParts, entry: &PinEntry) -> Settings

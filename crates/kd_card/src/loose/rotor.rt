@@ -32,9 +32,10 @@ pub fn rotor_settings(machine: &Machine, parts: &RotorParts, entry: &RotorEntry)
     settings
 }
 
-/// Appends the setting SEAT for each of `slots` that is empty, or holds another wheel than the day's in `wheels`.
+/// Appends the setting SEAT for each of `slots` that is empty, or holds another wheel than the day's wheel.
 ///
-/// The first of `slots` has the number `number`. Slots are counted from 1.
+/// `wheels` are the day's wheels in these slots. The first of `slots` has the number `number`. Slots are counted from
+/// 1.
 fn push_seats(settings: &mut Settings, number: u8, slots: &[Option<Wheel>], wheels: &[SheetWheel])
     requires few { number + length slots.now < 256 }
     requires room { array_vec_len settings.old + length slots.now ≤ 192 }

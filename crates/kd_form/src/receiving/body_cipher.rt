@@ -96,8 +96,8 @@ fn decipher_pin_body(
 
 /// Deciphers `letters`, the body of the part with the heading `heading`.
 ///
-/// If a body is too long, its end may be missing in `letters`. But `letters` must be more letters than any heading
-/// allows. The fault is then `CountWrong`, as it is for the whole body.
+/// If the body is too long, `letters` may lack letters from the body's end. Even then, `letters` must have more letters
+/// than any heading allows, so that the fault is `CountWrong`.
 pub(crate) fn decipher_body(
     day: &SheetDay,
     heading: &Heading,

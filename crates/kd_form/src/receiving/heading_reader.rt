@@ -19,7 +19,7 @@ use kd_state::{
 };
 use kd_tables::Letter;
 
-/// Reads a word such as `2/5`: a part's number and the number of all parts, which is at most 99.
+/// Reads a word such as `2/5`: a part's number and the number of all parts. A form has at most 99 parts.
 fn read_fraction(word: &[u8]) -> Option<(u8, u8)>
     ensures { MatchOption result
         ((part parts : ℕ) → IsFraction part parts → fraction_text part parts ≢ word.now)

@@ -10,7 +10,7 @@ use crate::internal_key::internal_key_of;
 use crate::keys::{Keys, PinKeys};
 use kd_state::SheetDay;
 
-/// Checks that the keys of all parts suit the day, or returns the fault of the first keys that don't suit it.
+/// Checks that the keys of all parts suit the day. The first part with unsuitable keys gives the fault.
 ///
 /// Not inlined: otherwise every byte read would pay for this function's stack frame.
 #[inline(never)]

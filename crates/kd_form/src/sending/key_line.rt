@@ -1,4 +1,4 @@
-//! The lines of keys in an order: the pattern of a line, and the keys that its letters mean.
+//! The lines of keys in an order: the pattern of a line, and the keys that are made from a line's letters.
 ghost use Rattle.std.specs.Prelude.{◌≡◌, ◌≤◌, ◌+◌, ◌⊎◌, ◌++◌, ◌∷◌, length};
 ghost use Rattle.kd_state.specs.Machine.{AreLetters};
 ghost use Rattle.kd_form.specs.Keys.{AreKeys, AreRotorKeys, ArePinKeys};

@@ -11,7 +11,7 @@ use crate::keys::Keys;
 use arrayvec::ArrayVec;
 use kd_state::SheetDay;
 
-/// A number of bytes that is enough for any line of a head, its line end included.
+/// The longest line of a head and its line end have at most this number of bytes.
 const LONGEST_LINE: usize = 25;
 
 /// A reader of an order's head: the lines of keys and the line TEXT.

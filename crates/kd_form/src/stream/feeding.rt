@@ -1,4 +1,4 @@
-//! Reads one chunk of a message from the source, feeds it to the reader, and writes the result.
+//! Reads one chunk of a message from the source, feeds it to the reader, and writes the reader's output.
 ghost use Rattle.std.specs.Prelude.{◌≡◌, ◌<◌, ◌≤◌, ◌||◌, [], ◌∷◌, length, OnOk};
 ghost use Rattle.kd_tables.specs.Ports.{port};
 ghost use Rattle.kd_form.specs.StreamSteps.{HasRoom, IsFeedAllAnswer, IsCloseAnswer, IsReadNextAnswer};

@@ -1,4 +1,4 @@
-//! Reads whole numbers, from 1 up to a given limit.
+//! Reads whole numbers from 1 to a limit.
 ghost use Rattle.std.specs.Prelude.{◌≡◌, ◌≤◌, IfOk, IfSome};
 ghost use Rattle.toml.specs.View.{view, table_view};
 ghost use Rattle.kd_sheet.specs.{Document.{read_at}, Numbers.{number_up_to}};

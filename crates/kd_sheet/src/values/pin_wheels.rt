@@ -86,8 +86,7 @@ pub fn pins_in(table: &Table) -> Result<PinSet, SheetFault>
     pins_of_items([one, two, three, four, five, six]).ok_or(SheetFault::BadValue(Key::Pins))
 }
 
-/// Reads the effective pins of the six wheels. Each of `items` is a text of one wheel's pins, in the order of the
-/// wheels' numbers.
+/// Reads the effective pins of the six wheels: the first of `items` is a text of wheel 1's pins, and so on.
 fn pins_of_items(items: [&Value; 6]) -> Option<PinSet>
     ensures { ok_or result (faults.BadValue keys.Pins)
         ≡ pins_of_items (map (λ item. view item.now) items.entry) }

@@ -1,4 +1,4 @@
-//! Writes items of arrays: wheels, cables, pairs, groups, standings and readings of bars, and texts.
+//! Writes one item of an array: a wheel, cable, pair, group or text, or a bar's standing or reading.
 ghost use Rattle.std.specs.Prelude.{◌≡◌, ℕ, List, [], ◌∷◌};
 ghost use Rattle.kd_tables.specs.{Places.{standing_text, reading_text}, Tables.{wheel_text}, Text.{letters_text}};
 ghost use Rattle.kd_sheet.specs.MachineText.{cable_text, slot_text};
@@ -13,10 +13,10 @@ pub type ItemString = ArrayString<32>;
 
 /// A value that is written as a text in an array.
 pub trait ItemText {
-    /// The bytes of the value's text.
+    /// The text of a value of this type, as bytes.
     ghost item_text: { Self → List ℕ };
 
-    /// The value's text.
+    /// The text of `self`, as it is written in an array.
     fn item_text(&self) -> ItemString
         ensures { result.bytes ≡ item_text self.now };
 }

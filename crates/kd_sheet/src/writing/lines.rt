@@ -8,7 +8,7 @@ use crate::Key;
 use arrayvec::ArrayString;
 use kd_state::push_number;
 
-/// The text of a machine file, or of a day of a key sheet, at most 2048 bytes.
+/// A text of at most 2048 bytes: a machine file, or one day of a key sheet.
 pub type FileString = ArrayString<2048>;
 
 /// Appends `key` and ` = `.
@@ -32,7 +32,7 @@ fn push_quoted(text: &mut FileString, value: &str)
     text.push_str("\"");
 }
 
-/// Appends the line of `key` with `value`, such as a digit, without quotes.
+/// Appends the line of `key`. The value `value`, such as a digit, isn't in quotes.
 pub(crate) fn push_digit_line(text: &mut FileString, key: Key, value: &str)
     requires { array_string_len text.old + length value.now + 13 ≤ 2048 }
     ensures bytes { text.new.bytes ≡ text.old.bytes ++ key_line key value.now }

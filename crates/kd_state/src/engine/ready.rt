@@ -167,7 +167,7 @@ fn have_no_single_letter(cables: &[Cable; 13]) -> bool
         .all(|cable| cable.0.is_some() == cable.1.is_some())
 }
 
-/// The pairs of letters in the cables that have two letters.
+/// The plugged pairs: for each cable with two letters, these two letters.
 fn plugged_pairs(cables: &[Cable; 13]) -> ArrayVec<(Letter, Letter), 13>
     ensures { result.items ≡ filter_map (λ cable. option_zip cable.0 cable.1) cables.now }
 {

@@ -47,7 +47,9 @@ impl Machine {
         }
     }
 
-    /// The ring of `wheel`, in a slot or in the box; ring 01 is A. `None` if the machine lacks the wheel.
+    /// The ring of `wheel`; ring 01 is A. `None` if the machine lacks the wheel.
+    ///
+    /// The wheel may be in a slot or in the box.
     pub fn ring(&self, wheel: Wheel) -> Option<Letter>
         ensures { result ≡ machine_ring self.now wheel }
     {
@@ -57,7 +59,9 @@ impl Machine {
         }
     }
 
-    /// The window letter of `wheel`, in a slot or in the box. `None` if the machine lacks the wheel.
+    /// The window letter of `wheel`. `None` if the machine lacks the wheel.
+    ///
+    /// The wheel may be in a slot or in the box.
     pub fn letter(&self, wheel: Wheel) -> Option<Letter>
         ensures { result ≡ machine_letter self.now wheel }
     {

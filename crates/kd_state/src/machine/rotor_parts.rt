@@ -18,9 +18,13 @@ pub struct RotorParts {
     /// The wheel in each slot, from the left; `None` for an empty slot.
     pub slots: PerSlot<Option<Wheel>>,
     pub reflector: Reflector,
-    /// The ring of each of the model's wheels, in a slot or not. The order is the box order. Ring 01 is A.
+    /// The ring of each of the model's wheels, in box order. Ring 01 is A.
+    ///
+    /// A wheel has its ring whether or not it is in a slot.
     pub rings: PerWheel<Letter>,
-    /// The window letter of each of the model's wheels, in a slot or not. The order is the box order.
+    /// The window letter of each of the model's wheels, in box order.
+    ///
+    /// A wheel has its window letter whether or not it is in a slot.
     pub letters: PerWheel<Letter>,
     /// The letters in each cable, from cable 1 to cable 13.
     pub cables: [Cable; 13],

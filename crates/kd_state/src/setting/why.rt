@@ -22,7 +22,7 @@ pub enum Why {
     WheelNotAllowed,
     /// The slot is empty or doesn't exist, or there is no pin wheel with this number.
     SlotEmpty,
-    /// The letter isn't on the pin wheel; or, for a setting of a pin, no pin wheel has this number.
+    /// The letter isn't on the pin wheel. Or the setting is for a pin, and no pin wheel has this number.
     NotOnWheel,
     /// There is no bar with this number.
     NoSuchBar,

@@ -18,7 +18,7 @@ pub struct SheetWheel {
     pub letter: Letter,
 }
 
-/// The default, which fills unused places of arrays, is wheel I with ring A and window letter A.
+/// The default is wheel I with ring A and window letter A. It fills unused places of arrays.
 impl Default for SheetWheel {
     ghost use Rattle.std.specs.Prelude.{◌≡◌};
     ghost use Rattle.kd_tables.specs.declared.wheel.Wheel.TheVariants.{I};

@@ -47,8 +47,8 @@ pub fn missing_of_model(head: &Head<'_>, model: Model) -> Words {
     lines
 }
 
-/// If the table lacks the column of `cell`, and an unread column has nearly its name, asks whether that column is
-/// meant.
+/// Asks whether an unread column is meant as the column of `cell`. Asks only if the table lacks the column of `cell`,
+/// and the unread column's name is nearly the missing column's name.
 fn tell_near(lines: &mut Words, head: &Head<'_>, cell: Cell) {
     if column_of(head.columns(), cell).is_none()
         && let Some(column) = near_column(head.columns(), head.names(), cell)

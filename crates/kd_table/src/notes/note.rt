@@ -110,7 +110,7 @@ fn push_number(note: &mut Vec<u8>, number: u64, after: &[u8]) -> Result<(), Spre
     push_bytes(note, after)
 }
 
-/// Appends the words for a row's number and, if it is known, for the row's day.
+/// Appends the words for a row's number and, if the row's day is known, for this day.
 fn push_row_number(
     place: &mut Vec<u8>,
     number: u64,
@@ -127,7 +127,7 @@ fn push_row_number(
     }
 }
 
-/// The words for a row's place: its number and, if it is known, its day.
+/// The words for a row's place: the row's number and, if the row's day is known, this day.
 pub fn row_place(alloc: Global, number: u64, day: Option<u8>) -> Result<Vec<u8>, SpreadsheetFault>
     ensures { IfOk result (λ place. place.items ≡ row_place number day) }
 {

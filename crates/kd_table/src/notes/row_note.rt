@@ -140,7 +140,7 @@ fn is_untold(head: &Head<'_>, row: &ByteRecord, start: usize, end: usize) -> boo
     }
 }
 
-/// The words for a row's place: its number and, if it is known, its day.
+/// The words for a row's place: the row's number and, if the row's day is known, this day.
 fn place_of_row(head: &Head<'_>, number: u64, row: &ByteRecord) -> Result<Vec<u8>, SpreadsheetFault>
     ensures { IfOk result (λ place. place.items
         ≡ row_place number (day_in (cell_at head.now.columns.day (fields_of row.now)))) }
