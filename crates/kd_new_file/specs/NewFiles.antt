@@ -1,7 +1,7 @@
 -- Files by their names, and what a new file adds to these files.
 -- Code: `begin` makes a file under another name, and `publish` renames it. Files in memory are a map.
 -- Test: tests/new-files
-use Rattle.std.specs.Prelude.{◌≡◌, ℕ, List, Option, Some, None, String, Vec, bytes_eq, option_map}
+use Rattle.std.specs.Prelude.{codes, decimal, ◌≡◌, ◌++◌, ℕ, List, Option, Some, None, String, Vec, bytes_eq, option_map}
 use Rattle.std.specs.BTreeMap.{BTreeMap, get_by_text}
 use Rattle.std.specs.Map.{update}
 
@@ -18,6 +18,10 @@ with_content files name content = update bytes_eq files name content
 abbrev pub AddsFile : Option FilesByName → Option FilesByName → List ℕ → Option (List ℕ) → Type 0
 AddsFile None new name bytes = new ≡ None
 AddsFile (Some files) new name bytes = (files name ≡ None) × (new ≡ Some (with_content files name bytes))
+
+-- the other name with this number, under which the file `name` is written at first
+abbrev pub part_name : List ℕ → ℕ → List ℕ
+part_name name number = name ++ (codes ".part" ++ decimal number)
 
 -- the files of a map that has the bytes of a file for each file's name
 abbrev pub files_in : {A B : Type 0} → BTreeMap (String A) (Vec ℕ B) → FilesByName
