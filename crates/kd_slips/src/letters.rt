@@ -1,5 +1,8 @@
 //! Refuses texts that don't consist of the right capital letters.
-ghost use Rattle.std.specs.Prelude.{◌≡◌, length, IfErr, None, OnOk};
+ghost use Rattle.std.specs.Prelude.{◌≡◌, false, length, true, Contains, IfErr, None, OnErr, OnOk};
+ghost use Rattle.std.specs.Char.{is_ascii_uppercase};
+ghost use Rattle.std.specs.List.{list_all};
+ghost use Rattle.kd_tables.specs.Rings.{ring_of};
 ghost use Rattle.kd_slips.specs.Items.{HasFault};
 
 use crate::slip::{Slip, refuse};
@@ -23,7 +26,9 @@ pub fn in_capitals(alloc: Global, text: &str) -> Result<String, AllocError> {
 
 /// Checks that each byte of `text` is a capital letter.
 pub fn check_capitals(alloc: Global, text: &str, fault: SheetFault) -> Result<(), Slip>
-    ensures { IfErr result (HasFault fault None) }
+    ensures capitals { OnOk result (list_all is_ascii_uppercase text.now ≡ true) }
+    ensures other { OnErr result (list_all is_ascii_uppercase text.now ≡ false) }
+    ensures slip { IfErr result (HasFault fault None) }
 {
     let bytes = text.as_bytes();
     if bytes.iter().all(|byte| byte.is_ascii_uppercase()) {
@@ -108,7 +113,9 @@ pub fn check_on_wheel(
     letter: Letter,
     fault: SheetFault,
 ) -> Result<(), Slip>
-    ensures { IfErr result (HasFault fault None) }
+    ensures on { OnOk result (Contains (ring_of wheel) letter) }
+    ensures off { OnErr result (¬ Contains (ring_of wheel) letter) }
+    ensures slip { IfErr result (HasFault fault None) }
 {
     if place_on_wheel(wheel, letter).is_some() {
         return Ok(());
