@@ -1,7 +1,7 @@
 -- Files by their names, and what a new file adds to these files.
 -- Code: `begin` makes a file under another name, and `publish` renames it. Files in memory are a map.
 -- Test: tests/new-files
-use Rattle.std.specs.Prelude.{codes, decimal, ◌≡◌, ◌++◌, ℕ, List, Option, Some, None, String, Vec, bytes_eq, option_map}
+use Rattle.std.specs.Prelude.{◌≡◌, ℕ, List, Option, Some, None, String, Vec, bytes_eq, option_map}
 use Rattle.std.specs.BTreeMap.{BTreeMap, get_by_text}
 use Rattle.std.specs.Map.{update}
 
