@@ -1,16 +1,14 @@
 -- What `run_page` writes, and when `run_page` refuses.
-use Rattle.std.specs.Prelude.{◌≡◌, ℕ, nat_lt, Bool, true, false, List, [], ◌∷◌, filter, length, Option, Some, None}
+use Rattle.std.specs.Prelude.{◌≡◌, ℕ, nat_lt, List, [], ◌∷◌, filter, length, Option, Some, None}
 use Rattle.std.specs.Prelude.{Result, Err}
 use Rattle.std.specs.List.{range_with_len}
-use Rattle.std.specs.Option.{option_map_or}
 use Rattle.kd_tables.specs.declared.model.Model.{Model}
-use Rattle.kd_tables.specs.declared.model.Model.TheVariants.{EnigmaI, M3, M4, M209}
 use Rattle.kd_tables.specs.Ports.{Port}
 use Rattle.kd_state.specs.declared.machine.parts.Parts.{Parts}
 use Rattle.kd_state.specs.Machine.{model_of}
-use Rattle.kd_state.specs.SheetDay.{Day, day_model}
-use Rattle.kd_sheet.specs.Sheet.{day_of}
+use Rattle.kd_state.specs.SheetDay.{Day}
 use Rattle.kd_host.specs.Writing.{WritesText}
+use Rattle.kd_key_table.specs.Days.{has_day_of}
 use Rattle.kd_pictures.specs.declared.language.Language.{Language}
 use Rattle.kd_booklet.specs.Booklet.{IsBooklet}
 use Rattle.kd_booklet.specs.Chain.{ArePlanned, IsFirstFault}
@@ -19,17 +17,6 @@ use Rattle.kd_booklet.specs.declared.fault.DayFault.{DayFault}
 use Rattle.kd_curator.specs.Refusals.{day_refusal, refused_device, refused_whole}
 use Rattle.kd_curator.specs.declared.fault.PageFault.TheVariants.{NoSuchDay}
 use Rattle.kd_curator.specs.declared.fault.Refused.{Refused}
-
-abbrev pub is_same_model : Model → Model → Bool
-is_same_model EnigmaI EnigmaI = true
-is_same_model M3 M3 = true
-is_same_model M4 M4 = true
-is_same_model M209 M209 = true
-is_same_model _ _ = false
-
--- whether the month has the day `number`, and this day is for the model
-unfoldable pub has_day_of : Model → List (Option Day) → ℕ → Bool
-has_day_of model month number = option_map_or (λ s. is_same_model (day_model s) model) (day_of month number) false
 
 -- the days that the command line names; if it names no days, all days that the month has for the model
 abbrev pub wanted_days : Option (List ℕ) → Model → List (Option Day) → List ℕ

@@ -7,12 +7,14 @@ ghost use Rattle.kd_tables.specs.Ports.{port};
 ghost use Rattle.kd_booklet.specs.Chain.{ArePlanned};
 ghost use Rattle.kd_curator.specs.MachineAndSheet.{IsAnswerOnSheet};
 ghost use Rattle.kd_curator.specs.Refusals.{is_device};
-ghost use Rattle.kd_curator.specs.RunPage.{IsDayRefusal, WritesPages, has_day_of, wanted_days};
+ghost use Rattle.kd_curator.specs.RunPage.{IsDayRefusal, WritesPages, wanted_days};
+ghost use Rattle.kd_key_table.specs.Days.{has_day_of};
 
 use crate::fault::{PageFault, Refused};
 use crate::machine_and_sheet::read_both;
 use kd_booklet::{DayPlans, plan_days, write_pages};
 use kd_curator_command::Days;
+use kd_key_table::has_day_of;
 use kd_page::Language;
 use kd_sheet::Sheet;
 use kd_state::Machine;
@@ -104,16 +106,5 @@ fn add_days_of(days: &mut Days, model: Model, sheet: &Sheet, number: u8)
     if number < 32 {
         days.add_if(number, has_day_of(model, sheet, number));
         add_days_of(days, model, sheet, number + 1);
-    }
-}
-
-/// Whether the sheet has the day `number`, and this day is for the model.
-#[tactic(auto, unfolding(crate::specs::RunPage::has_day_of))]
-fn has_day_of(model: Model, sheet: &Sheet, number: u8) -> bool
-    ensures { result ≡ has_day_of model sheet.now number }
-{
-    match sheet.day(number) {
-        Some(day) => day.model() == model,
-        None => false,
     }
 }

@@ -54,7 +54,7 @@ fn add_if(days: &mut ArrayVec<u8, 31>, number: u8, is_wanted: bool)
 
 /// Whether the sheet has the day `number`, and this day is for the model.
 #[tactic(auto, unfolding(crate::specs::Days::has_day_of))]
-pub(crate) fn has_day_of(model: Model, sheet: &Sheet, number: u8) -> bool
+pub fn has_day_of(model: Model, sheet: &Sheet, number: u8) -> bool
     ensures { result ≡ has_day_of model sheet.now number }
 {
     match sheet.day(number) {
