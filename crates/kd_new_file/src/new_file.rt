@@ -1,7 +1,7 @@
 //! Writing new files. A new file is written under another name. Once the file is whole, it is renamed to its own name.
-ghost use Rattle.std.specs.Prelude.{◌≡◌, ◌≢◌, ◌≤◌, ◌↔◌, [], ℕ, Option, Some, Err, IfErr, IfOk, IfSome, IsSome, OnErr, OnOk, false, string_bytes};
+ghost use Rattle.std.specs.Prelude.{◌≡◌, ◌≢◌, ◌↔◌, [], ℕ, Option, Some, Err, IfErr, IfOk, IfSome, IsSome, OnErr, OnOk, false, string_bytes};
 ghost use Rattle.std.specs.Option.{option_map};
-ghost use Rattle.kd_new_file.specs.NewFiles.{AddsFile, FilesByName, part_name};
+ghost use Rattle.kd_new_file.specs.NewFiles.{AddsFile, FilesByName, IsWhyNotBegun, IsWhyUnnamed, part_name};
 
 use crate::new_file_fault::NewFileFault;
 use crate::new_files::NewFiles;
@@ -25,9 +25,7 @@ pub fn begin<N: NewFiles>(
     ensures empty { IfOk result
         (λ begun. N.Written.taken begun.1 ≡ option_map (λ _. []) (N.held files.old)) }
     ensures fresh { IfOk result (λ begun. N.Written.has_failed begun.1 ≡ false) }
-    ensures free { IfErr result (λ fault. fault ≢ NewFileFault.Taken) }
-    ensures device { IfSome (N.held files.old) (λ known. result ≡ Err NewFileFault.Device
-        → (number : ℕ) → 1 ≤ number → number ≤ 100 → IsSome (known (part_name name.now number))) }
+    ensures fault { IfErr result (IsWhyNotBegun (N.held files.old) name.now) }
     ensures refused { OnErr result (N.held files.new ≡ N.held files.old) }
 {
     for number in 0..NAMES {
@@ -60,7 +58,9 @@ pub fn publish<N: NewFiles>(
         → N.held files.new ≡ before) }
     ensures taken { IfSome (N.held files.old)
         (λ known. (result ≡ Err NewFileFault.Taken) ↔ IsSome (known name.now)) }
-    ensures device { IfSome (N.held files.old) (λ _. result ≢ Err NewFileFault.Device) }
+    ensures fault { IfErr result (λ fault. (before : Option FilesByName)
+        → AddsFile before (N.held files.old) other.now (Some []) → other.now ≢ name.now
+        → IsWhyUnnamed before name.now fault) }
 {
     let done = files.link(file, other, name);
     files.remove(other);
