@@ -12,7 +12,7 @@ use Rattle.kd_new_file.specs.declared.new_file_fault.NewFileFault.{NewFileFault}
 use Rattle.kd_pictures.specs.declared.language.Language.{Language}
 use Rattle.kd_curator_command.specs.CommandLine.{IsNoCommandLine, curator_grammar}
 use Rattle.kd_curator.specs.Ending.{EndsAs, stop_after}
-use Rattle.kd_curator.specs.OutputFile.{Discarded, EndsFile, EndsWithFile, IsRunToFile, Published, Unwritten, unwritten_line}
+use Rattle.kd_curator.specs.OutputFile.{Discarded, EndsFile, EndsWithFile, IsRunToFile, IsWhyUnwritten, Published, Unwritten, unwritten_line}
 use Rattle.kd_curator.specs.Program.{AnswersAfter, Carried, CarriesOut, FileUnread, IsRun, NoMemory, OtherWords, Shown}
 use Rattle.kd_curator.specs.Program.{at_first, at_last, is_usage, is_whole}
 use Rattle.kd_curator.specs.declared.stop.Stop.{Stop}
@@ -99,10 +99,12 @@ module _ (l : Language) (words : List (List ℕ)) (known : Option (List ℕ → 
       → EndsFile before after name has has_failed whole (Err fault) → (left : List ℕ) → Runs left
       → EndsWithLine (unwritten_line name fault) 1 (at_last errors told failed) status
       → EndsWithFile l words known asked before after name names errors status
-  badly true whole fault same left run ends =
-      Unwritten (file left) left answer told failed (run_so left run) (inl whole) same fault ends
-  badly false whole fault (same, bad) left run ends =
-      Unwritten (file left) left answer told failed (run_so left run) (inr bad) same fault ends
+  badly true whole fault (same, why) left run ends =
+      Unwritten (file left) left answer told failed (run_so left run) fault
+      (subst (λ all. IsWhyUnwritten before name all has_failed fault) (sym whole) why) same ends
+  badly false whole fault (same, bad, device) left run ends =
+      Unwritten (file left) left answer told failed (run_so left run) fault
+      (subst (λ all. IsWhyUnwritten before name all has_failed fault) (sym whole) (bad, device)) same ends
 
   pub ends_well : EndsFile before after name has has_failed (is_whole answer) (Ok tt) → (left : List ℕ) → Runs left
       → EndsAs names answer (at_last errors told failed) status

@@ -8,7 +8,7 @@ use Rattle.kd_tables.specs.Refusals.{refusal_name}
 use Rattle.kd_tables.specs.declared.refusal.Refusal.TheVariants as refusals
 use Rattle.kd_host.specs.Ending.{EndsWithLine}
 use Rattle.kd_host.specs.Files.{AskedName}
-use Rattle.kd_new_file.specs.NewFiles.{AddsFile, FilesByName}
+use Rattle.kd_new_file.specs.NewFiles.{AddsFile, FilesByName, IsWhyNotBegun, IsWhyUnnamed}
 use Rattle.kd_new_file.specs.declared.new_file_fault.NewFileFault.{NewFileFault}
 use Rattle.kd_new_file.specs.declared.new_file_fault.NewFileFault.TheVariants as new_files
 use Rattle.kd_pictures.specs.declared.language.Language.{Language}
@@ -37,18 +37,24 @@ pub record IsRunToFile (l : Language) (words : List (List ℕ)) (known : Option 
   pub fresh : written.had_failed ≡ false
   pub run : IsRun l words known asked written (Unit {0}) errors left answer
 
+-- Why there is no output file `name`, though a new file was begun. `before` are the files before. `whole` says whether
+-- the command's whole output was written, and `failed` whether the new file has failed.
+abbrev pub IsWhyUnwritten : Option FilesByName → List ℕ → Bool → Bool → NewFileFault → Type 0
+IsWhyUnwritten before name true failed fault = IsWhyUnnamed before name fault
+IsWhyUnwritten before name false failed fault = (failed ≡ true) × (fault ≡ new_files.Device)
+
 -- How the program ends if the command line names the output file `name`. `names` are the names of the command's files.
 -- `before` are all files before the call, `after` all files after the call.
--- - `NotBegun`: no new file could be made, and no file was read.
+-- - `NotBegun`: no new file could be made, for the reason `fault`, and no file was read.
 -- - `Published`: the whole output was written, and is in the new file `name`.
 -- - `Discarded`: the command stopped before the whole output was written, and no write failed.
--- - `Unwritten`: a write failed, or the file couldn't get its name.
+-- - `Unwritten`: a write failed, or the file couldn't get its name, for the reason `fault`.
 --
 -- In all cases but `Published`, the files are as before.
 pub data EndsWithFile (l : Language) (words : List (List ℕ)) (known : Option (List ℕ → Option (List ℕ)))
     (asked : List AskedName) (before after : Option FilesByName) (name : List ℕ) (names : List (List ℕ)) (errors : Port)
     (status : ℕ) : Type 0 where
-  NotBegun : (fault : NewFileFault) → after ≡ before → asked ≡ []
+  NotBegun : (fault : NewFileFault) → IsWhyNotBegun before name fault → after ≡ before → asked ≡ []
       → EndsWithLine (unwritten_line name fault) 1 errors status
       → EndsWithFile l words known asked before after name names errors status
   Published : (written : Port) (answer : Result (Unit {0}) Stop) (told : Option (List ℕ)) (failed : Bool)
@@ -63,8 +69,8 @@ pub data EndsWithFile (l : Language) (words : List (List ℕ)) (known : Option (
       → EndsWithFile l words known asked before after name names errors status
   Unwritten : (written : Port) (left : List ℕ) (answer : Result (Unit {0}) Stop) (told : Option (List ℕ)) (failed : Bool)
       → IsRunToFile l words known asked before written (at_first errors told failed) left answer
-      → (is_whole answer ≡ true) ⊎ (written.has_failed ≡ true) → after ≡ before
-      → (fault : NewFileFault) → EndsWithLine (unwritten_line name fault) 1 (at_last errors told failed) status
+      → (fault : NewFileFault) → IsWhyUnwritten before name (is_whole answer) written.has_failed fault
+      → after ≡ before → EndsWithLine (unwritten_line name fault) 1 (at_last errors told failed) status
       → EndsWithFile l words known asked before after name names errors status
 
 -- The output goes to the sink. The command line names no output file, or it means no command, or memory ran out.
@@ -93,10 +99,12 @@ IsMeantBySome command = (words : List (List ℕ)) × IsCommandLineOf words comma
 
 -- How the files change by a command that wrote `bytes` to a new file. The first truth value, `failed`, says whether a
 -- write failed. The second truth value says whether the whole output was written. If the second is `true` and the
--- result is `Ok`, there is a new file `name` with these bytes. Otherwise, the files are as before.
+-- result is `Ok`, there is a new file `name` with these bytes. Otherwise, the files are as before, and the fault in the
+-- result says why.
 abbrev pub EndsFile : Option FilesByName → Option FilesByName → List ℕ → Option (List ℕ) → Bool → Bool
     → Result (Unit {0}) NewFileFault → Type 0
 EndsFile before after name bytes failed true (Ok done) = AddsFile before after name bytes
-EndsFile before after name bytes failed true (Err fault) = after ≡ before
+EndsFile before after name bytes failed true (Err fault) = (after ≡ before) × IsWhyUnnamed before name fault
 EndsFile before after name bytes failed false (Ok done) = (after ≡ before) × (failed ≡ false)
-EndsFile before after name bytes failed false (Err fault) = (after ≡ before) × (failed ≡ true)
+EndsFile before after name bytes failed false (Err fault) =
+    (after ≡ before) × (failed ≡ true) × (fault ≡ new_files.Device)

@@ -1,5 +1,5 @@
 //! The program: reads the command line and the files, and carries out the command.
-ghost use Rattle.std.specs.Prelude.{◌≡◌, ◌||◌, [], ℕ, List, false, true, length, map, IsErr, IsTrue};
+ghost use Rattle.std.specs.Prelude.{◌≡◌, ◌≢◌, ◌||◌, [], ℕ, List, false, true, length, map, IsErr, IsTrue};
 ghost use Rattle.std.specs.Prelude.{Option, None, Some};
 ghost use Rattle.std.specs.Io.KnownBytes.{Keeps, append_known};
 ghost use Rattle.kd_tables.specs.Ports.{port};
@@ -131,7 +131,7 @@ fn end_file<N: NewFiles>(
     name: &str,
 ) -> Result<(), NewFileFault>
     ensures published { (before : Option FilesByName)
-        → AddsFile before (N.held new_files.old) other.now (Some [])
+        → AddsFile before (N.held new_files.old) other.now (Some []) → other.now ≢ name.now
         → EndsFile before (N.held new_files.new) name.now (N.Written.taken file) (N.Written.has_failed file)
         (is_whole answer.now) result }
 {

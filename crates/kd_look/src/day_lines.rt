@@ -1,7 +1,8 @@
 //! The warnings about days.
-ghost use Rattle.std.specs.Prelude.{◌≡◌, ◌++◌, OnOk};
+ghost use Rattle.std.specs.Prelude.{◌≡◌, ◌++◌, ℕ, List, OnOk};
 ghost use Rattle.std.specs.String.{string_bytes};
-ghost use Rattle.kd_look.specs.Warnings.{WarnsOfDays, day_line};
+ghost use Rattle.kd_findings.specs.Texts.{AppendsText, EndsAtFeed};
+ghost use Rattle.kd_look.specs.Warnings.{IsDayLine, WarnsOfDays, day_line};
 
 use kd_findings::first_line;
 use std::alloc::AllocError;
@@ -20,7 +21,9 @@ fn push_line(lines: &mut String, name: &str, words: &str) -> Result<(), AllocErr
 
 /// Appends a warning about days: the file's name, `: warning: day`, and the first line of `words`.
 pub fn push_day_line(lines: &mut String, name: &str, words: &str) -> Result<(), AllocError>
-    ensures { OnOk result (WarnsOfDays name.now (string_bytes lines.old)
+    ensures line { OnOk result ((line : List ℕ) × EndsAtFeed words.now line
+        × AppendsText (IsDayLine name.now line) (string_bytes lines.old) (string_bytes lines.new)) }
+    ensures warns { OnOk result (WarnsOfDays name.now (string_bytes lines.old)
         → WarnsOfDays name.now (string_bytes lines.new)) }
 {
     push_line(lines, name, first_line(words))

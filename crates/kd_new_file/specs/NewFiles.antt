@@ -1,9 +1,12 @@
 -- Files by their names, and what a new file adds to these files.
 -- Code: `begin` makes a file under another name, and `publish` renames it. Files in memory are a map.
 -- Test: tests/new-files
-use Rattle.std.specs.Prelude.{◌≡◌, ℕ, List, Option, Some, None, String, Vec, bytes_eq, option_map}
+use Rattle.std.specs.Prelude.{codes, decimal, ◌≡◌, ◌≢◌, ◌≤◌, ◌++◌, ℕ, List, Option, Some, None, String, Vec, bytes_eq}
+use Rattle.std.specs.Prelude.{◌↔◌, IfSome, IsSome, option_map}
 use Rattle.std.specs.BTreeMap.{BTreeMap, get_by_text}
 use Rattle.std.specs.Map.{update}
+use Rattle.kd_new_file.specs.declared.new_file_fault.NewFileFault.{NewFileFault}
+use Rattle.kd_new_file.specs.declared.new_file_fault.NewFileFault.TheVariants.{Device, Taken}
 
 -- Files by their names: for a name, the file's bytes, or `None` if no file has this name.
 abbrev pub FilesByName : Type 0
@@ -18,6 +21,22 @@ with_content files name content = update bytes_eq files name content
 abbrev pub AddsFile : Option FilesByName → Option FilesByName → List ℕ → Option (List ℕ) → Type 0
 AddsFile None new name bytes = new ≡ None
 AddsFile (Some files) new name bytes = (files name ≡ None) × (new ≡ Some (with_content files name bytes))
+
+-- the other name with this number, under which the file `name` is written at first
+abbrev pub part_name : List ℕ → ℕ → List ℕ
+part_name name number = name ++ (codes ".part" ++ decimal number)
+
+-- Why no file could be made under another name for the file `name`. `Taken` is no reason, since other names are tried.
+-- If the files are known, the reason is `Device` only if all 100 other names are taken.
+pub record IsWhyNotBegun (files : Option FilesByName) (name : List ℕ) (fault : NewFileFault) : Type 0 where
+  pub other : fault ≢ Taken
+  pub device : IfSome files (λ known. fault ≡ Device → (number : ℕ) → 1 ≤ number → number ≤ 100
+      → IsSome (known (part_name name number)))
+
+-- Why a file that was begun under another name didn't get its name `name`. `files` are the files before it was begun.
+-- If they are known, the reason is `Taken` exactly if one of them is called `name`, and it is never `Device`.
+abbrev pub IsWhyUnnamed : Option FilesByName → List ℕ → NewFileFault → Type 0
+IsWhyUnnamed files name fault = IfSome files (λ known. ((fault ≡ Taken) ↔ IsSome (known name)) × (fault ≢ Device))
 
 -- the files in a map from file names to bytes
 abbrev pub files_in : {A B : Type 0} → BTreeMap (String A) (Vec ℕ B) → FilesByName

@@ -1,5 +1,5 @@
 //! New files in memory, for tests of programs.
-ghost use Rattle.std.specs.Prelude.{◌≡◌, ◌↔◌, Some, Err, OnErr, OnOk, IsSome};
+ghost use Rattle.std.specs.Prelude.{◌≡◌, ◌≢◌, ◌↔◌, Some, Err, OnErr, OnOk, IsSome};
 ghost use Rattle.kd_new_file.specs.NewFiles.{AddsFile, files_in};
 
 use crate::new_file_fault::NewFileFault;
@@ -23,6 +23,7 @@ impl<const CAP: usize> MemoryNewFiles<CAP> {
         ensures added { OnOk result
             (AddsFile (Some (files_in self.old.files)) (Some (files_in self.new.files)) name.now (Some bytes.now)) }
         ensures taken { (result ≡ Err NewFileFault.Taken) ↔ IsSome (files_in self.old.files name.now) }
+        ensures device { result ≢ Err NewFileFault.Device }
         ensures refused { OnErr result (files_in self.new.files ≡ files_in self.old.files) }
     {
         if self.files.contains_key(name) {

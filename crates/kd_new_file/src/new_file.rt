@@ -1,7 +1,7 @@
 //! Writing new files. A new file is written under another name. When the file is whole, it is renamed to its own name.
-ghost use Rattle.std.specs.Prelude.{◌≡◌, ◌≢◌, ◌↔◌, ◌++◌, [], ℕ, codes, decimal, Option, Some, Err, IfErr, IfOk, IfSome, IsSome, OnErr, OnOk, false, string_bytes};
+ghost use Rattle.std.specs.Prelude.{◌≡◌, ◌≢◌, ◌↔◌, [], ℕ, Option, Some, Err, IfErr, IfOk, IfSome, IsSome, OnErr, OnOk, false, string_bytes};
 ghost use Rattle.std.specs.Option.{option_map};
-ghost use Rattle.kd_new_file.specs.NewFiles.{AddsFile, FilesByName};
+ghost use Rattle.kd_new_file.specs.NewFiles.{AddsFile, FilesByName, IsWhyNotBegun, IsWhyUnnamed, part_name};
 
 use crate::new_file_fault::NewFileFault;
 use crate::new_files::NewFiles;
@@ -21,11 +21,11 @@ pub fn begin<N: NewFiles>(
     ensures added { IfOk result (λ begun.
         AddsFile (N.held files.old) (N.held files.new) (string_bytes begun.0) (Some [])) }
     ensures other { IfOk result (λ begun. (number : ℕ)
-        × (string_bytes begun.0 ≡ name.now ++ (codes ".part" ++ decimal number))) }
+        × (string_bytes begun.0 ≡ part_name name.now number)) }
     ensures empty { IfOk result
         (λ begun. N.Written.taken begun.1 ≡ option_map (λ _. []) (N.held files.old)) }
     ensures fresh { IfOk result (λ begun. N.Written.has_failed begun.1 ≡ false) }
-    ensures free { IfErr result (λ fault. fault ≢ NewFileFault.Taken) }
+    ensures fault { IfErr result (IsWhyNotBegun (N.held files.old) name.now) }
     ensures refused { OnErr result (N.held files.new ≡ N.held files.old) }
 {
     for number in 0..NAMES {
@@ -58,6 +58,9 @@ pub fn publish<N: NewFiles>(
         → N.held files.new ≡ before) }
     ensures taken { IfSome (N.held files.old)
         (λ known. (result ≡ Err NewFileFault.Taken) ↔ IsSome (known name.now)) }
+    ensures fault { IfErr result (λ fault. (before : Option FilesByName)
+        → AddsFile before (N.held files.old) other.now (Some []) → other.now ≢ name.now
+        → IsWhyUnnamed before name.now fault) }
 {
     let done = files.link(file, other, name);
     files.remove(other);

@@ -1,5 +1,5 @@
 //! `NewFiles`: a trait for making files in folders, and for asking why a file can't be read.
-ghost use Rattle.std.specs.Prelude.{◌≡◌, ◌↔◌, [], false, List, ℕ, Option, None, Some, IfOk, IfSome, IsSome, Err, OnErr};
+ghost use Rattle.std.specs.Prelude.{◌≡◌, ◌≢◌, ◌↔◌, [], false, List, ℕ, Option, None, Some, IfOk, IfSome, IsSome, Err, OnErr};
 ghost use Rattle.std.specs.Option.{option_map};
 ghost use Rattle.kd_new_file.specs.NewFiles.{AddsFile, FilesByName, with_content};
 
@@ -12,7 +12,8 @@ pub trait NewFiles {
     /// A file that is being written.
     type Written: Sink + Drop;
 
-    /// The files, by their names. `None` if the files aren't known, as on the host.
+    /// The files, by their names. `None` if the files aren't known, as on the host. Known files are in memory, where no
+    /// device fails.
     ///
     /// A file that is still being written counts as empty.
     ghost held: { Self → Option FilesByName } = { λ _. None };
@@ -25,6 +26,7 @@ pub trait NewFiles {
         ensures fresh { IfOk result (λ file. Self.Written.has_failed file ≡ false) }
         ensures taken { IfSome (held self.old)
             (λ files. (result ≡ Err NewFileFault.Taken) ↔ IsSome (files name.now)) }
+        ensures device { IfSome (held self.old) (λ _. result ≢ Err NewFileFault.Device) }
         ensures refused { OnErr result (held self.new ≡ held self.old) };
 
     /// Stores all bytes written to `file`, and gives the file the second name `name`. The file was made under the name
@@ -36,6 +38,7 @@ pub trait NewFiles {
             AddsFile (held self.old) (held self.new) name.now (Self.Written.taken file)) }
         ensures taken { IfSome (held self.old)
             (λ files. (result ≡ Err NewFileFault.Taken) ↔ IsSome (files name.now)) }
+        ensures device { IfSome (held self.old) (λ _. result ≢ Err NewFileFault.Device) }
         ensures refused { OnErr result (held self.new ≡ held self.old) };
 
     /// Removes the name `name`, if the folder allows this.
