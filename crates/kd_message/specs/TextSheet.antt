@@ -1,7 +1,7 @@
 -- The sheet with the text of a received form, and with what to ask the other station for.
 use Rattle.std.specs.Prelude.{decimal, ℕ, ◌+◌, ◌-◌, ◌/◌, ◌==◌, nat_le, nat_lt, ◌&&◌, ◌||◌, not, Bool, true, false, is_none}
 use Rattle.std.specs.Prelude.{if◌then◌else◌}
-use Rattle.std.specs.Prelude.{List, [], ◌∷◌, ◌++◌, map, Option, Some, None}
+use Rattle.std.specs.Prelude.{List, [], ◌∷◌, ◌++◌, drop, map, Option, Some, None}
 use Rattle.kd_tables.specs.declared.model.Model.{Model}
 use Rattle.kd_state.specs.SheetDay.{Day, day_model, day_number}
 use Rattle.kd_form.specs.Sending.{space_letter}
@@ -298,11 +298,16 @@ reason_text l part (damages.KeyLetterLost number) =
 reason_text l part damages.KeyNotOnWheel = text_in l texts.KEY_NOT_ON_WHEEL
 reason_text l part damages.NoInternalKey = text_in l texts.NO_INTERNAL_KEY
 
+-- The words for what to ask for if letters of the ground or of the enciphered key are lost: both keys, and all groups of
+-- the text with a lost letter or a wrong sign. `body` has the letters of the body. The text begins with the second group.
+abbrev pub keys_and_groups : Language → List (Option ℕ) → List ℕ
+keys_and_groups l body = text_in l texts.ITS_KEYS ++ lost_groups l COMMA.now false 2 (pieces 5 (drop 5 body))
+
 -- the words for what to ask for if a part isn't read
 abbrev pub asked_words : Language → DamagedPart → PartDamage → List ℕ
 asked_words l part damages.HeadingDamaged =
     if part.came == 0 then text_in l texts.ALL_OF_IT else text_in l texts.ITS_HEADING
-asked_words l part damages.HeadingKeyLost = text_in l texts.ITS_KEYS
+asked_words l part damages.HeadingKeyLost = keys_and_groups l part.body.items
 asked_words l part damages.BadByte = sign_groups l part
 asked_words l part damages.CountWrong = short_groups l part.short_group (part_line part)
 asked_words l part (damages.CopiesDiffer number) = key_letter_groups l part.came number

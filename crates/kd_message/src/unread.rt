@@ -1,10 +1,11 @@
 //! Writes why parts aren't read, and what to ask the other station for.
-ghost use Rattle.std.specs.Prelude.{◌≡◌, ◌+◌, ◌-◌, Some};
+ghost use Rattle.std.specs.Prelude.{◌≡◌, ◌≤◌, ◌+◌, ◌-◌, Some, length};
 ghost use Rattle.kd_pictures.specs.Drawing.{Draws};
 ghost use Rattle.kd_message.specs.TextSheet.{ask_text, asked_words, bad_byte_text, counts_text, damage_text};
 ghost use Rattle.kd_lost.specs.ByCount.{heading_count};
 ghost use Rattle.kd_message.specs.TextSheet.{count_asked, heading_fault, indicator_groups, indicator_place};
-ghost use Rattle.kd_message.specs.TextSheet.{key_letter_group, key_letter_groups, line_words, missing_text, reason_text};
+ghost use Rattle.kd_message.specs.TextSheet.{key_letter_group, key_letter_groups, keys_and_groups, line_words};
+ghost use Rattle.kd_message.specs.TextSheet.{missing_text, reason_text};
 ghost use Rattle.kd_message.specs.TextSheet.{sign_group, sign_groups};
 ghost use Rattle.kd_message.specs.TextSheet.{count_text, short_groups, short_text, short_words};
 ghost use Rattle.kd_message.specs.TextSheet.{sign_text, sign_words};
@@ -24,7 +25,7 @@ use kd_part_sheet::part_sheet::{PartName, draw_warnings};
 use kd_part_sheet::sheet::Sheet;
 use kd_pictures::template::{Value, fill_in};
 use kd_pictures::{Language, draw, draw_in};
-use kd_tables::Sink;
+use kd_tables::{Letter, Sink};
 
 /// Writes that a part didn't come.
 pub(crate) fn draw_missing<W: Sink>(sink: &mut W, language: Language, name: PartName)
@@ -320,7 +321,7 @@ pub(crate) fn draw_asked<W: Sink>(
 {
     match damage {
         PartDamage::HeadingDamaged if part.came > 0 => draw_in(sink, language, ITS_HEADING),
-        PartDamage::HeadingKeyLost => draw_in(sink, language, ITS_KEYS),
+        PartDamage::HeadingKeyLost => draw_keys_and_groups(sink, language, part.body.as_slice()),
         PartDamage::BadByte => draw_sign_groups(sink, language, part),
         PartDamage::HeadingDamaged => draw_in(sink, language, ALL_OF_IT),
         PartDamage::CountWrong => {
@@ -336,6 +337,18 @@ pub(crate) fn draw_asked<W: Sink>(
             draw_indicator_groups(sink, language, part.came)
         }
     }
+}
+
+/// Writes what to ask for if letters of the ground or of the enciphered key are lost: both keys, and all groups of the
+/// text with a lost letter or a wrong sign. `body` has the letters of the body.
+fn draw_keys_and_groups<W: Sink>(sink: &mut W, language: Language, body: &[Option<Letter>])
+    requires { length body.now ≤ 525 }
+    ensures { Draws W.taken W.has_failed sink.old sink.new
+        (keys_and_groups language body.now) }
+{
+    let (_, text) = body.split_at(body.len().min(5));
+    draw_in(sink, language, ITS_KEYS);
+    draw_lost_groups(sink, language, COMMA, false, 2, text);
 }
 
 /// Writes the words for the two groups with key letter `number`, in a body of `came` letters.
