@@ -1,5 +1,7 @@
 """What the scripts of this folder share: their command lines and counts, how they run a program, and the tables of the machines."""
+import contextlib
 import os
+import resource
 import subprocess
 import sys
 
@@ -55,6 +57,12 @@ def judge(holds, what):
     return bool(holds)
 
 
+def add(passed, failed):
+    """Adds comparisons that another program has counted."""
+    _counts[True] += passed
+    _counts[False] += failed
+
+
 def failures():
     """How many comparisons have failed so far."""
     return _counts[False]
@@ -84,6 +92,17 @@ def output(*words, **options):
 def speaking(language):
     """The environment in a language."""
     return {**os.environ, "LANG": language}
+
+
+@contextlib.contextmanager
+def file_limit(size):
+    """Meanwhile a file can grow to so many bytes and no further. A program is told so by a failed write if it is run with
+    `restore_signals=False`: otherwise a signal, which Python ignores, ends it."""
+    resource.setrlimit(resource.RLIMIT_FSIZE, (size, resource.RLIM_INFINITY))
+    try:
+        yield
+    finally:
+        resource.setrlimit(resource.RLIMIT_FSIZE, (resource.RLIM_INFINITY, resource.RLIM_INFINITY))
 
 
 def read(path):
