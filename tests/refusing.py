@@ -21,6 +21,8 @@ class Trial:
     def __init__(self, name, room):
         self.path = os.path.abspath(sys.argv[1] if len(sys.argv) > 1 else f"{TOP}/crates/{name}/out/{name}")
         self.name, self.room, self.shim = name, room, f"{room}/shim.so"
+        if not os.access(self.path, os.X_OK):
+            sys.exit(f"the program isn't built: {self.path}")
         subprocess.run(["cc", "-O1", "-shared", "-fPIC", "-o", self.shim, f"{TOP}/tests/shim.c", "-ldl"], check=True)
         os.mkdir(f"{room}/files")
         os.chdir(f"{room}/files")
@@ -45,9 +47,12 @@ class Trial:
         else:
             judge(False, f"{what}: the calls weren't refused")
 
-    def refuse_cases(self):
-        """Each case that is `refusing` gets its answer, and the right one if a call is refused."""
-        files = os.getcwd()
+    def refuse_cases(self, *commands):
+        """Each case that is `refusing` gets its answer, and the right one if a call is refused.
+
+        Of each command, there is such a case that isn't refused, and one that is.
+        """
+        files, tried = os.getcwd(), set()
         for case in cases():
             if case.refusing and case.program == self.name:
                 with tempfile.TemporaryDirectory(dir=self.room) as room:
@@ -56,8 +61,11 @@ class Trial:
                     how = {"KEEPS": "letters"} if case.words[:1] == ["type"] else {}
                     how |= {"KEEPS": case.values["keeps"]} if "keeps" in case.values else {}
                     how |= {"MEMORY_ALONE": "1"} if case.refusing == "memory" else {}
-                    self.refuse_each(*case.words, given=case.values["in"], **how)
+                    self.refuse_each(*case.words, given=case.values.get("in", b""), **how)
                     os.chdir(files)
+                    tried.add((*case.words[:1], case.values.get("status", 0)))
+        for command in commands:
+            judge({(command, 0), (command, 1)} <= tried, f"too few cases of {self.name} {command} are refusing")
 
     def writes(self, due, *words, given=b"", **environment):
         """The program writes `due`, and nothing to standard error; then with each of its calls refused."""
@@ -80,7 +88,7 @@ class Trial:
         how = {"input": given} if given else {"stdin": subprocess.DEVNULL}
         how |= {"stdout": subprocess.DEVNULL, "stderr": subprocess.PIPE}
         done = subprocess.run([self.path, *words], check=False, **how)
-        self.judge_said(due, done.returncode, done.stderr.decode(), words)
+        self.judge_said(due, done.returncode, done.stderr.decode(errors="replace"), words)
 
     def prefixes(self, text, *words):
         """Each prefix of a file: within a line it is no TOML; between two the next key is missing, unless it may be."""
