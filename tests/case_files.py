@@ -1,4 +1,4 @@
-"""Reads the worked examples in tests/cases, and compares what the programs answer with what is due. A file of cases is TOML:
+"""Reads the worked examples in tests/cases, and compares what the programs answer with what is due. Their files are TOML:
 
     program = "curator"               # or "desk"
 
@@ -7,7 +7,7 @@
 
     [[group]]
     what = "slips in a machine file"  # what the cases of the group show
-    run = ["look", "m.toml"]          # the words after the program's name; or `runs`, a list of such lists, for each case
+    run = ["look", "m.toml"]          # the words after the program's name; or `runs`, a list of such lists
     files = { "m.toml" = "M1" }       # the files that the words name: for each, its text
     change = "m.toml"                 # the file in which a case exchanges `old` for `new`
     status = 1                        # the exit status; 0 if it isn't given
@@ -19,19 +19,19 @@ A column is one of these, or else the name of a file:
 
     words             words behind those of `run`
     in                standard input
-    old, new          each occurrence of `old` in the file `change` becomes `new`; or lists, for one change after another
+    old, new          each occurrence of `old` in the file `change` becomes `new`; or lists: one change after another
     out, err, status  both outputs and the exit status
     refused           the words of a refusal: the line on standard error, status 1, no output
     body              the output behind the end of its style sheet, in place of `out`
-    has, lacks        lists of texts that the output has, or hasn't, in place of `out`; for `has` also pairs: a text, and
-                      how often the output has it
+    has, lacks        lists of texts that the output has, or hasn't, in place of `out`; for `has` also pairs: a text,
+                      and how often the output has it
     turn              a list of texts that the output has one after another, in place of `out`
     verdict           the output is a card: what `desk check` writes for it, on the same machine, sheet and day
     keeps             what may be written before a refused read, as KEEPS of shim.c has it
 
-What no column gives, the group gives, and else nothing is there. A text is the name of one of `texts`, or the text itself, or a
-list of pairs: a text, and how often it comes. Each of `texts` is a text or such a list. With `encoding = "latin-1"` in a group,
-each letter of a file is a byte.
+What no column gives, the group gives, and else nothing is there. A text is the name of one of `texts`, or the text
+itself, or a list of pairs: a text, and how often it comes. Each of `texts` is a text or such a list. With `encoding =
+"latin-1"` in a group, each letter of a file is a byte.
 """
 import os
 import tomllib
@@ -40,7 +40,8 @@ from itertools import product
 from shared import TOP, judge, read, run, write
 
 CASES = f"{TOP}/tests/cases"
-COLUMNS = {"words", "in", "old", "new", "out", "err", "status", "refused", "body", "has", "lacks", "turn", "verdict", "keeps"}
+COLUMNS = {"words", "in", "old", "new", "out", "err", "status", "refused", "body", "has", "lacks", "turn", "verdict",
+           "keeps"}
 STYLE_END = "</style>\n"
 REFUSING = "refusing"
 

@@ -1,4 +1,4 @@
-"""How to try a program on cases and on hostile files, again with each of its calls refused in turn (shim.c): for `tests/refusals`
+"""How to try a program on hostile files, and on cases with each of its calls refused in turn (shim.c), for `tests/refusals`
 and `tests/page-refusals`."""
 import os
 import re
@@ -76,7 +76,7 @@ class Trial:
     # ---- Hostile files: they are the file `cut`.
 
     def judge_said(self, due, status, told, words):
-        """The program gave this answer in a line, perhaps with words about the file `cut`; `fine` if it wasn't refused."""
+        """The program gave this answer in a line, perhaps with words about the file `cut`; or `fine`, without refusal."""
         told = re.sub(r": [^:]* cut$", "", told.removesuffix("\n")) or "fine"
         what = f"{self.name} {words}, the file cut being {os.path.getsize('cut')} bytes"
         judge(status == (due != "fine") and told == due, f"{what}: status {status}, {told}; due: {due}")
@@ -118,7 +118,7 @@ class Trial:
         """The command writes this, and takes no more memory than `MEMORY`; if `due` is `None`, whatever it writes."""
         status, out, told = run("sh", "-c", 'ulimit -v "$0" && exec "$@"', str(MEMORY), program or self.path, *words,
                                 given=given, folder=".", environment=os.environ)
-        right = status == 0 and due in (None, out) and told == ""
+        right = status == 0 and (due is None or (out, told) == (due, ""))
         judge(right, f"{self.name} {words}, within {MEMORY} KiB: status {status}, {len(out)} bytes, {told}")
 
 

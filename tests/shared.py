@@ -96,8 +96,8 @@ def speaking(language):
 
 @contextlib.contextmanager
 def file_limit(size):
-    """Meanwhile a file can grow to so many bytes and no further. A program is told so by a failed write if it is run with
-    `restore_signals=False`: otherwise a signal, which Python ignores, ends it."""
+    """Meanwhile a file can grow to so many bytes and no further. Programs are run with `restore_signals=False`, so that
+    a failed write tells them, not a signal that ends them, which Python ignores."""
     resource.setrlimit(resource.RLIMIT_FSIZE, (size, resource.RLIM_INFINITY))
     try:
         yield
