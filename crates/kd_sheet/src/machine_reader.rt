@@ -5,6 +5,7 @@ ghost use Rattle.toml.specs.View.{table_view};
 ghost use Rattle.kd_tables.specs.Tables.{box_of, slots_of};
 ghost use Rattle.kd_sheet.specs.Letters.{letters_at};
 ghost use Rattle.kd_sheet.specs.MachineFile.{rotor_parts_in, pin_parts_in, parts_in, machine_of};
+ghost use Rattle.kd_sheet.specs.MachineText.{file_version};
 
 use crate::document::{parse_table, value_at};
 use crate::values::bars::bars_in;
@@ -17,12 +18,22 @@ use crate::values::reflector::reflector_in;
 use crate::values::slots::slots_in;
 use crate::{Key, SheetFault};
 use kd_state::{Machine, PerWheel, PinParts, RotorParts};
-use kd_tables::{Letter, Model};
+use kd_tables::{Family, Letter, Model};
 use std::alloc::Global;
 use toml::Table;
 
 /// The latest version of machine files.
-const VERSION: u8 = 2;
+pub const LATEST_VERSION: u8 = 2;
+
+/// The first version of machine files that has `model`. Machines of `model` are written in this version.
+pub fn file_version(model: Model) -> u8
+    ensures { result ≡ file_version model }
+{
+    match model {
+        Model::EnigmaI | Model::M3 | Model::M209 => 1,
+        Model::M4 => 2,
+    }
+}
 
 /// Reads the text at `key`: a letter for each wheel of the model's box, in box order.
 #[tactic(auto, unfolding(crate::specs::Letters::letters_at))]
@@ -68,11 +79,9 @@ fn pin_parts_in(table: &Table) -> Result<PinParts, SheetFault>
 fn parts_in(table: &Table, model: Model) -> Result<Machine, SheetFault>
     ensures { result ≡ parts_in model (table_view table.now) }
 {
-    match model {
-        Model::M209 => Ok(Machine::pin(pin_parts_in(table)?).unwrap()),
-        Model::EnigmaI | Model::M3 | Model::M4 => {
-            Ok(Machine::rotor(rotor_parts_in(table, model)?).unwrap())
-        }
+    match model.family() {
+        Family::Rotor => Ok(Machine::rotor(rotor_parts_in(table, model)?).unwrap()),
+        Family::Pin => Ok(Machine::pin(pin_parts_in(table)?).unwrap()),
     }
 }
 
@@ -83,9 +92,10 @@ pub fn read_machine(alloc: Global, bytes: &[u8]) -> Result<Machine, SheetFault>
     ensures { AgreesOrNoMemory SheetFault.NoMemory (machine_of bytes.now) result }
 {
     let table = parse_table(alloc, bytes)?;
-    let version = number_at(&table, Key::Version, VERSION)?;
-    match model_in(&table)? {
-        Model::M4 if version != 2 => Err(SheetFault::UnknownModel),
-        model => parts_in(&table, model),
+    let version = number_at(&table, Key::Version, LATEST_VERSION)?;
+    let model = model_in(&table)?;
+    if version < file_version(model) {
+        return Err(SheetFault::UnknownModel);
     }
+    parts_in(&table, model)
 }

@@ -18,7 +18,7 @@ use crate::values::slots::slots_in;
 use crate::{Key, SheetFault};
 use arrayvec::ArrayVec;
 use kd_state::{PerSlot, SheetDay, SheetWheel};
-use kd_tables::{Letter, Model, Wheel};
+use kd_tables::{Family, Letter, Model, Wheel};
 use toml::{Table, Value};
 
 /// Reads a ring for each slot of `model`, from a text of capital letters or from an array of numbers.
@@ -123,8 +123,8 @@ pub fn day_in(table: &Table, number: u8, model: Model) -> Result<SheetDay, Sheet
     requires { IsDayNumber number }
     ensures { result ≡ day_in number model (table_view table.now) }
 {
-    match model {
-        Model::M209 => pin_day_in(table, number),
-        Model::EnigmaI | Model::M3 | Model::M4 => rotor_day_in(table, number, model),
+    match model.family() {
+        Family::Rotor => rotor_day_in(table, number, model),
+        Family::Pin => pin_day_in(table, number),
     }
 }

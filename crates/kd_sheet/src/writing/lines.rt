@@ -32,17 +32,6 @@ fn push_quoted(text: &mut FileString, value: &str)
     text.push_str("\"");
 }
 
-/// Appends the line of `key`. The value `value`, such as a digit, isn't in quotes.
-pub(crate) fn push_digit_line(text: &mut FileString, key: Key, value: &str)
-    requires { array_string_len text.old + length value.now + 13 ≤ 2048 }
-    ensures bytes { text.new.bytes ≡ text.old.bytes ++ key_line key value.now }
-    ensures len { array_string_len text.new ≤ array_string_len text.old + length value.now + 13 }
-{
-    push_key(text, key);
-    text.push_str(value);
-    text.push_str("\n");
-}
-
 /// Appends the line of `key` with the number `number`.
 pub fn push_number_line(text: &mut FileString, key: Key, number: u8)
     requires { array_string_len text.old + 16 ≤ 2048 }
