@@ -46,6 +46,32 @@ pub fn box_letters_in(table: &Table, key: Key, model: Model) -> Result<PerWheel<
     Ok(PerWheel::new(letters.as_slice()).unwrap())
 }
 
+/// Reads a machine file of version 1 or 2, or returns its first fault. The M4 needs version 2.
+///
+/// `NoMemory` may replace any other result: the contract doesn't say when memory runs out.
+pub fn read_machine(alloc: Global, bytes: &[u8]) -> Result<Machine, SheetFault>
+    ensures { AgreesOrNoMemory SheetFault.NoMemory (machine_of bytes.now) result }
+{
+    let table = parse_table(alloc, bytes)?;
+    let version = number_at(&table, Key::Version, LATEST_VERSION)?;
+    let model = model_in(&table)?;
+    if version < file_version(model) {
+        return Err(SheetFault::UnknownModel);
+    }
+    parts_in(&table, model)
+}
+
+/// Reads a machine of `model` from the file's table, or returns the first fault.
+#[tactic(auto, using(crate::proofs::ReadBack::Described::rotor_parts_legal, crate::proofs::ReadBack::Described::pin_parts_legal), unfolding(crate::specs::MachineFile::parts_in))]
+fn parts_in(table: &Table, model: Model) -> Result<Machine, SheetFault>
+    ensures { result ≡ parts_in model (table_view table.now) }
+{
+    match model.family() {
+        Family::Rotor => Ok(Machine::rotor(rotor_parts_in(table, model)?).unwrap()),
+        Family::Pin => Ok(Machine::pin(pin_parts_in(table)?).unwrap()),
+    }
+}
+
 /// Reads the parts of a rotor machine, key by key, or returns the first fault.
 #[tactic(auto, unfolding(crate::specs::MachineFile::rotor_parts_in))]
 fn rotor_parts_in(table: &Table, model: Model) -> Result<RotorParts, SheetFault>
@@ -72,30 +98,4 @@ fn pin_parts_in(table: &Table) -> Result<PinParts, SheetFault>
         pins: pins_in(table)?,
         bars: bars_in(table)?,
     })
-}
-
-/// Reads a machine of `model` from the file's table, or returns the first fault.
-#[tactic(auto, using(crate::proofs::ReadBack::Described::rotor_parts_legal, crate::proofs::ReadBack::Described::pin_parts_legal), unfolding(crate::specs::MachineFile::parts_in))]
-fn parts_in(table: &Table, model: Model) -> Result<Machine, SheetFault>
-    ensures { result ≡ parts_in model (table_view table.now) }
-{
-    match model.family() {
-        Family::Rotor => Ok(Machine::rotor(rotor_parts_in(table, model)?).unwrap()),
-        Family::Pin => Ok(Machine::pin(pin_parts_in(table)?).unwrap()),
-    }
-}
-
-/// Reads a machine file of version 1 or 2, or returns its first fault. The M4 needs version 2.
-///
-/// `NoMemory` may replace any other result: the contract doesn't say when memory runs out.
-pub fn read_machine(alloc: Global, bytes: &[u8]) -> Result<Machine, SheetFault>
-    ensures { AgreesOrNoMemory SheetFault.NoMemory (machine_of bytes.now) result }
-{
-    let table = parse_table(alloc, bytes)?;
-    let version = number_at(&table, Key::Version, LATEST_VERSION)?;
-    let model = model_in(&table)?;
-    if version < file_version(model) {
-        return Err(SheetFault::UnknownModel);
-    }
-    parts_in(&table, model)
 }

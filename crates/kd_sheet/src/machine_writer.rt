@@ -12,16 +12,21 @@ use crate::writing::lines::{FileString, push_list_line, push_number_line, push_t
 use kd_state::{Machine, Parts, PinParts, RotorParts};
 use kd_tables::{Device, Model, Sink, put_all};
 
-/// Writes the first two lines of a machine file: the version and the model.
-#[tactic(auto, using(crate::proofs::ReadBack::Described::KeyValues::version_has_one_digit))]
-fn head_text(model: Model) -> FileString
-    ensures bytes { result.bytes ≡ concat (head_file_lines model) }
-    ensures len { array_string_len result ≤ 40 }
+/// Writes the file of `machine`: in version 2 for the M4, otherwise in version 1.
+///
+/// If the call returns `Device`, the sink has taken a prefix of the text. `read_machine` reads the whole text as
+/// `machine`.
+#[tactic(auto, using(crate::proofs::ReadBack::parts_are_read_back))]
+pub fn write_machine<W: Sink>(sink: &mut W, machine: &Machine) -> Result<(), Device>
+    ensures text { Writes (W.taken sink.old) (W.taken sink.new) (machine_text machine.now) result }
+    ensures failed { W.has_failed sink.new ≡ (W.has_failed sink.old || is_err result) }
+    ensures file { machine_of (machine_text machine.now) ≡ Ok machine.now }
 {
-    let mut text = FileString::new();
-    push_number_line(&mut text, Key::Version, file_version(model));
-    push_text_line(&mut text, Key::Model, model.text().as_str());
-    text
+    let text = match machine.parts() {
+        Parts::Rotor(parts) => rotor_machine_text(parts),
+        Parts::Pin(parts) => pin_machine_text(parts),
+    };
+    put_all(sink, text.as_str().as_bytes())
 }
 
 /// Writes the file of a rotor machine.
@@ -52,19 +57,14 @@ fn pin_machine_text(parts: &PinParts) -> FileString
     text
 }
 
-/// Writes the file of `machine`: in version 2 for the M4, otherwise in version 1.
-///
-/// If the call returns `Device`, the sink has taken a prefix of the text. `read_machine` reads the whole text as
-/// `machine`.
-#[tactic(auto, using(crate::proofs::ReadBack::parts_are_read_back))]
-pub fn write_machine<W: Sink>(sink: &mut W, machine: &Machine) -> Result<(), Device>
-    ensures text { Writes (W.taken sink.old) (W.taken sink.new) (machine_text machine.now) result }
-    ensures failed { W.has_failed sink.new ≡ (W.has_failed sink.old || is_err result) }
-    ensures file { machine_of (machine_text machine.now) ≡ Ok machine.now }
+/// Writes the first two lines of a machine file: the version and the model.
+#[tactic(auto, using(crate::proofs::ReadBack::Described::KeyValues::version_has_one_digit))]
+fn head_text(model: Model) -> FileString
+    ensures bytes { result.bytes ≡ concat (head_file_lines model) }
+    ensures len { array_string_len result ≤ 40 }
 {
-    let text = match machine.parts() {
-        Parts::Rotor(parts) => rotor_machine_text(parts),
-        Parts::Pin(parts) => pin_machine_text(parts),
-    };
-    put_all(sink, text.as_str().as_bytes())
+    let mut text = FileString::new();
+    push_number_line(&mut text, Key::Version, file_version(model));
+    push_text_line(&mut text, Key::Model, model.text().as_str());
+    text
 }
