@@ -1,5 +1,5 @@
 //! Refuses models, reflectors and wheels that the desk doesn't know, or that don't fit together.
-ghost use Rattle.std.specs.Prelude.{◌≡◌, IfErr, IsErr, None};
+ghost use Rattle.std.specs.Prelude.{◌≡◌, ◌≤◌, length, IfErr, IsErr, None};
 ghost use Rattle.kd_sheet.specs.declared.fault.SheetFault.TheVariants.{BadValue, UnknownModel, WheelNotAllowed};
 ghost use Rattle.kd_sheet.specs.declared.fault.SheetFault.TheVariants.{WheelTwice};
 ghost use Rattle.kd_slips.specs.Items.{HasFault};
@@ -15,7 +15,8 @@ use toml::{Table, Value};
 
 /// The model's name, with an article before it.
 pub fn model_name(model: Model) -> &'static str
-    ensures { result.now ≡ model_with_article model }
+    ensures value { result.now ≡ model_with_article model }
+    ensures len { length result.now ≤ 17 }
 {
     match model {
         Model::EnigmaI => "an Enigma I",
@@ -26,7 +27,9 @@ pub fn model_name(model: Model) -> &'static str
 }
 
 /// The wheels in the model's box, in words.
-fn box_words(model: Model) -> &'static str {
+pub fn box_words(model: Model) -> &'static str
+    ensures { length result.now ≤ 25 }
+{
     match model {
         Model::EnigmaI => "I to V",
         Model::M3 => "I to VIII",
@@ -39,8 +42,8 @@ fn box_words(model: Model) -> &'static str {
 fn slot_words(model: Model, slot: u8) -> &'static str {
     match model {
         Model::M4 if slot == 1 => "Beta or Gamma",
-        Model::M4 => "I to VIII",
-        _ => box_words(model),
+        Model::M4 => box_words(Model::M3),
+        Model::EnigmaI | Model::M3 | Model::M209 => box_words(model),
     }
 }
 
@@ -67,7 +70,7 @@ fn refuse_case<T>(alloc: Global, fault: SheetFault, name: &str, right: &str) -> 
 
 /// The model with this name. Capital and small letters count as equal.
 fn near_model(name: &str) -> Option<Model> {
-    for model in [Model::EnigmaI, Model::M3, Model::M4, Model::M209] {
+    for model in Model::ALL {
         if model.text().as_str().eq_ignore_ascii_case(name) {
             return Some(model);
         }

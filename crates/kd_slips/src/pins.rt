@@ -10,13 +10,10 @@ use crate::letters::{check_capitals, check_on_wheel};
 use crate::slip::{Slip, refuse, refuse_item};
 use crate::values::{check_count, item_text, items_at, shown};
 use kd_sheet::by_key::{bars_in, find_at, rows_in};
-use kd_sheet::{Key, SheetFault, pins_of_text};
+use kd_sheet::{BARS, Key, SheetFault, pins_of_text};
 use kd_tables::{Letter, ring1, ring2, ring3, ring4, ring5, ring6};
 use std::alloc::Global;
 use toml::{Table, Value};
-
-/// The number of bars of the drum.
-const BARS: usize = 27;
 
 /// Adds the item's number to the slip in `checked`. If `checked` has no slip, makes a slip with general words, as the
 /// desk refuses the item in any case.
