@@ -15,7 +15,7 @@ use kd_sheet::by_key::{
     groups_in, letters_at, model_in, number_at, pairs_in, pins_in, reflector_in, rings_in, rows_in,
     shown_letters_in, slots_in, window_in,
 };
-use kd_sheet::{Key, SheetFault};
+use kd_sheet::{DAYS, Key, SheetFault};
 use kd_slips::cables::{check_groups, check_pairs};
 use kd_slips::letters::{check_letters, check_shown};
 use kd_slips::models::{check_reflector, check_wheels, model_at};
@@ -24,12 +24,9 @@ use kd_slips::pins::{check_pins, check_rows};
 use kd_slips::rings::check_rings;
 use kd_slips::slip::{Slip, refuse};
 use kd_slips::values::kind_of;
-use kd_tables::Model;
+use kd_tables::{Family, Model};
 use std::alloc::{AllocError, Global};
 use toml::{Table, Value};
-
-/// The number of days of the longest month.
-const DAYS: u8 = 31;
 
 /// The number of faults after which no later entry is judged.
 const MOST_FAULTS: usize = 300;
@@ -196,10 +193,10 @@ fn judge_model(
         (model_in (table_view table.now))) }
 {
     match model_in(table) {
-        Ok(Model::M209) => judge_converter(list, alloc, table, place),
-        Ok(model @ (Model::EnigmaI | Model::M3 | Model::M4)) => {
-            judge_rotors(list, alloc, table, place, model)
-        }
+        Ok(model) => match model.family() {
+            Family::Rotor => judge_rotors(list, alloc, table, place, model),
+            Family::Pin => judge_converter(list, alloc, table, place),
+        },
         Err(fault) => {
             let place = place.at(Key::Model);
             note(list, alloc, place, Some(fault), check_model(alloc, table))

@@ -6,15 +6,12 @@ ghost use Rattle.kd_findings.specs.Unread.{top_keys, unread_keys, unread_of};
 
 use crate::judging::{entries_of, is_machine_file};
 use crate::key_names::{is_known, meant_key};
-use kd_sheet::Key;
 use kd_sheet::by_key::{model_in, number_at};
+use kd_sheet::{DAYS, Key};
 use kd_slips::near_names::is_near;
-use kd_tables::Model;
+use kd_tables::{Family, Model};
 use std::alloc::{AllocError, Global};
 use toml::{Table, Value};
-
-/// The number of days of the longest month.
-const DAYS: u8 = 31;
 
 static ROTOR_FILE: [Key; 7] = [
     Key::Version,
@@ -153,8 +150,10 @@ fn file_keys(model: Option<Model>) -> &'static [Key]
     ensures { result.now ≡ file_keys model }
 {
     match model {
-        Some(Model::M209) => &PIN_FILE,
-        Some(Model::EnigmaI | Model::M3 | Model::M4) => &ROTOR_FILE,
+        Some(model) => match model.family() {
+            Family::Rotor => &ROTOR_FILE,
+            Family::Pin => &PIN_FILE,
+        },
         None => &ANY_FILE,
     }
 }
@@ -164,8 +163,10 @@ fn day_keys(model: Option<Model>) -> &'static [Key]
     ensures { result.now ≡ day_keys model }
 {
     match model {
-        Some(Model::M209) => &PIN_DAY,
-        Some(Model::EnigmaI | Model::M3 | Model::M4) => &ROTOR_DAY,
+        Some(model) => match model.family() {
+            Family::Rotor => &ROTOR_DAY,
+            Family::Pin => &PIN_DAY,
+        },
         None => &ANY_DAY,
     }
 }

@@ -14,7 +14,7 @@ use crate::unread::{Meant, Unread, unread_keys};
 use kd_sheet::Key;
 use kd_sheet::by_key::model_in;
 use kd_slips::values::shown;
-use kd_tables::Model;
+use kd_tables::Family;
 use std::alloc::{AllocError, Global};
 use toml::{Table, Value};
 
@@ -166,8 +166,11 @@ fn push_orders(lines: &mut String, name: &str, document: &Table) -> Result<(), A
         return Ok(());
     }
     match model_in(document) {
-        Ok(Model::EnigmaI | Model::M3 | Model::M4) => push_file_cables(lines, name, document),
-        Ok(Model::M209) | Err(_) => Ok(()),
+        Ok(model) => match model.family() {
+            Family::Rotor => push_file_cables(lines, name, document),
+            Family::Pin => Ok(()),
+        },
+        Err(_) => Ok(()),
     }
 }
 
