@@ -15,34 +15,16 @@ fn have_same_slot(one: &SheetDay, other: &SheetDay, slot: u8) -> bool {
         && one.window(slot) == other.window(slot)
 }
 
-fn have_same_pins(one: &SheetDay, other: &SheetDay) -> bool {
-    match (one.pins(), other.pins()) {
-        (Some(pins), Some(others)) => pins.has_same_pins(&others),
-        (None, None) => true,
-        _ => false,
-    }
-}
-
-/// Whether both days have the same pairs and groups or, on a Converter, the same rows and list letters.
-fn have_same_lists(one: &SheetDay, other: &SheetDay) -> bool {
-    one.pairs() == other.pairs()
-        && one.groups() == other.groups()
-        && one.rows() == other.rows()
-        && one.list() == other.list()
-}
-
 /// Whether the days differ only in their numbers.
 fn are_alike(one: &SheetDay, other: &SheetDay) -> bool {
     one.model() == other.model()
         && one.reflector() == other.reflector()
-        && have_same_slot(one, other, 1)
-        && have_same_slot(one, other, 2)
-        && have_same_slot(one, other, 3)
-        && have_same_slot(one, other, 4)
-        && have_same_slot(one, other, 5)
-        && have_same_slot(one, other, 6)
-        && have_same_pins(one, other)
-        && have_same_lists(one, other)
+        && (1..=6).all(|slot| have_same_slot(one, other, slot))
+        && one.pairs() == other.pairs()
+        && one.groups() == other.groups()
+        && one.rows() == other.rows()
+        && one.pins() == other.pins()
+        && one.list() == other.list()
 }
 
 /// Finds the first earlier day that differs from the day `number` only in its number.

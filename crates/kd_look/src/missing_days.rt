@@ -6,7 +6,6 @@ ghost use Rattle.kd_look.specs.MissingDays.{machine_model, missing_lines, missin
 ghost use Rattle.kd_look.specs.MissingDays.{no_day_end, no_day_start, no_day_words, known_of, serves};
 
 use crate::file::File;
-use crate::sheet_words::has_model;
 use kd_slips::model_name;
 use kd_tables::Model;
 use std::alloc::{AllocError, Global};
@@ -33,7 +32,7 @@ fn serves(model: Model, file: &ReadFile<'_>) -> bool
     ensures { result ≡ serves model (known_of file.now) }
 {
     match &file.file {
-        Some(File::Sheet(sheet)) => has_model(sheet, model),
+        Some(File::Sheet(sheet)) => sheet.has_days_of(model),
         Some(File::Machine(_)) | None => false,
     }
 }

@@ -1,8 +1,8 @@
 //! A key sheet in words: lines for the days of each model, and lines for the days without groups.
-ghost use Rattle.std.specs.Prelude.{codes, ◌≡◌, ◌<◌, ◌++◌, true, false, OnOk};
+ghost use Rattle.std.specs.Prelude.{codes, ◌≡◌, ◌<◌, ◌++◌, true, false, OnOk, flat_map};
 ghost use Rattle.std.specs.String.{string_bytes};
-ghost use Rattle.kd_look.specs.SheetWords.{is_of_sort, has_day, day_words, numbered_day_words, sort_words};
-ghost use Rattle.kd_look.specs.SheetWords.{has_model, model_words, sheet_words};
+ghost use Rattle.kd_look.specs.SheetWords.{lacks_groups, has_day, day_words, numbered_day_words, sort_words};
+ghost use Rattle.kd_look.specs.SheetWords.{model_words, sheet_words};
 
 use crate::texts::push_number;
 use kd_sheet::Sheet;
@@ -19,15 +19,13 @@ pub enum Sort {
     WithoutGroups,
 }
 
-fn is_of_sort(sort: Sort, day: &SheetDay) -> bool
-    ensures { result ≡ is_of_sort sort day.now }
+/// Whether `day` is a rotor machine's day without groups.
+fn lacks_groups(day: &SheetDay) -> bool
+    ensures { result ≡ lacks_groups day.now }
 {
-    match sort {
-        Sort::Of(model) => day.model() == model,
-        Sort::WithoutGroups => match day.groups() {
-            Some(groups) => groups.is_empty(),
-            None => false,
-        },
+    match day.groups() {
+        Some(groups) => groups.is_empty(),
+        None => false,
     }
 }
 
@@ -36,9 +34,12 @@ fn is_of_sort(sort: Sort, day: &SheetDay) -> bool
 fn has_day(sheet: &Sheet, sort: Sort, number: u8) -> bool
     ensures { result ≡ has_day sheet.now sort number }
 {
-    match sheet.day(number) {
-        Some(day) => is_of_sort(sort, day),
-        None => false,
+    match sort {
+        Sort::Of(model) => sheet.has_day_of(model, number),
+        Sort::WithoutGroups => match sheet.day(number) {
+            Some(day) => lacks_groups(day),
+            None => false,
+        },
     }
 }
 
@@ -109,21 +110,26 @@ fn push_model(text: &mut String, sheet: &Sheet, model: Model) -> Result<(), Allo
     push_sort(text, sheet, model.text().as_str(), Sort::Of(model))
 }
 
+/// Appends the lines for the days of each of `models`.
+#[tactic(auto, using(std::proofs::Common::append_assoc))]
+fn push_models(text: &mut String, sheet: &Sheet, models: &[Model]) -> Result<(), AllocError>
+    ensures { OnOk result (string_bytes text.new
+        ≡ string_bytes text.old ++ flat_map (model_words sheet.now) models.now) }
+{
+    match models {
+        [model, rest @ ..] => {
+            push_model(text, sheet, *model)?;
+            push_models(text, sheet, rest)
+        }
+        [] => Ok(()),
+    }
+}
+
 /// Appends the lines for the days of each model, and for the days without groups.
 #[tactic(auto, using(std::proofs::Common::append_assoc), unfolding(crate::specs::SheetWords::sheet_words))]
 pub fn push_sheet(text: &mut String, sheet: &Sheet) -> Result<(), AllocError>
     ensures { OnOk result (string_bytes text.new ≡ string_bytes text.old ++ sheet_words sheet.now) }
 {
-    push_model(text, sheet, Model::EnigmaI)?;
-    push_model(text, sheet, Model::M3)?;
-    push_model(text, sheet, Model::M4)?;
-    push_model(text, sheet, Model::M209)?;
+    push_models(text, sheet, &Model::ALL)?;
     push_sort(text, sheet, "without groups", Sort::WithoutGroups)
-}
-
-/// Whether `sheet` has a day for `model`.
-pub fn has_model(sheet: &Sheet, model: Model) -> bool
-    ensures { result ≡ has_model sheet.now model }
-{
-    (1..32).any(|number| has_day(sheet, Sort::Of(model), number))
 }
