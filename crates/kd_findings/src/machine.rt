@@ -26,13 +26,41 @@ use kd_tables::{Family, Model};
 use std::alloc::{AllocError, Global};
 use toml::Table;
 
-/// Whether machine files of this version can have `model`. Without a version, `model` may be any model.
-fn has_model(version: Option<u8>, model: Model) -> bool
-    ensures { result ≡ option_map_or (nat_le (file_version model)) version true }
+/// Finds the faults of a machine file.
+#[tactic(auto, using(std::proofs::Common::append_assoc), unfolding(crate::specs::Faults::machine_faults))]
+pub fn machine_faults(alloc: Global, table: &Table) -> Result<Vec<Finding>, AllocError>
+    ensures { IfOk result (λ list. faults_of list.items ≡ machine_faults (table_view table.now)) }
 {
-    match version {
-        Some(version) => file_version(model) <= version,
-        None => true,
+    let mut list = Vec::new(alloc);
+    let version = number_at(table, Key::Version, LATEST_VERSION).err();
+    let checked = check_number(alloc, table, Key::Version, LATEST_VERSION);
+    note(
+        &mut list,
+        alloc,
+        Place::in_file(Key::Version),
+        version,
+        checked,
+    )?;
+    judge_model(&mut list, alloc, table)?;
+    Ok(list)
+}
+
+/// Appends the fault of a machine file's model. If the model can be read, appends the faults at the keys that this
+/// model needs.
+fn judge_model(list: &mut Vec<Finding>, alloc: Global, table: &Table) -> Result<(), AllocError>
+    ensures { OnOk result (faults_of list.new.items ≡ faults_of list.old.items
+        ++ after_model (in_file keys.Model) (model_file_faults (table_view table.now))
+        (file_model (table_view table.now))) }
+{
+    match file_model(table) {
+        Ok(model) => match model.family() {
+            Family::Rotor => judge_rotors(list, alloc, table, model),
+            Family::Pin => judge_converter(list, alloc, table),
+        },
+        Err(fault) => {
+            let place = Place::in_file(Key::Model);
+            note(list, alloc, place, Some(fault), check_model(alloc, table))
+        }
     }
 }
 
@@ -48,30 +76,14 @@ fn file_model(table: &Table) -> Result<Model, SheetFault>
     Ok(model)
 }
 
-/// Explains the refusal of a machine file's model.
-fn check_model(alloc: Global, table: &Table) -> Result<(), Slip> {
-    model_at(alloc, table)?;
-    refuse(
-        SheetFault::UnknownModel,
-        format!(in alloc; "the machine file of an M4 needs `version = 2`"),
-    )
-}
-
-/// Appends the fault at `key`, if there is one. The key's value needs a letter for each wheel of the box.
-fn judge_box_letters(
-    list: &mut Vec<Finding>,
-    alloc: Global,
-    table: &Table,
-    key: Key,
-    model: Model,
-) -> Result<(), AllocError>
-    requires { 0 < slots_of model }
-    ensures { OnOk result (faults_of list.new.items ≡ faults_of list.old.items
-        ++ fault_at (in_file key) (letters_at key (length (box_of model)) (table_view table.now))) }
+/// Whether machine files of this version can have `model`. Without a version, `model` may be any model.
+fn has_model(version: Option<u8>, model: Model) -> bool
+    ensures { result ≡ option_map_or (nat_le (file_version model)) version true }
 {
-    let fault = box_letters_in(table, key, model).err();
-    let checked = check_box_letters(alloc, table, key, model);
-    note(list, alloc, Place::in_file(key), fault, checked)
+    match version {
+        Some(version) => file_version(model) <= version,
+        None => true,
+    }
 }
 
 /// Appends the faults at the keys of a rotor machine's file, except `version` and `model`.
@@ -104,6 +116,23 @@ fn judge_rotors(
     note(list, alloc, Place::in_file(Key::Cables), cables, checked)
 }
 
+/// Appends the fault at `key`, if there is one. The key's value needs a letter for each wheel of the box.
+fn judge_box_letters(
+    list: &mut Vec<Finding>,
+    alloc: Global,
+    table: &Table,
+    key: Key,
+    model: Model,
+) -> Result<(), AllocError>
+    requires { 0 < slots_of model }
+    ensures { OnOk result (faults_of list.new.items ≡ faults_of list.old.items
+        ++ fault_at (in_file key) (letters_at key (length (box_of model)) (table_view table.now))) }
+{
+    let fault = box_letters_in(table, key, model).err();
+    let checked = check_box_letters(alloc, table, key, model);
+    note(list, alloc, Place::in_file(key), fault, checked)
+}
+
 /// Appends the faults at the keys of a Converter's file, except `version` and `model`.
 #[tactic(auto, using(std::proofs::Common::append_assoc), unfolding(crate::specs::Faults::pin_file_faults))]
 fn judge_converter(list: &mut Vec<Finding>, alloc: Global, table: &Table) -> Result<(), AllocError>
@@ -131,40 +160,11 @@ fn judge_converter(list: &mut Vec<Finding>, alloc: Global, table: &Table) -> Res
     )
 }
 
-/// Appends the fault of a machine file's model. If the model can be read, appends the faults at the keys that this
-/// model needs.
-fn judge_model(list: &mut Vec<Finding>, alloc: Global, table: &Table) -> Result<(), AllocError>
-    ensures { OnOk result (faults_of list.new.items ≡ faults_of list.old.items
-        ++ after_model (in_file keys.Model) (model_file_faults (table_view table.now))
-        (file_model (table_view table.now))) }
-{
-    match file_model(table) {
-        Ok(model) => match model.family() {
-            Family::Rotor => judge_rotors(list, alloc, table, model),
-            Family::Pin => judge_converter(list, alloc, table),
-        },
-        Err(fault) => {
-            let place = Place::in_file(Key::Model);
-            note(list, alloc, place, Some(fault), check_model(alloc, table))
-        }
-    }
-}
-
-/// Finds the faults of a machine file.
-#[tactic(auto, using(std::proofs::Common::append_assoc), unfolding(crate::specs::Faults::machine_faults))]
-pub fn machine_faults(alloc: Global, table: &Table) -> Result<Vec<Finding>, AllocError>
-    ensures { IfOk result (λ list. faults_of list.items ≡ machine_faults (table_view table.now)) }
-{
-    let mut list = Vec::new(alloc);
-    let version = number_at(table, Key::Version, LATEST_VERSION).err();
-    let checked = check_number(alloc, table, Key::Version, LATEST_VERSION);
-    note(
-        &mut list,
-        alloc,
-        Place::in_file(Key::Version),
-        version,
-        checked,
-    )?;
-    judge_model(&mut list, alloc, table)?;
-    Ok(list)
+/// Explains the refusal of a machine file's model.
+fn check_model(alloc: Global, table: &Table) -> Result<(), Slip> {
+    model_at(alloc, table)?;
+    refuse(
+        SheetFault::UnknownModel,
+        format!(in alloc; "the machine file of an M4 needs `version = 2`"),
+    )
 }
