@@ -8,13 +8,12 @@ ghost use Rattle.kd_booklet.specs.Chain.{ArePlanned};
 ghost use Rattle.kd_curator.specs.MachineAndSheet.{IsAnswerOnSheet};
 ghost use Rattle.kd_curator.specs.Refusals.{is_device};
 ghost use Rattle.kd_curator.specs.RunPage.{IsDayRefusal, WritesPages, wanted_days};
-ghost use Rattle.kd_key_table.specs.Days.{has_day_of};
+ghost use Rattle.kd_sheet.specs.Sheet.{has_day_of};
 
 use crate::fault::{PageFault, Refused};
 use crate::machine_and_sheet::read_both;
 use kd_booklet::{DayPlans, plan_days, write_pages};
 use kd_curator_command::Days;
-use kd_key_table::has_day_of;
 use kd_page::Language;
 use kd_sheet::Sheet;
 use kd_state::Machine;
@@ -104,7 +103,7 @@ fn add_days_of(days: &mut Days, model: Model, sheet: &Sheet, number: u8)
         (range_with_len number (32 - number)) }
 {
     if number < 32 {
-        days.add_if(number, has_day_of(model, sheet, number));
+        days.add_if(number, sheet.has_day_of(model, number));
         add_days_of(days, model, sheet, number + 1);
     }
 }

@@ -6,9 +6,8 @@ use Rattle.std.specs.Prelude.{if◌then◌else◌}
 use Rattle.std.specs.Option.{option_map, option_map_or, option_to_list}
 use Rattle.std.specs.Result.{result_ok, result_err}
 use Rattle.toml.specs.Data.{Members}
-use Rattle.kd_tables.specs.Tables.{box_of}
+use Rattle.kd_tables.specs.Tables.{box_of, by_family, family_of}
 use Rattle.kd_tables.specs.declared.model.Model.{Model}
-use Rattle.kd_tables.specs.declared.model.Model.TheVariants.{M209}
 use Rattle.kd_sheet.specs.Bars.{bars_in}
 use Rattle.kd_sheet.specs.Cables.{cables_in}
 use Rattle.kd_sheet.specs.Document.{◌>>=◌, ◌>>◌, demand, read_at}
@@ -66,8 +65,7 @@ pin_file_faults table =
     ++ (fault_at (in_file keys.Pins) (pins_in table) ++ fault_at (in_file keys.Bars) (bars_in table))
 
 abbrev pub model_file_faults : Members → Model → List (Place × SheetFault)
-model_file_faults table M209 = pin_file_faults table
-model_file_faults table model = rotor_file_faults model table
+model_file_faults table model = by_family (rotor_file_faults model table) (pin_file_faults table) (family_of model)
 
 abbrev pub version_in : Members → Result ℕ SheetFault
 version_in table = read_at keys.Version (number_up_to 2) table

@@ -8,9 +8,8 @@ use Rattle.std.specs.List.{list_any}
 use Rattle.std.specs.Option.{option_and_then, option_map_or}
 use Rattle.std.specs.Result.{result_err, result_ok}
 use Rattle.toml.specs.Data.{Data, Members, as_table}
-use Rattle.kd_tables.specs.Tables.{slots_of}
+use Rattle.kd_tables.specs.Tables.{by_family, family_of, slots_of}
 use Rattle.kd_tables.specs.declared.model.Model.{Model}
-use Rattle.kd_tables.specs.declared.model.Model.TheVariants.{M209}
 use Rattle.kd_sheet.specs.Bars.{rows_in}
 use Rattle.kd_sheet.specs.Cables.{pairs_in}
 use Rattle.kd_sheet.specs.Document.{◌>>=◌, ◌>>◌, demand, read_at}
@@ -67,8 +66,8 @@ pin_day_faults place table =
     ++ fault_at (at_key place keys.List) (letters_at keys.List 2 table)))
 
 abbrev pub model_day_faults : Place → Members → Model → List (Place × SheetFault)
-model_day_faults place table M209 = pin_day_faults place table
-model_day_faults place table model = rotor_day_faults place model table
+model_day_faults place table model =
+    by_family (rotor_day_faults place model table) (pin_day_faults place table) (family_of model)
 
 -- the place of the key `day` in an entry; the first argument has all items of the array `day` before this entry
 abbrev pub day_place : List Data → Members → Place

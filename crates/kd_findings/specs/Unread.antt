@@ -6,8 +6,8 @@ use Rattle.std.specs.List.{filter, flat_map, list_any, range_with_len}
 use Rattle.std.specs.Option.{option_map_or}
 use Rattle.std.specs.Result.{result_ok}
 use Rattle.toml.specs.Data.{Data, Members, no_members, member, as_table}
+use Rattle.kd_tables.specs.Tables.{by_family, family_of}
 use Rattle.kd_tables.specs.declared.model.Model.{Model}
-use Rattle.kd_tables.specs.declared.model.Model.TheVariants.{M209}
 use Rattle.kd_state.specs.SameParts.{numbered_item}
 use Rattle.kd_sheet.specs.Key.{key_name}
 use Rattle.kd_sheet.specs.MachineFile.{model_in}
@@ -35,8 +35,7 @@ pin_file_keys = keys.Version ∷ keys.Model ∷ keys.Letters ∷ keys.Pins ∷ k
 
 -- the keys of a machine file of this model; if the model isn't known, the keys of all machine files
 abbrev pub file_keys : Option Model → List Key
-file_keys (Some M209) = pin_file_keys
-file_keys (Some model) = rotor_file_keys
+file_keys (Some model) = by_family rotor_file_keys pin_file_keys (family_of model)
 file_keys None = rotor_file_keys ++ pin_file_keys
 
 -- the keys of a rotor machine's day
@@ -50,8 +49,7 @@ pin_day_keys = keys.Day ∷ keys.Model ∷ keys.Rows ∷ keys.Pins ∷ keys.Wind
 
 -- the keys of an entry of this model; if the model isn't known, the keys of all entries
 abbrev pub day_keys : Option Model → List Key
-day_keys (Some M209) = pin_day_keys
-day_keys (Some model) = rotor_day_keys
+day_keys (Some model) = by_family rotor_day_keys pin_day_keys (family_of model)
 day_keys None = rotor_day_keys ++ pin_day_keys
 
 -- whether one of the keys has this name

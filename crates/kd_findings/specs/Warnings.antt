@@ -7,8 +7,8 @@ use Rattle.std.specs.List.{flat_map}
 use Rattle.std.specs.Option.{option_and_then, option_map_or}
 use Rattle.std.specs.Result.{result_ok}
 use Rattle.toml.specs.Data.{Data, Members, get_member, as_str}
+use Rattle.kd_tables.specs.Tables.{by_family, family_of}
 use Rattle.kd_tables.specs.declared.model.Model.{Model}
-use Rattle.kd_tables.specs.declared.model.Model.TheVariants.{M209}
 use Rattle.kd_sheet.specs.Document.{as_items}
 use Rattle.kd_sheet.specs.Key.{key_name}
 use Rattle.kd_sheet.specs.MachineFile.{model_in}
@@ -58,8 +58,7 @@ cable_lines name document = option_map_or (flat_map (cable_line name))
 
 -- the warnings about the cables of a machine of this model; a Converter has none
 abbrev pub model_lines : List ℕ → Members → Model → List ℕ
-model_lines name document M209 = []
-model_lines name document model = cable_lines name document
+model_lines name document model = by_family (cable_lines name document) [] (family_of model)
 
 -- The warnings about the cables of a document. Empty if the document isn't a machine file, or the file's model isn't
 -- known.

@@ -25,22 +25,20 @@ pub struct Explanation {
     pub words: String,
 }
 
-/// The words in `checked` that explain `fault`. If `checked` has a different fault or no fault, the words only say that
-/// the desk refuses the value.
-fn explain(
+/// Appends the fault of the value at `place`, if there is one. The words that explain the fault come from `checked`.
+pub fn note(
+    list: &mut Vec<Finding>,
     alloc: Global,
-    fault: SheetFault,
+    place: Place,
+    fault: Option<SheetFault>,
     checked: Result<(), Slip>,
-) -> Result<Explanation, AllocError>
-    ensures { IfOk result (λ explanation. explanation.item ≡ told_item fault checked) }
+) -> Result<(), AllocError>
+    ensures { OnOk result (faults_of list.new.items
+        ≡ faults_of list.old.items ++ at_place place fault) }
 {
-    match checked {
-        Err(Slip::Fault(found, item, words)) if found == fault => Ok(Explanation { item, words }),
-        Err(Slip::NoMemory) => Err(AllocError),
-        _ => Ok(Explanation {
-            item: None,
-            words: String::from_str(alloc, "the desk refuses the value")?,
-        }),
+    match fault {
+        Some(fault) => push_fault(list, alloc, place, fault, checked),
+        None => Ok(()),
     }
 }
 
@@ -64,19 +62,21 @@ fn push_fault(
     Ok(())
 }
 
-/// Appends the fault of the value at `place`, if there is one. The words that explain the fault come from `checked`.
-pub fn note(
-    list: &mut Vec<Finding>,
+/// The words in `checked` that explain `fault`. If `checked` has a different fault or no fault, the words only say that
+/// the desk refuses the value.
+fn explain(
     alloc: Global,
-    place: Place,
-    fault: Option<SheetFault>,
+    fault: SheetFault,
     checked: Result<(), Slip>,
-) -> Result<(), AllocError>
-    ensures { OnOk result (faults_of list.new.items
-        ≡ faults_of list.old.items ++ at_place place fault) }
+) -> Result<Explanation, AllocError>
+    ensures { IfOk result (λ explanation. explanation.item ≡ told_item fault checked) }
 {
-    match fault {
-        Some(fault) => push_fault(list, alloc, place, fault, checked),
-        None => Ok(()),
+    match checked {
+        Err(Slip::Fault(found, item, words)) if found == fault => Ok(Explanation { item, words }),
+        Err(Slip::NoMemory) => Err(AllocError),
+        _ => Ok(Explanation {
+            item: None,
+            words: String::from_str(alloc, "the desk refuses the value")?,
+        }),
     }
 }

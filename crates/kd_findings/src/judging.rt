@@ -49,6 +49,43 @@ pub fn is_machine_file(document: &Table) -> bool
             || (find_at(document, Key::Model).is_some() && find_at(document, Key::Day).is_none()))
 }
 
+/// Finds the faults of a document.
+pub fn find_faults(alloc: Global, document: &Table) -> Result<Vec<Finding>, AllocError>
+    ensures faults { IfOk result (λ list. AreFaults (table_view document.now) (faults_of list.items)) }
+    ensures first { (bytes : List ℕ) → document_of bytes ≡ Ok (table_view document.now)
+        → IfOk result (λ list.
+        first_fault (faults_of list.items) ≡ file_fault bytes (table_view document.now)) }
+{
+    if is_machine_file(document) {
+        machine_faults(alloc, document)
+    } else {
+        find_sheet_faults(alloc, document)
+    }
+}
+
+/// Finds the faults of a document that isn't a machine file.
+fn find_sheet_faults(alloc: Global, document: &Table) -> Result<Vec<Finding>, AllocError>
+    ensures { IfOk result (λ list. AreFaultsOf false (entries_of (table_view document.now))
+        (table_view document.now) (faults_of list.items)) }
+{
+    match entries_of(document) {
+        Some(items) => sheet_faults(alloc, items),
+        None => find_day_fault(alloc, document),
+    }
+}
+
+/// Finds the fault of a document that isn't a machine file, and has no array `day`.
+fn find_day_fault(alloc: Global, document: &Table) -> Result<Vec<Finding>, AllocError>
+    ensures { IfOk result (λ list. faults_of list.items
+        ≡ (in_file keys.Day, day_fault (table_view document.now)) ∷ []) }
+{
+    let mut list = Vec::new(alloc);
+    let place = Place::in_file(Key::Day);
+    let fault = Some(day_fault(document));
+    note(&mut list, alloc, place, fault, check_day(alloc, document))?;
+    Ok(list)
+}
+
 /// The fault of a document that isn't a machine file, and has no array `day`.
 fn day_fault(document: &Table) -> SheetFault
     ensures { result ≡ day_fault (table_view document.now) }
@@ -76,42 +113,5 @@ fn check_day(alloc: Global, document: &Table) -> Result<(), Slip> {
                 "it can't be told whether this is a key sheet or a machine file: a key sheet has `[[day]]` above the lines of each day, a machine file has `version` and `model`",
             ),
         ),
-    }
-}
-
-/// Finds the fault of a document that isn't a machine file, and has no array `day`.
-fn find_day_fault(alloc: Global, document: &Table) -> Result<Vec<Finding>, AllocError>
-    ensures { IfOk result (λ list. faults_of list.items
-        ≡ (in_file keys.Day, day_fault (table_view document.now)) ∷ []) }
-{
-    let mut list = Vec::new(alloc);
-    let place = Place::in_file(Key::Day);
-    let fault = Some(day_fault(document));
-    note(&mut list, alloc, place, fault, check_day(alloc, document))?;
-    Ok(list)
-}
-
-/// Finds the faults of a document that isn't a machine file.
-fn find_sheet_faults(alloc: Global, document: &Table) -> Result<Vec<Finding>, AllocError>
-    ensures { IfOk result (λ list. AreFaultsOf false (entries_of (table_view document.now))
-        (table_view document.now) (faults_of list.items)) }
-{
-    match entries_of(document) {
-        Some(items) => sheet_faults(alloc, items),
-        None => find_day_fault(alloc, document),
-    }
-}
-
-/// Finds the faults of a document.
-pub fn find_faults(alloc: Global, document: &Table) -> Result<Vec<Finding>, AllocError>
-    ensures faults { IfOk result (λ list. AreFaults (table_view document.now) (faults_of list.items)) }
-    ensures first { (bytes : List ℕ) → document_of bytes ≡ Ok (table_view document.now)
-        → IfOk result (λ list.
-        first_fault (faults_of list.items) ≡ file_fault bytes (table_view document.now)) }
-{
-    if is_machine_file(document) {
-        machine_faults(alloc, document)
-    } else {
-        find_sheet_faults(alloc, document)
     }
 }

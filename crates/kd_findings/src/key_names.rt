@@ -29,16 +29,6 @@ pub fn is_known(keys: &[Key], name: &str) -> bool
     keys.iter().any(|key| key.name() == name)
 }
 
-/// The key in `keys` for which the table `OTHER_NAMES` has the name `name`.
-fn named_elsewhere(keys: &[Key], name: &str) -> Option<Key> {
-    for (other, key) in &OTHER_NAMES {
-        if *other == name && keys.contains(key) {
-            return Some(*key);
-        }
-    }
-    None
-}
-
 /// The key in `keys` that `name` may mean. If no key has nearly this name, the table `OTHER_NAMES` decides.
 pub fn meant_key(keys: &[Key], name: &str) -> Option<Key> {
     match keys
@@ -49,4 +39,14 @@ pub fn meant_key(keys: &[Key], name: &str) -> Option<Key> {
         Some(key) => Some(key),
         None => named_elsewhere(keys, name),
     }
+}
+
+/// The key in `keys` for which the table `OTHER_NAMES` has the name `name`.
+fn named_elsewhere(keys: &[Key], name: &str) -> Option<Key> {
+    for (other, key) in &OTHER_NAMES {
+        if *other == name && keys.contains(key) {
+            return Some(*key);
+        }
+    }
+    None
 }

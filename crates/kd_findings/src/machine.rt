@@ -15,28 +15,65 @@ use kd_sheet::by_key::{
     bars_in, box_letters_in, cables_in, model_in, number_at, pins_in, reflector_in,
     shown_letters_in, slots_in,
 };
-use kd_sheet::{Key, SheetFault};
+use kd_sheet::{Key, LATEST_VERSION, SheetFault, file_version};
 use kd_slips::cables::check_machine_cables;
-use kd_slips::letters::{check_letters, check_shown};
+use kd_slips::letters::{check_box_letters, check_shown};
 use kd_slips::models::{check_reflector, check_wheels, model_at};
 use kd_slips::numbers::check_number;
 use kd_slips::pins::{check_bars, check_pins};
 use kd_slips::slip::{Slip, refuse};
-use kd_tables::Model;
+use kd_tables::{Family, Model};
 use std::alloc::{AllocError, Global};
 use toml::Table;
 
-/// The latest version of machine files.
-const VERSION: u8 = 2;
-
-/// The first version of machine files that has `model`.
-fn file_version(model: Model) -> u8
-    ensures { result ≡ file_version model }
+/// Finds the faults of a machine file.
+#[tactic(auto, using(std::proofs::Common::append_assoc), unfolding(crate::specs::Faults::machine_faults))]
+pub fn machine_faults(alloc: Global, table: &Table) -> Result<Vec<Finding>, AllocError>
+    ensures { IfOk result (λ list. faults_of list.items ≡ machine_faults (table_view table.now)) }
 {
-    match model {
-        Model::M4 => 2,
-        _ => 1,
+    let mut list = Vec::new(alloc);
+    let version = number_at(table, Key::Version, LATEST_VERSION).err();
+    let checked = check_number(alloc, table, Key::Version, LATEST_VERSION);
+    note(
+        &mut list,
+        alloc,
+        Place::in_file(Key::Version),
+        version,
+        checked,
+    )?;
+    judge_model(&mut list, alloc, table)?;
+    Ok(list)
+}
+
+/// Appends the fault of a machine file's model. If the model can be read, appends the faults at the keys that this
+/// model needs.
+fn judge_model(list: &mut Vec<Finding>, alloc: Global, table: &Table) -> Result<(), AllocError>
+    ensures { OnOk result (faults_of list.new.items ≡ faults_of list.old.items
+        ++ after_model (in_file keys.Model) (model_file_faults (table_view table.now))
+        (file_model (table_view table.now))) }
+{
+    match file_model(table) {
+        Ok(model) => match model.family() {
+            Family::Rotor => judge_rotors(list, alloc, table, model),
+            Family::Pin => judge_converter(list, alloc, table),
+        },
+        Err(fault) => {
+            let place = Place::in_file(Key::Model);
+            note(list, alloc, place, Some(fault), check_model(alloc, table))
+        }
     }
+}
+
+/// The model of a machine file, or the fault of the key `model`.
+#[tactic(auto, unfolding(crate::specs::Faults::file_model))]
+fn file_model(table: &Table) -> Result<Model, SheetFault>
+    ensures { result ≡ file_model (table_view table.now) }
+{
+    let model = model_in(table)?;
+    if !has_model(number_at(table, Key::Version, LATEST_VERSION).ok(), model) {
+        return Err(SheetFault::UnknownModel);
+    }
+    Ok(model)
 }
 
 /// Whether machine files of this version can have `model`. Without a version, `model` may be any model.
@@ -47,55 +84,6 @@ fn has_model(version: Option<u8>, model: Model) -> bool
         Some(version) => file_version(model) <= version,
         None => true,
     }
-}
-
-/// The model of a machine file, or the fault of the key `model`.
-#[tactic(auto, unfolding(crate::specs::Faults::file_model))]
-fn file_model(table: &Table) -> Result<Model, SheetFault>
-    ensures { result ≡ file_model (table_view table.now) }
-{
-    let model = model_in(table)?;
-    if !has_model(number_at(table, Key::Version, VERSION).ok(), model) {
-        return Err(SheetFault::UnknownModel);
-    }
-    Ok(model)
-}
-
-/// Explains the refusal of a machine file's model.
-fn check_model(alloc: Global, table: &Table) -> Result<(), Slip> {
-    model_at(alloc, table)?;
-    refuse(
-        SheetFault::UnknownModel,
-        format!(in alloc; "the machine file of an M4 needs `version = 2`"),
-    )
-}
-
-/// The words that say which wheels of the box need letters in a machine file.
-fn each_wheel(model: Model) -> &'static str {
-    match model {
-        Model::EnigmaI => ", one for each of the wheels I to V",
-        Model::M3 => ", one for each of the wheels I to VIII",
-        Model::M4 => ", one for each of the wheels I to VIII, Beta and Gamma",
-        Model::M209 => "",
-    }
-}
-
-/// Appends the fault at `key`, if there is one. The key's value needs a letter for each wheel of the box.
-fn judge_box_letters(
-    list: &mut Vec<Finding>,
-    alloc: Global,
-    table: &Table,
-    key: Key,
-    model: Model,
-) -> Result<(), AllocError>
-    requires { 0 < slots_of model }
-    ensures { OnOk result (faults_of list.new.items ≡ faults_of list.old.items
-        ++ fault_at (in_file key) (letters_at key (length (box_of model)) (table_view table.now))) }
-{
-    let fault = box_letters_in(table, key, model).err();
-    let wheels = model.wheels().len();
-    let checked = check_letters(alloc, table, key, wheels, each_wheel(model));
-    note(list, alloc, Place::in_file(key), fault, checked)
 }
 
 /// Appends the faults at the keys of a rotor machine's file, except `version` and `model`.
@@ -128,6 +116,23 @@ fn judge_rotors(
     note(list, alloc, Place::in_file(Key::Cables), cables, checked)
 }
 
+/// Appends the fault at `key`, if there is one. The key's value needs a letter for each wheel of the box.
+fn judge_box_letters(
+    list: &mut Vec<Finding>,
+    alloc: Global,
+    table: &Table,
+    key: Key,
+    model: Model,
+) -> Result<(), AllocError>
+    requires { 0 < slots_of model }
+    ensures { OnOk result (faults_of list.new.items ≡ faults_of list.old.items
+        ++ fault_at (in_file key) (letters_at key (length (box_of model)) (table_view table.now))) }
+{
+    let fault = box_letters_in(table, key, model).err();
+    let checked = check_box_letters(alloc, table, key, model);
+    note(list, alloc, Place::in_file(key), fault, checked)
+}
+
 /// Appends the faults at the keys of a Converter's file, except `version` and `model`.
 #[tactic(auto, using(std::proofs::Common::append_assoc), unfolding(crate::specs::Faults::pin_file_faults))]
 fn judge_converter(list: &mut Vec<Finding>, alloc: Global, table: &Table) -> Result<(), AllocError>
@@ -155,40 +160,11 @@ fn judge_converter(list: &mut Vec<Finding>, alloc: Global, table: &Table) -> Res
     )
 }
 
-/// Appends the fault of a machine file's model. If the model can be read, appends the faults at the keys that this
-/// model needs.
-fn judge_model(list: &mut Vec<Finding>, alloc: Global, table: &Table) -> Result<(), AllocError>
-    ensures { OnOk result (faults_of list.new.items ≡ faults_of list.old.items
-        ++ after_model (in_file keys.Model) (model_file_faults (table_view table.now))
-        (file_model (table_view table.now))) }
-{
-    match file_model(table) {
-        Ok(Model::M209) => judge_converter(list, alloc, table),
-        Ok(model @ (Model::EnigmaI | Model::M3 | Model::M4)) => {
-            judge_rotors(list, alloc, table, model)
-        }
-        Err(fault) => {
-            let place = Place::in_file(Key::Model);
-            note(list, alloc, place, Some(fault), check_model(alloc, table))
-        }
-    }
-}
-
-/// Finds the faults of a machine file.
-#[tactic(auto, using(std::proofs::Common::append_assoc), unfolding(crate::specs::Faults::machine_faults))]
-pub fn machine_faults(alloc: Global, table: &Table) -> Result<Vec<Finding>, AllocError>
-    ensures { IfOk result (λ list. faults_of list.items ≡ machine_faults (table_view table.now)) }
-{
-    let mut list = Vec::new(alloc);
-    let version = number_at(table, Key::Version, VERSION).err();
-    let checked = check_number(alloc, table, Key::Version, VERSION);
-    note(
-        &mut list,
-        alloc,
-        Place::in_file(Key::Version),
-        version,
-        checked,
-    )?;
-    judge_model(&mut list, alloc, table)?;
-    Ok(list)
+/// Explains the refusal of a machine file's model.
+fn check_model(alloc: Global, table: &Table) -> Result<(), Slip> {
+    model_at(alloc, table)?;
+    refuse(
+        SheetFault::UnknownModel,
+        format!(in alloc; "the machine file of an M4 needs `version = 2`"),
+    )
 }

@@ -18,11 +18,28 @@ struct TextPlace {
     column: usize,
 }
 
-/// Whether a character begins with `byte`, in UTF-8.
-fn begins_character(byte: u8) -> bool
-    ensures { result ≡ begins_character byte }
+/// The words for the place at which `bytes` stop being TOML: its line, its column, and what is wrong there.
+pub fn toml_words(alloc: Global, bytes: &[u8]) -> Result<String, AllocError>
+    requires { result_ok (document_of bytes.now) ≡ None }
+    ensures { IfOk result (λ words. SaysNotToml bytes.now (string_bytes words)) }
 {
-    byte < 128 || 191 < byte
+    match toml::table_from_slice(alloc, bytes) {
+        Ok(_) => Err(AllocError),
+        Err(error) => words_at(alloc, bytes, &error),
+    }
+}
+
+/// The words for the place of the parser's fault: its line, its column, and what is wrong there.
+fn words_at(alloc: Global, bytes: &[u8], error: &Error) -> Result<String, AllocError>
+    requires { IsWithin bytes.now error.now }
+    ensures { IfOk result (λ words. NamesPlace bytes.now (span_start error.now) (string_bytes words)) }
+{
+    let Some(span) = error.span() else {
+        return Err(AllocError);
+    };
+    let place = place_after(&bytes[..span.start]);
+    let reason = reason_for(alloc, bytes, place.line, error.message())?;
+    place_words(alloc, place, first_line(reason.as_str()))
 }
 
 /// The place after the bytes `before`.
@@ -43,25 +60,37 @@ fn place_after(before: &[u8]) -> TextPlace
     TextPlace { line, column }
 }
 
-/// Line `line` of `bytes`, without its line end. Lines are counted from 1.
-fn numbered_line(bytes: &[u8], line: usize) -> &[u8] {
-    let mut lines = bytes.split(|byte| *byte == b'\n');
-    lines.nth(line.saturating_sub(1)).unwrap_or(bytes)
+/// Whether a character begins with `byte`, in UTF-8.
+fn begins_character(byte: u8) -> bool
+    ensures { result ≡ begins_character byte }
+{
+    byte < 128 || 191 < byte
 }
 
-/// Whether `line` has a character from U+2000 to U+203F, in UTF-8. These include the curly quotes.
-fn has_curly_quote(line: &[u8]) -> bool {
-    line.windows(2).any(|pair| matches!(pair, [0xE2, 0x80]))
+/// The words for the fault in line `line`: the parser's message, and the likely mistake.
+fn reason_for(
+    alloc: Global,
+    bytes: &[u8],
+    line: usize,
+    message: &str,
+) -> Result<String, AllocError> {
+    if let Some(words) = message_words(bytes) {
+        return String::from_str(alloc, words);
+    }
+    let advice = hint(numbered_line(bytes, line), message);
+    format!(in alloc; "this isn't TOML: {message}; {advice}")
 }
 
-/// Whether a number in `line` begins with a 0, for example `05`.
-fn has_leading_zero(line: &[u8]) -> bool {
-    line.windows(3).any(|three| match three {
-        [before, b'0', digit] => !before.is_ascii_alphanumeric()
-            && *before != b'"'
-            && digit.is_ascii_digit(),
-        _ => false,
-    })
+/// The words for a file that is an order or a form. `None` for any other file.
+fn message_words(bytes: &[u8]) -> Option<&'static str> {
+    match bytes.strip_prefix(b"PART ")? {
+        [b'0'..=b'9', ..] => Some(
+            "this is a form, for `desk receive` or `curator receive`, and no machine file or key sheet",
+        ),
+        _ => Some(
+            "this is an order, for `desk send` or `curator send`, and no machine file or key sheet",
+        ),
+    }
 }
 
 /// The likely mistake in `line`, in which the parser found a fault. `message` is the parser's message.
@@ -86,30 +115,25 @@ fn hint(line: &[u8], message: &str) -> &'static str {
     }
 }
 
-/// The words for a file that is an order or a form. `None` for any other file.
-fn message_words(bytes: &[u8]) -> Option<&'static str> {
-    match bytes.strip_prefix(b"PART ")? {
-        [b'0'..=b'9', ..] => Some(
-            "this is a form, for `desk receive` or `curator receive`, and no machine file or key sheet",
-        ),
-        _ => Some(
-            "this is an order, for `desk send` or `curator send`, and no machine file or key sheet",
-        ),
-    }
+/// Whether `line` has a character from U+2000 to U+203F, in UTF-8. These include the curly quotes.
+fn has_curly_quote(line: &[u8]) -> bool {
+    line.windows(2).any(|pair| matches!(pair, [0xE2, 0x80]))
 }
 
-/// The words for the fault in line `line`: the parser's message, and the likely mistake.
-fn reason_for(
-    alloc: Global,
-    bytes: &[u8],
-    line: usize,
-    message: &str,
-) -> Result<String, AllocError> {
-    if let Some(words) = message_words(bytes) {
-        return String::from_str(alloc, words);
-    }
-    let advice = hint(numbered_line(bytes, line), message);
-    format!(in alloc; "this isn't TOML: {message}; {advice}")
+/// Whether a number in `line` begins with a 0, for example `05`.
+fn has_leading_zero(line: &[u8]) -> bool {
+    line.windows(3).any(|three| match three {
+        [before, b'0', digit] => !before.is_ascii_alphanumeric()
+            && *before != b'"'
+            && digit.is_ascii_digit(),
+        _ => false,
+    })
+}
+
+/// Line `line` of `bytes`, without its line end. Lines are counted from 1.
+fn numbered_line(bytes: &[u8], line: usize) -> &[u8] {
+    let mut lines = bytes.split(|byte| *byte == b'\n');
+    lines.nth(line.saturating_sub(1)).unwrap_or(bytes)
 }
 
 /// The words for a place: its line, its column, and what is wrong there.
@@ -124,28 +148,4 @@ fn place_words(alloc: Global, place: TextPlace, reason: &str) -> Result<String, 
     words.push_str(": ")?;
     words.push_str(reason)?;
     Ok(words)
-}
-
-/// The words for the place of the parser's fault: its line, its column, and what is wrong there.
-fn words_at(alloc: Global, bytes: &[u8], error: &Error) -> Result<String, AllocError>
-    requires { IsWithin bytes.now error.now }
-    ensures { IfOk result (λ words. NamesPlace bytes.now (span_start error.now) (string_bytes words)) }
-{
-    let Some(span) = error.span() else {
-        return Err(AllocError);
-    };
-    let place = place_after(&bytes[..span.start]);
-    let reason = reason_for(alloc, bytes, place.line, error.message())?;
-    place_words(alloc, place, first_line(reason.as_str()))
-}
-
-/// The words for the place at which `bytes` stop being TOML: its line, its column, and what is wrong there.
-pub fn toml_words(alloc: Global, bytes: &[u8]) -> Result<String, AllocError>
-    requires { result_ok (document_of bytes.now) ≡ None }
-    ensures { IfOk result (λ words. SaysNotToml bytes.now (string_bytes words)) }
-{
-    match toml::table_from_slice(alloc, bytes) {
-        Ok(_) => Err(AllocError),
-        Err(error) => words_at(alloc, bytes, &error),
-    }
 }

@@ -15,7 +15,7 @@ use kd_sheet::by_key::{
     groups_in, letters_at, model_in, number_at, pairs_in, pins_in, reflector_in, rings_in, rows_in,
     shown_letters_in, slots_in, window_in,
 };
-use kd_sheet::{Key, SheetFault};
+use kd_sheet::{DAYS, Key, SheetFault};
 use kd_slips::cables::{check_groups, check_pairs};
 use kd_slips::letters::{check_letters, check_shown};
 use kd_slips::models::{check_reflector, check_wheels, model_at};
@@ -24,37 +24,62 @@ use kd_slips::pins::{check_pins, check_rows};
 use kd_slips::rings::check_rings;
 use kd_slips::slip::{Slip, refuse};
 use kd_slips::values::kind_of;
-use kd_tables::Model;
+use kd_tables::{Family, Model};
 use std::alloc::{AllocError, Global};
 use toml::{Table, Value};
-
-/// The number of days of the longest month.
-const DAYS: u8 = 31;
 
 /// The number of faults after which no later entry is judged.
 const MOST_FAULTS: usize = 300;
 
-/// Whether `item` is an entry for the day `number`.
-fn has_number(item: &Value, number: u8) -> bool
-    ensures { result ≡ has_number number (view item.now) }
+/// Finds the faults of a key sheet's entries. After 300 faults, no later entry is judged.
+pub fn sheet_faults(alloc: Global, items: &[Value]) -> Result<Vec<Finding>, AllocError>
+    ensures { IfOk result (λ list. AreSheetFaults (map view items.now) (faults_of list.items)) }
+{
+    let mut list = Vec::new(alloc);
+    for (index, item) in items.iter().enumerate() {
+        if list.len() >= MOST_FAULTS {
+            return Ok(list);
+        }
+        judge_entry(&mut list, alloc, &items[..index], item)?;
+    }
+    Ok(list)
+}
+
+/// Appends the faults of the entry `item`. `earlier` are the items before the entry.
+fn judge_entry(
+    list: &mut Vec<Finding>,
+    alloc: Global,
+    earlier: &[Value],
+    item: &Value,
+) -> Result<(), AllocError>
+    ensures { OnOk result (faults_of list.new.items ≡ faults_of list.old.items
+        ++ entry_faults (map view earlier.now) (view item.now)) }
 {
     match item.as_table() {
-        Some(table) => match number_at(table, Key::Day, DAYS) {
-            Ok(day) => day == number,
-            Err(_) => false,
-        },
-        None => false,
+        Some(table) => judge_table(list, alloc, earlier, table),
+        None => {
+            let place = Place::in_entry(earlier.len() + 1, None, Key::Day);
+            let fault = Some(SheetFault::BadValue(Key::Day));
+            note(list, alloc, place, fault, refuse_entry(alloc, item))
+        }
     }
 }
 
-/// Whether one of `items` is an entry for the day `number`.
-fn have_number(items: &[Value], number: u8) -> bool
-    ensures { result ≡ list_any (has_number number) (map view items.now) }
+/// Appends the faults of the entry `table`. `earlier` are the items before the entry.
+fn judge_table(
+    list: &mut Vec<Finding>,
+    alloc: Global,
+    earlier: &[Value],
+    table: &Table,
+) -> Result<(), AllocError>
+    ensures { OnOk result (faults_of list.new.items ≡ faults_of list.old.items
+        ++ table_faults (map view earlier.now) (table_view table.now)) }
 {
-    match items {
-        [first, rest @ ..] => has_number(first, number) || have_number(rest, number),
-        [] => false,
-    }
+    let day = number_at(table, Key::Day, DAYS).ok();
+    let place = Place::in_entry(earlier.len() + 1, day, Key::Day);
+    let fault = new_day(earlier, table).err();
+    note(list, alloc, place, fault, check_day(alloc, earlier, table))?;
+    judge_model(list, alloc, table, place)
 }
 
 /// The day of an entry, or the fault of the key `day`. `earlier` are the items before the entry.
@@ -69,16 +94,14 @@ fn new_day(earlier: &[Value], table: &Table) -> Result<u8, SheetFault>
     Ok(number)
 }
 
-/// The number of the first entry in `items` that is for the day `number`. Entries are counted from 1.
-fn entry_with(items: &[Value], number: u8) -> usize {
-    let mut entry = 1usize;
-    for item in items {
-        if has_number(item, number) {
-            return entry;
-        }
-        entry = entry.saturating_add(1);
+/// Whether one of `items` is an entry for the day `number`.
+fn have_number(items: &[Value], number: u8) -> bool
+    ensures { result ≡ list_any (has_number number) (map view items.now) }
+{
+    match items {
+        [first, rest @ ..] => has_number(first, number) || have_number(rest, number),
+        [] => false,
     }
-    entry
 }
 
 /// Explains the refusal of an entry's day. `earlier` are the items before the entry.
@@ -93,6 +116,55 @@ fn check_day(alloc: Global, earlier: &[Value], table: &Table) -> Result<(), Slip
         SheetFault::DayTwice(day),
         format!(in alloc; "day {day} stands in entry {before} and in entry {entry}"),
     )
+}
+
+/// The number of the first entry in `items` that is for the day `number`. Entries are counted from 1.
+fn entry_with(items: &[Value], number: u8) -> usize {
+    let mut entry = 1usize;
+    for item in items {
+        if has_number(item, number) {
+            return entry;
+        }
+        entry = entry.saturating_add(1);
+    }
+    entry
+}
+
+/// Whether `item` is an entry for the day `number`.
+fn has_number(item: &Value, number: u8) -> bool
+    ensures { result ≡ has_number number (view item.now) }
+{
+    match item.as_table() {
+        Some(table) => match number_at(table, Key::Day, DAYS) {
+            Ok(day) => day == number,
+            Err(_) => false,
+        },
+        None => false,
+    }
+}
+
+/// Appends the fault of an entry's model. If the model can be read, appends the faults at the keys that this model
+/// needs.
+fn judge_model(
+    list: &mut Vec<Finding>,
+    alloc: Global,
+    table: &Table,
+    place: Place,
+) -> Result<(), AllocError>
+    ensures { OnOk result (faults_of list.new.items ≡ faults_of list.old.items
+        ++ after_model (at_key place keys.Model) (model_day_faults place (table_view table.now))
+        (model_in (table_view table.now))) }
+{
+    match model_in(table) {
+        Ok(model) => match model.family() {
+            Family::Rotor => judge_rotors(list, alloc, table, place, model),
+            Family::Pin => judge_converter(list, alloc, table, place),
+        },
+        Err(fault) => {
+            let place = place.at(Key::Model);
+            note(list, alloc, place, Some(fault), check_model(alloc, table))
+        }
+    }
 }
 
 /// Appends the faults at the keys of a rotor machine's day, except `day` and `model`.
@@ -183,47 +255,6 @@ fn check_model(alloc: Global, table: &Table) -> Result<(), Slip> {
     Ok(())
 }
 
-/// Appends the fault of an entry's model. If the model can be read, appends the faults at the keys that this model
-/// needs.
-fn judge_model(
-    list: &mut Vec<Finding>,
-    alloc: Global,
-    table: &Table,
-    place: Place,
-) -> Result<(), AllocError>
-    ensures { OnOk result (faults_of list.new.items ≡ faults_of list.old.items
-        ++ after_model (at_key place keys.Model) (model_day_faults place (table_view table.now))
-        (model_in (table_view table.now))) }
-{
-    match model_in(table) {
-        Ok(Model::M209) => judge_converter(list, alloc, table, place),
-        Ok(model @ (Model::EnigmaI | Model::M3 | Model::M4)) => {
-            judge_rotors(list, alloc, table, place, model)
-        }
-        Err(fault) => {
-            let place = place.at(Key::Model);
-            note(list, alloc, place, Some(fault), check_model(alloc, table))
-        }
-    }
-}
-
-/// Appends the faults of the entry `table`. `earlier` are the items before the entry.
-fn judge_table(
-    list: &mut Vec<Finding>,
-    alloc: Global,
-    earlier: &[Value],
-    table: &Table,
-) -> Result<(), AllocError>
-    ensures { OnOk result (faults_of list.new.items ≡ faults_of list.old.items
-        ++ table_faults (map view earlier.now) (table_view table.now)) }
-{
-    let day = number_at(table, Key::Day, DAYS).ok();
-    let place = Place::in_entry(earlier.len() + 1, day, Key::Day);
-    let fault = new_day(earlier, table).err();
-    note(list, alloc, place, fault, check_day(alloc, earlier, table))?;
-    judge_model(list, alloc, table, place)
-}
-
 /// Explains the refusal of an item of the array `day` that isn't a table.
 fn refuse_entry(alloc: Global, item: &Value) -> Result<(), Slip> {
     refuse(
@@ -233,38 +264,4 @@ fn refuse_entry(alloc: Global, item: &Value) -> Result<(), Slip> {
             kind_of(item)
         ),
     )
-}
-
-/// Appends the faults of the entry `item`. `earlier` are the items before the entry.
-fn judge_entry(
-    list: &mut Vec<Finding>,
-    alloc: Global,
-    earlier: &[Value],
-    item: &Value,
-) -> Result<(), AllocError>
-    ensures { OnOk result (faults_of list.new.items ≡ faults_of list.old.items
-        ++ entry_faults (map view earlier.now) (view item.now)) }
-{
-    match item.as_table() {
-        Some(table) => judge_table(list, alloc, earlier, table),
-        None => {
-            let place = Place::in_entry(earlier.len() + 1, None, Key::Day);
-            let fault = Some(SheetFault::BadValue(Key::Day));
-            note(list, alloc, place, fault, refuse_entry(alloc, item))
-        }
-    }
-}
-
-/// Finds the faults of a key sheet's entries. After 300 faults, no later entry is judged.
-pub fn sheet_faults(alloc: Global, items: &[Value]) -> Result<Vec<Finding>, AllocError>
-    ensures { IfOk result (λ list. AreSheetFaults (map view items.now) (faults_of list.items)) }
-{
-    let mut list = Vec::new(alloc);
-    for (index, item) in items.iter().enumerate() {
-        if list.len() >= MOST_FAULTS {
-            return Ok(list);
-        }
-        judge_entry(&mut list, alloc, &items[..index], item)?;
-    }
-    Ok(list)
 }

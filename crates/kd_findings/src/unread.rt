@@ -6,15 +6,12 @@ ghost use Rattle.kd_findings.specs.Unread.{top_keys, unread_keys, unread_of};
 
 use crate::judging::{entries_of, is_machine_file};
 use crate::key_names::{is_known, meant_key};
-use kd_sheet::Key;
 use kd_sheet::by_key::{model_in, number_at};
+use kd_sheet::{DAYS, Key};
 use kd_slips::near_names::is_near;
-use kd_tables::Model;
+use kd_tables::{Family, Model};
 use std::alloc::{AllocError, Global};
 use toml::{Table, Value};
-
-/// The number of days of the longest month.
-const DAYS: u8 = 31;
 
 static ROTOR_FILE: [Key; 7] = [
     Key::Version,
@@ -137,37 +134,22 @@ pub enum Meant {
     Unknown,
 }
 
-/// What a person may have meant by the key `name` with the value `value`. `keys` are the known keys of the key's table.
-fn meant_by(keys: &[Key], name: &str, value: &Value) -> Meant {
-    if (value.is_table() || value.is_array()) && is_near(1, name.as_bytes(), b"day") {
-        return Meant::Entries;
-    }
-    match meant_key(keys, name) {
-        Some(key) => Meant::Key(key),
-        None => Meant::Unknown,
-    }
-}
-
-/// The keys of a machine file of this model. If the model isn't known, the keys of all machine files.
-fn file_keys(model: Option<Model>) -> &'static [Key]
-    ensures { result.now ≡ file_keys model }
+/// Finds the unread keys of a document.
+#[tactic(auto, using(std::proofs::Common::append_assoc), unfolding(crate::specs::Unread::unread_keys))]
+pub fn unread_keys(alloc: Global, document: &Table) -> Result<Vec<Unread<'_>>, AllocError>
+    ensures { IfOk result (λ list. unread_of list.items ≡ unread_keys (table_view document.now)) }
 {
-    match model {
-        Some(Model::M209) => &PIN_FILE,
-        Some(Model::EnigmaI | Model::M3 | Model::M4) => &ROTOR_FILE,
-        None => &ANY_FILE,
+    let mut list = Vec::new(alloc);
+    match entries_of(document) {
+        Some(items) => {
+            push_unread(&mut list, None, None, &SHEET, document)?;
+            push_entries(&mut list, items)?;
+        }
+        None => {
+            push_unread(&mut list, None, None, top_keys(document), document)?;
+        }
     }
-}
-
-/// The keys of an entry of this model. If the model isn't known, the keys of all entries.
-fn day_keys(model: Option<Model>) -> &'static [Key]
-    ensures { result.now ≡ day_keys model }
-{
-    match model {
-        Some(Model::M209) => &PIN_DAY,
-        Some(Model::EnigmaI | Model::M3 | Model::M4) => &ROTOR_DAY,
-        None => &ANY_DAY,
-    }
+    Ok(list)
 }
 
 /// The known keys of a document without the array `day`.
@@ -178,6 +160,63 @@ fn top_keys(document: &Table) -> &'static [Key]
         file_keys(model_in(document).ok())
     } else {
         &ANY_KEY
+    }
+}
+
+/// The keys of a machine file of this model. If the model isn't known, the keys of all machine files.
+fn file_keys(model: Option<Model>) -> &'static [Key]
+    ensures { result.now ≡ file_keys model }
+{
+    match model {
+        Some(model) => match model.family() {
+            Family::Rotor => &ROTOR_FILE,
+            Family::Pin => &PIN_FILE,
+        },
+        None => &ANY_FILE,
+    }
+}
+
+/// Appends the unread keys of the entries `items`.
+fn push_entries<'t>(list: &mut Vec<Unread<'t>>, items: &'t [Value]) -> Result<(), AllocError>
+    ensures { OnOk result (unread_of list.new.items
+        ≡ unread_of list.old.items ++ unread_in_entries (map view items.now)) }
+{
+    for (index, item) in items.iter().enumerate() {
+        push_entry_keys(list, index + 1, item)?;
+    }
+    Ok(())
+}
+
+/// Appends the unread keys of the entry `entry`, if it is a table.
+#[tactic(auto, unfolding(crate::specs::Unread::unread_in_entry))]
+fn push_entry_keys<'t>(
+    list: &mut Vec<Unread<'t>>,
+    entry: usize,
+    item: &'t Value,
+) -> Result<(), AllocError>
+    ensures { OnOk result (unread_of list.new.items
+        ≡ unread_of list.old.items ++ unread_in_entry entry (view item.now)) }
+{
+    match item.as_table() {
+        Some(table) => {
+            let day = number_at(table, Key::Day, DAYS).ok();
+            let keys = day_keys(model_in(table).ok());
+            push_unread(list, Some(entry), day, keys, table)
+        }
+        None => Ok(()),
+    }
+}
+
+/// The keys of an entry of this model. If the model isn't known, the keys of all entries.
+fn day_keys(model: Option<Model>) -> &'static [Key]
+    ensures { result.now ≡ day_keys model }
+{
+    match model {
+        Some(model) => match model.family() {
+            Family::Rotor => &ROTOR_DAY,
+            Family::Pin => &PIN_DAY,
+        },
+        None => &ANY_DAY,
     }
 }
 
@@ -208,51 +247,13 @@ fn push_unread<'t>(
     Ok(())
 }
 
-/// Appends the unread keys of the entry `entry`, if it is a table.
-#[tactic(auto, unfolding(crate::specs::Unread::unread_in_entry))]
-fn push_entry_keys<'t>(
-    list: &mut Vec<Unread<'t>>,
-    entry: usize,
-    item: &'t Value,
-) -> Result<(), AllocError>
-    ensures { OnOk result (unread_of list.new.items
-        ≡ unread_of list.old.items ++ unread_in_entry entry (view item.now)) }
-{
-    match item.as_table() {
-        Some(table) => {
-            let day = number_at(table, Key::Day, DAYS).ok();
-            let keys = day_keys(model_in(table).ok());
-            push_unread(list, Some(entry), day, keys, table)
-        }
-        None => Ok(()),
+/// What a person may have meant by the key `name` with the value `value`. `keys` are the known keys of the key's table.
+fn meant_by(keys: &[Key], name: &str, value: &Value) -> Meant {
+    if (value.is_table() || value.is_array()) && is_near(1, name.as_bytes(), b"day") {
+        return Meant::Entries;
     }
-}
-
-/// Appends the unread keys of the entries `items`.
-fn push_entries<'t>(list: &mut Vec<Unread<'t>>, items: &'t [Value]) -> Result<(), AllocError>
-    ensures { OnOk result (unread_of list.new.items
-        ≡ unread_of list.old.items ++ unread_in_entries (map view items.now)) }
-{
-    for (index, item) in items.iter().enumerate() {
-        push_entry_keys(list, index + 1, item)?;
+    match meant_key(keys, name) {
+        Some(key) => Meant::Key(key),
+        None => Meant::Unknown,
     }
-    Ok(())
-}
-
-/// Finds the unread keys of a document.
-#[tactic(auto, using(std::proofs::Common::append_assoc), unfolding(crate::specs::Unread::unread_keys))]
-pub fn unread_keys(alloc: Global, document: &Table) -> Result<Vec<Unread<'_>>, AllocError>
-    ensures { IfOk result (λ list. unread_of list.items ≡ unread_keys (table_view document.now)) }
-{
-    let mut list = Vec::new(alloc);
-    match entries_of(document) {
-        Some(items) => {
-            push_unread(&mut list, None, None, &SHEET, document)?;
-            push_entries(&mut list, items)?;
-        }
-        None => {
-            push_unread(&mut list, None, None, top_keys(document), document)?;
-        }
-    }
-    Ok(list)
 }

@@ -14,24 +14,49 @@ use crate::unread::{Meant, Unread, unread_keys};
 use kd_sheet::Key;
 use kd_sheet::by_key::model_in;
 use kd_slips::values::shown;
-use kd_tables::Model;
+use kd_tables::Family;
 use std::alloc::{AllocError, Global};
 use toml::{Table, Value};
 
-/// Appends the start of a warning: the file's name and, for a key in an entry, the entry's day or number.
-#[tactic(auto, using(std::proofs::Common::append_assoc), unfolding(crate::specs::Warnings::warning_start))]
-fn push_start(
-    text: &mut String,
-    name: &str,
-    day: Option<u8>,
-    entry: Option<usize>,
-) -> Result<(), AllocError>
-    ensures { OnOk result (string_bytes text.new
-        ≡ string_bytes text.old ++ warning_start name.now day entry) }
+/// The warnings about a document. There is a line for each unread key. There is also a line for each cable with two
+/// capital letters in falling order, such as `BA`. The desk writes this cable as `AB`.
+pub fn warning_lines(alloc: Global, name: &str, document: &Table) -> Result<String, AllocError>
+    ensures { IfOk result (λ lines. AreWarnings name.now (table_view document.now) (string_bytes lines)) }
 {
-    text.push_str(name)?;
-    push_entry(text, day, entry)?;
-    text.push_str(": warning: ")
+    let mut lines = String::new(alloc);
+    let unread = unread_keys(alloc, document)?;
+    push_all_unread(&mut lines, alloc, name, unread.as_slice())?;
+    push_orders(&mut lines, name, document)?;
+    Ok(lines)
+}
+
+fn push_all_unread(
+    text: &mut String,
+    alloc: Global,
+    name: &str,
+    keys: &[Unread<'_>],
+) -> Result<(), AllocError>
+    ensures { OnOk result (AppendsText (ArePieces (TellsUnread name.now) (unread_of keys.now))
+        (string_bytes text.old) (string_bytes text.new)) }
+{
+    for key in keys {
+        push_unread(text, alloc, name, key)?;
+    }
+    Ok(())
+}
+
+/// Appends the warning about an unread key, with advice on what to write.
+fn push_unread(
+    text: &mut String,
+    alloc: Global,
+    name: &str,
+    key: &Unread<'_>,
+) -> Result<(), AllocError>
+    ensures { OnOk result (AppendsText (TellsUnread name.now (unread_key key.now))
+        (string_bytes text.old) (string_bytes text.new)) }
+{
+    let advice = advice_of(alloc, key.meant)?;
+    push_told(text, alloc, name, key, first_line(advice.as_str()))
 }
 
 /// The advice for an unread key. It says what to write in its place.
@@ -65,39 +90,73 @@ fn push_told(
     text.push_str("\n")
 }
 
-/// Appends the warning about an unread key, with advice on what to write.
-fn push_unread(
+/// Appends the start of a warning: the file's name and, for a key in an entry, the entry's day or number.
+#[tactic(auto, using(std::proofs::Common::append_assoc), unfolding(crate::specs::Warnings::warning_start))]
+fn push_start(
     text: &mut String,
-    alloc: Global,
     name: &str,
-    key: &Unread<'_>,
+    day: Option<u8>,
+    entry: Option<usize>,
 ) -> Result<(), AllocError>
-    ensures { OnOk result (AppendsText (TellsUnread name.now (unread_key key.now))
-        (string_bytes text.old) (string_bytes text.new)) }
+    ensures { OnOk result (string_bytes text.new
+        ≡ string_bytes text.old ++ warning_start name.now day entry) }
 {
-    let advice = advice_of(alloc, key.meant)?;
-    push_told(text, alloc, name, key, first_line(advice.as_str()))
+    text.push_str(name)?;
+    push_entry(text, day, entry)?;
+    text.push_str(": warning: ")
 }
 
-fn push_all_unread(
-    text: &mut String,
-    alloc: Global,
-    name: &str,
-    keys: &[Unread<'_>],
-) -> Result<(), AllocError>
-    ensures { OnOk result (AppendsText (ArePieces (TellsUnread name.now) (unread_of keys.now))
-        (string_bytes text.old) (string_bytes text.new)) }
+/// Appends a warning about each cable with letters in falling order, such as `BA`. If the document isn't a rotor
+/// machine's file, appends nothing.
+#[tactic(auto, unfolding(crate::specs::Warnings::order_lines))]
+fn push_orders(lines: &mut String, name: &str, document: &Table) -> Result<(), AllocError>
+    ensures { OnOk result (string_bytes lines.new
+        ≡ string_bytes lines.old ++ order_lines name.now (table_view document.now)) }
 {
-    for key in keys {
-        push_unread(text, alloc, name, key)?;
+    if !is_machine_file(document) {
+        return Ok(());
+    }
+    match model_in(document) {
+        Ok(model) => match model.family() {
+            Family::Rotor => push_file_cables(lines, name, document),
+            Family::Pin => Ok(()),
+        },
+        Err(_) => Ok(()),
+    }
+}
+
+/// Appends a warning about each cable in the array `cables` with letters in falling order, such as `BA`.
+#[tactic(auto, unfolding(crate::specs::Warnings::cable_lines))]
+fn push_file_cables(lines: &mut String, name: &str, document: &Table) -> Result<(), AllocError>
+    ensures { OnOk result (string_bytes lines.new
+        ≡ string_bytes lines.old ++ cable_lines name.now (table_view document.now)) }
+{
+    match items_at(document, Key::Cables) {
+        Some(items) => push_cables(lines, name, items),
+        None => Ok(()),
+    }
+}
+
+/// Appends a warning about each cable in `items` that is two capital letters in falling order, such as `BA`.
+fn push_cables(lines: &mut String, name: &str, items: &[Value]) -> Result<(), AllocError>
+    ensures { OnOk result (string_bytes lines.new
+        ≡ string_bytes lines.old ++ flat_map (cable_line name.now) (map view items.now)) }
+{
+    for item in items {
+        push_cable(lines, name, item)?;
     }
     Ok(())
 }
 
-fn is_capital(byte: u8) -> bool
-    ensures { result ≡ is_capital byte }
+/// Appends a warning if the cable `item` is a text of two capital letters in falling order, such as `BA`.
+fn push_cable(lines: &mut String, name: &str, item: &Value) -> Result<(), AllocError>
+    ensures { OnOk result (string_bytes lines.new
+        ≡ string_bytes lines.old ++ cable_line name.now (view item.now)) }
 {
-    65 <= byte && byte <= 90
+    match item.as_str() {
+        Some(cable) => push_order(lines, name, cable),
+        None => Ok(()),
+    }
 }
 
 /// Appends a warning if `cable` has two capital letters in falling order, such as `BA`. The desk writes `AB`.
@@ -121,64 +180,8 @@ fn push_order(lines: &mut String, name: &str, cable: &str) -> Result<(), AllocEr
     }
 }
 
-/// Appends a warning if the cable `item` is a text of two capital letters in falling order, such as `BA`.
-fn push_cable(lines: &mut String, name: &str, item: &Value) -> Result<(), AllocError>
-    ensures { OnOk result (string_bytes lines.new
-        ≡ string_bytes lines.old ++ cable_line name.now (view item.now)) }
+fn is_capital(byte: u8) -> bool
+    ensures { result ≡ is_capital byte }
 {
-    match item.as_str() {
-        Some(cable) => push_order(lines, name, cable),
-        None => Ok(()),
-    }
-}
-
-/// Appends a warning about each cable in `items` that is two capital letters in falling order, such as `BA`.
-fn push_cables(lines: &mut String, name: &str, items: &[Value]) -> Result<(), AllocError>
-    ensures { OnOk result (string_bytes lines.new
-        ≡ string_bytes lines.old ++ flat_map (cable_line name.now) (map view items.now)) }
-{
-    for item in items {
-        push_cable(lines, name, item)?;
-    }
-    Ok(())
-}
-
-/// Appends a warning about each cable in the array `cables` with letters in falling order, such as `BA`.
-#[tactic(auto, unfolding(crate::specs::Warnings::cable_lines))]
-fn push_file_cables(lines: &mut String, name: &str, document: &Table) -> Result<(), AllocError>
-    ensures { OnOk result (string_bytes lines.new
-        ≡ string_bytes lines.old ++ cable_lines name.now (table_view document.now)) }
-{
-    match items_at(document, Key::Cables) {
-        Some(items) => push_cables(lines, name, items),
-        None => Ok(()),
-    }
-}
-
-/// Appends a warning about each cable with letters in falling order, such as `BA`. If the document isn't a rotor
-/// machine's file, appends nothing.
-#[tactic(auto, unfolding(crate::specs::Warnings::order_lines))]
-fn push_orders(lines: &mut String, name: &str, document: &Table) -> Result<(), AllocError>
-    ensures { OnOk result (string_bytes lines.new
-        ≡ string_bytes lines.old ++ order_lines name.now (table_view document.now)) }
-{
-    if !is_machine_file(document) {
-        return Ok(());
-    }
-    match model_in(document) {
-        Ok(Model::EnigmaI | Model::M3 | Model::M4) => push_file_cables(lines, name, document),
-        Ok(Model::M209) | Err(_) => Ok(()),
-    }
-}
-
-/// The warnings about a document. There is a line for each unread key. There is also a line for each cable with two
-/// capital letters in falling order, such as `BA`. The desk writes this cable as `AB`.
-pub fn warning_lines(alloc: Global, name: &str, document: &Table) -> Result<String, AllocError>
-    ensures { IfOk result (λ lines. AreWarnings name.now (table_view document.now) (string_bytes lines)) }
-{
-    let mut lines = String::new(alloc);
-    let unread = unread_keys(alloc, document)?;
-    push_all_unread(&mut lines, alloc, name, unread.as_slice())?;
-    push_orders(&mut lines, name, document)?;
-    Ok(lines)
+    65 <= byte && byte <= 90
 }

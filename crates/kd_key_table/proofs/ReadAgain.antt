@@ -26,7 +26,7 @@ use Rattle.kd_key_table.proofs.RotorRows.{rotor_cells, rotor_line_is, rotor_plai
 use Rattle.kd_key_table.proofs.TableHead.{columns_are, head_cells, head_is, head_plain, table_columns, well_named}
 unfoldable use Rattle.kd_key_table.specs.CsvTable.{csv_text, has_lists}
 use Rattle.kd_key_table.specs.CsvTable.{day_line, head_line}
-unfoldable use Rattle.kd_key_table.specs.Days.{has_day_of}
+unfoldable use Rattle.kd_sheet.specs.Sheet.{has_day_of}
 use Rattle.kd_key_table.specs.Days.{has_days}
 use Rattle.kd_key_table.specs.ReadAgain.{MeansMonth, TablesAreReadBack}
 

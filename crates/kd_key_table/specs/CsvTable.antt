@@ -1,7 +1,6 @@
 -- The days of a key sheet as a CSV table for a spreadsheet. Each day has a row, and the first day comes first.
 use Rattle.std.specs.Prelude.{decimal, ℕ, Bool, if◌then◌else◌, List, [], ◌++◌, flat_map, zip}
 use Rattle.std.specs.Prelude.{Option, Some, None}
-use Rattle.std.specs.List.{list_any}
 use Rattle.kd_tables.specs.Places.{reading_text}
 use Rattle.kd_tables.specs.Rings.{ring_of}
 use Rattle.kd_tables.specs.Tables.{model_text, reflector_text}
@@ -10,11 +9,10 @@ use Rattle.kd_tables.specs.declared.model.Model.TheVariants.{M209}
 use Rattle.kd_pins.specs.declared.pin_set.PinSet.{PinSet}
 use Rattle.kd_pins.specs.PinWheels.{pin_wheels, pins_of, pins_on}
 use Rattle.kd_state.specs.SheetDay.{Day, Rotor, Pin, PinDay, RotorDay}
-use Rattle.kd_sheet.specs.Sheet.{day_of}
+use Rattle.kd_sheet.specs.Sheet.{day_of, has_days_of}
 use Rattle.kd_pictures.specs.Template.{letter_text}
 use Rattle.kd_key_table.specs.declared.days.TheConstants.{DAYS}
 use Rattle.kd_key_table.specs.declared.texts.TheConstants as texts
-use Rattle.kd_key_table.specs.Days.{has_day_of}
 use Rattle.kd_key_table.specs.MonthTable.{has_numbered_rings}
 use Rattle.kd_key_table.specs.Words.{ground_text, group_text, name_text, pair_text, ring_text, words_text}
 
@@ -68,7 +66,7 @@ day_line has_lists (Some (Pin values)) = pin_line values
 
 -- whether the month has a Converter's day
 unfoldable pub has_lists : List (Option Day) → Bool
-has_lists month = list_any (has_day_of M209 month) DAYS
+has_lists month = has_days_of M209 month
 
 -- The names of the columns. The columns for key lists are there only if the month has a Converter's day.
 abbrev pub head_line : Bool → List ℕ

@@ -1,23 +1,10 @@
 -- The days of a sheet, model by model.
-use Rattle.std.specs.Prelude.{ℕ, Bool, true, false, List, [], ◌∷◌, filter, is_some, Option}
+use Rattle.std.specs.Prelude.{ℕ, Bool, List, [], ◌∷◌, filter, is_some, Option}
 use Rattle.std.specs.List.{list_any}
-use Rattle.std.specs.Option.{option_map_or}
 use Rattle.kd_tables.specs.declared.model.Model.{Model}
-use Rattle.kd_tables.specs.declared.model.Model.TheVariants.{EnigmaI, M3, M4, M209}
-use Rattle.kd_state.specs.SheetDay.{Day, day_model}
-use Rattle.kd_sheet.specs.Sheet.{day_of}
+use Rattle.kd_state.specs.SheetDay.{Day}
+use Rattle.kd_sheet.specs.Sheet.{day_of, has_day_of}
 use Rattle.kd_key_table.specs.declared.days.TheConstants.{DAYS, LAST_DAY_FIRST}
-
-abbrev pub is_same_model : Model → Model → Bool
-is_same_model EnigmaI EnigmaI = true
-is_same_model M3 M3 = true
-is_same_model M4 M4 = true
-is_same_model M209 M209 = true
-is_same_model _ _ = false
-
--- whether the month has the day `number`, and this day is for the model
-unfoldable pub has_day_of : Model → List (Option Day) → ℕ → Bool
-has_day_of model month number = option_map_or (λ s. is_same_model (day_model s) model) (day_of month number) false
 
 -- the numbers of the month's days for the model, in falling order
 abbrev pub days_of : Model → List (Option Day) → List ℕ

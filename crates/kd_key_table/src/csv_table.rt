@@ -1,16 +1,14 @@
 //! The days of a key sheet as a CSV table for a spreadsheet. Each day has a row, and the first day comes first.
 ghost use Rattle.std.specs.Prelude.{◌≡◌, ◌++◌, flat_map, option_copied, Some, zip};
-ghost use Rattle.std.specs.List.{list_any};
 ghost use Rattle.kd_pictures.specs.Drawing.{Draws};
 ghost use Rattle.kd_sheet.specs.Sheet.{day_of};
 ghost use Rattle.kd_state.specs.Entry.{pin_values, rotor_values, values_of};
 ghost use Rattle.kd_key_table.specs.CsvTable.{csv_text, day_cells, day_line};
 ghost use Rattle.kd_key_table.specs.CsvTable.{effective_cell, effective_cells, effective_letter};
 ghost use Rattle.kd_key_table.specs.CsvTable.{has_lists, head_line, key_cells, list_cells, pin_line, rotor_line};
-ghost use Rattle.kd_key_table.specs.Days.{has_day_of};
 ghost use Rattle.kd_key_table.specs.Words.{ring_text, words_text};
 
-use crate::days::{DAYS, has_day_of};
+use crate::days::DAYS;
 use crate::month_table::has_numbered_rings;
 use crate::texts::{
     COLUMN_NAMES, COMMA, LIST_COLUMN_NAMES, NO_GROUPS, NO_LIST, PIN_MODEL, ROW_END,
@@ -39,19 +37,7 @@ pub(crate) fn draw_csv<W: Sink>(sink: &mut W, sheet: &Sheet)
 fn has_lists(sheet: &Sheet) -> bool
     ensures { result ≡ has_lists sheet.now }
 {
-    has_any_day_of(Model::M209, sheet, &DAYS)
-}
-
-/// Whether at least one of the days `numbers` is for the model.
-fn has_any_day_of(model: Model, sheet: &Sheet, numbers: &[u8]) -> bool
-    ensures { result ≡ list_any (has_day_of model sheet.now) numbers.now }
-{
-    match numbers {
-        [number, rest @ ..] => {
-            has_day_of(model, sheet, *number) || has_any_day_of(model, sheet, rest)
-        }
-        [] => false,
-    }
+    sheet.has_days_of(Model::M209)
 }
 
 /// Writes the names of the columns.

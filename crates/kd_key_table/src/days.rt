@@ -2,8 +2,8 @@
 ghost use Rattle.std.specs.Prelude.{◌≡◌, ◌≤◌, ◌+◌, [], ◌∷◌, ◌++◌, filter, is_some, length, if◌then◌else◌};
 ghost use Rattle.std.specs.List.{list_any};
 ghost use Rattle.arrayvec.specs.ArrayVec.{array_vec_len};
-ghost use Rattle.kd_sheet.specs.Sheet.{day_of};
-ghost use Rattle.kd_key_table.specs.Days.{days_of, first_of, has_day_of};
+ghost use Rattle.kd_sheet.specs.Sheet.{day_of, has_day_of};
+ghost use Rattle.kd_key_table.specs.Days.{days_of, first_of};
 
 use arrayvec::ArrayVec;
 use kd_sheet::Sheet;
@@ -36,7 +36,7 @@ fn add_days(days: &mut ArrayVec<u8, 31>, model: Model, sheet: &Sheet, numbers: &
     ensures { days.new.items ≡ days.old.items ++ filter (has_day_of model sheet.now) numbers.now }
 {
     if let [number, rest @ ..] = numbers {
-        add_if(days, *number, has_day_of(model, sheet, *number));
+        add_if(days, *number, sheet.has_day_of(model, *number));
         add_days(days, model, sheet, rest);
     }
 }
@@ -49,17 +49,6 @@ fn add_if(days: &mut ArrayVec<u8, 31>, number: u8, is_wanted: bool)
 {
     if is_wanted {
         days.push(number);
-    }
-}
-
-/// Whether the sheet has the day `number`, and this day is for the model.
-#[tactic(auto, unfolding(crate::specs::Days::has_day_of))]
-pub fn has_day_of(model: Model, sheet: &Sheet, number: u8) -> bool
-    ensures { result ≡ has_day_of model sheet.now number }
-{
-    match sheet.day(number) {
-        Some(day) => day.model() == model,
-        None => false,
     }
 }
 

@@ -10,6 +10,5 @@ mod table_file;
 pub mod texts;
 mod words;
 
-pub use days::has_day_of;
 pub use kd_pictures::Language;
 pub use table_file::{TableForm, write_tables};

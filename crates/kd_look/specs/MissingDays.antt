@@ -5,8 +5,8 @@ use Rattle.std.specs.List.{list_any}
 use Rattle.std.specs.Option.{option_map_or}
 use Rattle.kd_tables.specs.declared.model.Model.{Model}
 use Rattle.kd_state.specs.Machine.{model_of}
+use Rattle.kd_sheet.specs.Sheet.{has_days_of}
 use Rattle.kd_slips.specs.Shown.{model_with_article}
-use Rattle.kd_look.specs.SheetWords.{has_model}
 use Rattle.kd_look.specs.declared.file.File.{File}
 use Rattle.kd_look.specs.declared.file.File.TheVariants as files
 use Rattle.kd_look.specs.declared.missing_days.ReadFile.{ReadFile}
@@ -26,7 +26,7 @@ abbrev pub machine_model : KnownFile → Option Model
 machine_model read = model_in read.file
 
 abbrev pub has_day_in : Model → Option File → Bool
-has_day_in model (Some (files.Sheet month)) = has_model month model
+has_day_in model (Some (files.Sheet month)) = has_days_of model month
 has_day_in model (Some (files.Machine machine)) = false
 has_day_in model None = false
 

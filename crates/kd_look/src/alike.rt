@@ -8,54 +8,20 @@ use kd_sheet::Sheet;
 use kd_state::SheetDay;
 use std::alloc::{AllocError, Global};
 
-/// Whether both days have the same wheel, ring and window letter in slot `slot`.
-fn have_same_slot(one: &SheetDay, other: &SheetDay, slot: u8) -> bool {
-    one.slot(slot) == other.slot(slot)
-        && one.ring(slot) == other.ring(slot)
-        && one.window(slot) == other.window(slot)
-}
-
-fn have_same_pins(one: &SheetDay, other: &SheetDay) -> bool {
-    match (one.pins(), other.pins()) {
-        (Some(pins), Some(others)) => pins.has_same_pins(&others),
-        (None, None) => true,
-        _ => false,
+/// Appends a warning for each day that differs from an earlier day only in its number.
+pub fn push_alike_days(
+    lines: &mut String,
+    alloc: Global,
+    name: &str,
+    sheet: &Sheet,
+) -> Result<(), AllocError>
+    ensures { OnOk result (WarnsOfDays name.now (string_bytes lines.old)
+        → WarnsOfDays name.now (string_bytes lines.new)) }
+{
+    for number in 2..32 {
+        push_alike(lines, alloc, name, sheet, number)?;
     }
-}
-
-/// Whether both days have the same pairs and groups or, on a Converter, the same rows and list letters.
-fn have_same_lists(one: &SheetDay, other: &SheetDay) -> bool {
-    one.pairs() == other.pairs()
-        && one.groups() == other.groups()
-        && one.rows() == other.rows()
-        && one.list() == other.list()
-}
-
-/// Whether the days differ only in their numbers.
-fn are_alike(one: &SheetDay, other: &SheetDay) -> bool {
-    one.model() == other.model()
-        && one.reflector() == other.reflector()
-        && have_same_slot(one, other, 1)
-        && have_same_slot(one, other, 2)
-        && have_same_slot(one, other, 3)
-        && have_same_slot(one, other, 4)
-        && have_same_slot(one, other, 5)
-        && have_same_slot(one, other, 6)
-        && have_same_pins(one, other)
-        && have_same_lists(one, other)
-}
-
-/// Finds the first earlier day that differs from the day `number` only in its number.
-fn first_alike(sheet: &Sheet, number: u8) -> Option<u8> {
-    let day = sheet.day(number)?;
-    for earlier in 1..number {
-        if let Some(other) = sheet.day(earlier)
-            && are_alike(other, day)
-        {
-            return Some(earlier);
-        }
-    }
-    None
+    Ok(())
 }
 
 /// Appends a warning if the day `number` differs from an earlier day only in its number.
@@ -76,18 +42,34 @@ fn push_alike(
     push_day_line(lines, name, words.as_str())
 }
 
-/// Appends a warning for each day that differs from an earlier day only in its number.
-pub fn push_alike_days(
-    lines: &mut String,
-    alloc: Global,
-    name: &str,
-    sheet: &Sheet,
-) -> Result<(), AllocError>
-    ensures { OnOk result (WarnsOfDays name.now (string_bytes lines.old)
-        → WarnsOfDays name.now (string_bytes lines.new)) }
-{
-    for number in 2..32 {
-        push_alike(lines, alloc, name, sheet, number)?;
+/// Finds the first earlier day that differs from the day `number` only in its number.
+fn first_alike(sheet: &Sheet, number: u8) -> Option<u8> {
+    let day = sheet.day(number)?;
+    for earlier in 1..number {
+        if let Some(other) = sheet.day(earlier)
+            && are_alike(other, day)
+        {
+            return Some(earlier);
+        }
     }
-    Ok(())
+    None
+}
+
+/// Whether the days differ only in their numbers.
+fn are_alike(one: &SheetDay, other: &SheetDay) -> bool {
+    one.model() == other.model()
+        && one.reflector() == other.reflector()
+        && (1..=6).all(|slot| have_same_slot(one, other, slot))
+        && one.pairs() == other.pairs()
+        && one.groups() == other.groups()
+        && one.rows() == other.rows()
+        && one.pins() == other.pins()
+        && one.list() == other.list()
+}
+
+/// Whether both days have the same wheel, ring and window letter in slot `slot`.
+fn have_same_slot(one: &SheetDay, other: &SheetDay, slot: u8) -> bool {
+    one.slot(slot) == other.slot(slot)
+        && one.ring(slot) == other.ring(slot)
+        && one.window(slot) == other.window(slot)
 }

@@ -7,6 +7,16 @@ ghost use Rattle.kd_look.specs.Warnings.{IsDayLine, WarnsOfDays, day_line};
 use kd_findings::first_line;
 use std::alloc::AllocError;
 
+/// Appends a warning about days: the file's name, `: warning: day`, and the first line of `words`.
+pub fn push_day_line(lines: &mut String, name: &str, words: &str) -> Result<(), AllocError>
+    ensures line { OnOk result ((line : List ℕ) × EndsAtFeed words.now line
+        × AppendsText (IsDayLine name.now line) (string_bytes lines.old) (string_bytes lines.new)) }
+    ensures warns { OnOk result (WarnsOfDays name.now (string_bytes lines.old)
+        → WarnsOfDays name.now (string_bytes lines.new)) }
+{
+    push_line(lines, name, first_line(words))
+}
+
 /// Appends a warning about days: the file's name, `: warning: day`, and `words`.
 #[tactic(auto, using(std::proofs::Common::append_assoc), unfolding(crate::specs::Warnings::day_line))]
 fn push_line(lines: &mut String, name: &str, words: &str) -> Result<(), AllocError>
@@ -17,14 +27,4 @@ fn push_line(lines: &mut String, name: &str, words: &str) -> Result<(), AllocErr
     lines.push_str(": warning: day")?;
     lines.push_str(words)?;
     lines.push_str("\n")
-}
-
-/// Appends a warning about days: the file's name, `: warning: day`, and the first line of `words`.
-pub fn push_day_line(lines: &mut String, name: &str, words: &str) -> Result<(), AllocError>
-    ensures line { OnOk result ((line : List ℕ) × EndsAtFeed words.now line
-        × AppendsText (IsDayLine name.now line) (string_bytes lines.old) (string_bytes lines.new)) }
-    ensures warns { OnOk result (WarnsOfDays name.now (string_bytes lines.old)
-        → WarnsOfDays name.now (string_bytes lines.new)) }
-{
-    push_line(lines, name, first_line(words))
 }

@@ -19,107 +19,19 @@ use kd_sheet::SheetFault;
 use kd_sheet::by_key::parse_table;
 use std::alloc::{AllocError, Global};
 
-/// Appends the end of a fault's line: the fault's number and name in parentheses.
-#[tactic(auto, using(std::proofs::Common::append_assoc))]
-fn push_fault(text: &mut String, fault: SheetFault) -> Result<(), AllocError>
-    ensures { OnOk result (string_bytes text.new ≡ string_bytes text.old ++ fault_end fault) }
-{
-    text.push_str(" (")?;
-    text.push_str(fault.text().as_str())?;
-    text.push_str(")\n")
-}
-
-/// Appends the number of a line, if it is known.
-#[tactic(auto, unfolding(crate::specs::FaultWords::line_words))]
-fn push_line(text: &mut String, line: Option<usize>) -> Result<(), AllocError>
-    ensures { OnOk result (string_bytes text.new ≡ string_bytes text.old ++ line_words line) }
-{
-    match line {
-        Some(number) => push_titled(text, ", line ", number),
-        None => Ok(()),
-    }
-}
-
-/// Appends the line of a fault. `wrong` are the words that say what is wrong.
-#[tactic(auto, using(std::proofs::Common::append_assoc), unfolding(crate::specs::FaultWords::fault_line))]
-fn push_fault_line(
-    text: &mut String,
-    name: &str,
-    place: Place,
-    line: Option<usize>,
-    wrong: &str,
-    fault: SheetFault,
-) -> Result<(), AllocError>
-    ensures { OnOk result (string_bytes text.new
-        ≡ string_bytes text.old ++ fault_line name.now place line wrong.now fault) }
-{
-    text.push_str(name)?;
-    push_entry(text, place.day, place.entry)?;
-    push_line(text, line)?;
-    text.push_str(", ")?;
-    text.push_str(place.key.name())?;
-    text.push_str(wrong)?;
-    push_fault(text, fault)
-}
-
-/// Appends the line about `finding`, whose value is in line `line` of the file.
-fn push_finding(
-    text: &mut String,
-    alloc: Global,
-    name: &str,
-    finding: &Finding,
-    line: Option<usize>,
-) -> Result<(), AllocError>
-    ensures { OnOk result (AppendsText (IsLineAt name.now finding.now.place line finding.now.fault)
-        (string_bytes text.old) (string_bytes text.new)) }
-{
-    let wrong = wrong_words(alloc, &finding.explanation)?;
-    push_fault_line(
-        text,
-        name,
-        finding.place,
-        line,
-        first_line(wrong.as_str()),
-        finding.fault,
-    )
-}
-
-/// Appends a line about each of `findings`. `lines` has, for each finding, its line in the file.
-fn push_findings(
-    text: &mut String,
-    alloc: Global,
-    name: &str,
-    findings: &[Finding],
-    lines: &[Option<usize>],
-) -> Result<(), AllocError>
-    ensures { OnOk result ((bytes : List ℕ) → lines.now ≡ map (line_of bytes) findings.now
-        → AppendsText (AreFaultLines name.now bytes (faults_of findings.now))
-        (string_bytes text.old) (string_bytes text.new)) }
-{
-    match (findings, lines) {
-        ([finding, findings @ ..], [line, lines @ ..]) => {
-            push_finding(text, alloc, name, finding, *line)?;
-            push_findings(text, alloc, name, findings, lines)
-        }
-        _ => Ok(()),
-    }
-}
-
-/// The line about a file that isn't TOML.
-#[tactic(auto, using(std::proofs::Common::append_assoc))]
-fn plain_line(
+/// The lines about the faults of a file, and then the warnings about the file's keys. `fault` is the first of the
+/// faults.
+pub fn refusal(
     alloc: Global,
     bytes: &[u8],
     name: &str,
     fault: SheetFault,
 ) -> Result<String, AllocError>
-    requires { result_ok (document_of bytes.now) ≡ None }
-    ensures { IfOk result (λ text. IsPlainLine name.now bytes.now fault (string_bytes text)) }
+    requires { file_of bytes.now ≡ Err fault }
+    ensures { IfOk result (λ text. NamesFault name.now bytes.now fault (string_bytes text)) }
 {
-    let mut text = String::from_str(alloc, name)?;
-    let words = toml_words(alloc, bytes)?;
-    text.push_str(words.as_str())?;
-    push_fault(&mut text, fault)?;
+    let mut text = fault_lines(alloc, bytes, name, fault)?;
+    text.push_str(key_warnings(alloc, bytes, name)?.as_str())?;
     Ok(text)
 }
 
@@ -153,18 +65,106 @@ fn fault_lines(
     }
 }
 
-/// The lines about the faults of a file, and then the warnings about the file's keys. `fault` is the first of the
-/// faults.
-pub fn refusal(
+/// Appends a line about each of `findings`. `lines` has, for each finding, its line in the file.
+fn push_findings(
+    text: &mut String,
+    alloc: Global,
+    name: &str,
+    findings: &[Finding],
+    lines: &[Option<usize>],
+) -> Result<(), AllocError>
+    ensures { OnOk result ((bytes : List ℕ) → lines.now ≡ map (line_of bytes) findings.now
+        → AppendsText (AreFaultLines name.now bytes (faults_of findings.now))
+        (string_bytes text.old) (string_bytes text.new)) }
+{
+    match (findings, lines) {
+        ([finding, findings @ ..], [line, lines @ ..]) => {
+            push_finding(text, alloc, name, finding, *line)?;
+            push_findings(text, alloc, name, findings, lines)
+        }
+        _ => Ok(()),
+    }
+}
+
+/// Appends the line about `finding`, whose value is in line `line` of the file.
+fn push_finding(
+    text: &mut String,
+    alloc: Global,
+    name: &str,
+    finding: &Finding,
+    line: Option<usize>,
+) -> Result<(), AllocError>
+    ensures { OnOk result (AppendsText (IsLineAt name.now finding.now.place line finding.now.fault)
+        (string_bytes text.old) (string_bytes text.new)) }
+{
+    let wrong = wrong_words(alloc, &finding.explanation)?;
+    push_fault_line(
+        text,
+        name,
+        finding.place,
+        line,
+        first_line(wrong.as_str()),
+        finding.fault,
+    )
+}
+
+/// Appends the line of a fault. `wrong` are the words that say what is wrong.
+#[tactic(auto, using(std::proofs::Common::append_assoc), unfolding(crate::specs::FaultWords::fault_line))]
+fn push_fault_line(
+    text: &mut String,
+    name: &str,
+    place: Place,
+    line: Option<usize>,
+    wrong: &str,
+    fault: SheetFault,
+) -> Result<(), AllocError>
+    ensures { OnOk result (string_bytes text.new
+        ≡ string_bytes text.old ++ fault_line name.now place line wrong.now fault) }
+{
+    text.push_str(name)?;
+    push_entry(text, place.day, place.entry)?;
+    push_line(text, line)?;
+    text.push_str(", ")?;
+    text.push_str(place.key.name())?;
+    text.push_str(wrong)?;
+    push_fault(text, fault)
+}
+
+/// Appends the number of a line, if it is known.
+#[tactic(auto, unfolding(crate::specs::FaultWords::line_words))]
+fn push_line(text: &mut String, line: Option<usize>) -> Result<(), AllocError>
+    ensures { OnOk result (string_bytes text.new ≡ string_bytes text.old ++ line_words line) }
+{
+    match line {
+        Some(number) => push_titled(text, ", line ", number),
+        None => Ok(()),
+    }
+}
+
+/// The line about a file that isn't TOML.
+#[tactic(auto, using(std::proofs::Common::append_assoc))]
+fn plain_line(
     alloc: Global,
     bytes: &[u8],
     name: &str,
     fault: SheetFault,
 ) -> Result<String, AllocError>
-    requires { file_of bytes.now ≡ Err fault }
-    ensures { IfOk result (λ text. NamesFault name.now bytes.now fault (string_bytes text)) }
+    requires { result_ok (document_of bytes.now) ≡ None }
+    ensures { IfOk result (λ text. IsPlainLine name.now bytes.now fault (string_bytes text)) }
 {
-    let mut text = fault_lines(alloc, bytes, name, fault)?;
-    text.push_str(key_warnings(alloc, bytes, name)?.as_str())?;
+    let mut text = String::from_str(alloc, name)?;
+    let words = toml_words(alloc, bytes)?;
+    text.push_str(words.as_str())?;
+    push_fault(&mut text, fault)?;
     Ok(text)
+}
+
+/// Appends the end of a fault's line: the fault's number and name in parentheses.
+#[tactic(auto, using(std::proofs::Common::append_assoc))]
+fn push_fault(text: &mut String, fault: SheetFault) -> Result<(), AllocError>
+    ensures { OnOk result (string_bytes text.new ≡ string_bytes text.old ++ fault_end fault) }
+{
+    text.push_str(" (")?;
+    text.push_str(fault.text().as_str())?;
+    text.push_str(")\n")
 }

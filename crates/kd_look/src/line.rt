@@ -32,106 +32,109 @@ enum Sought {
     AnyKey,
 }
 
-/// The item of `items` with the number `entry`, counted from 1, if it is a table.
-fn entry_of(items: &[Value], entry: usize) -> Option<&Table>
-    ensures { option_map (λ table. table_view table.now) result ≡ entry_of (map view items.now) entry }
+/// The line of each of `findings`, found by cutting off `text` after each line in turn.
+///
+/// A finding's line is the first line such that the cut text is a document with the entry or key to look for. `None` if
+/// there is no such line, or `text` is too long.
+pub fn lines_of(
+    alloc: Global,
+    text: &[u8],
+    findings: &[Finding],
+) -> Result<Vec<Option<usize>>, AllocError>
+    ensures { IfOk result (λ lines. lines.items ≡ map (line_of text.now) findings.now) }
 {
-    let place = entry.checked_sub(1)?;
-    let item = items.get(place)?;
-    item.as_table()
-}
-
-/// The table that has a value: `document` itself or, if `entry` is a number, the item with this number in its array
-/// `day`.
-#[tactic(auto, unfolding(crate::specs::Line::table_at))]
-fn table_at(document: &Table, entry: Option<usize>) -> Option<&Table>
-    ensures { option_map (λ table. table_view table.now) result
-        ≡ table_at (table_view document.now) entry }
-{
-    match entry {
-        Some(entry) => entry_of(entries_of(document)?, entry),
-        None => Some(document),
-    }
-}
-
-fn has_any_key(document: &Table) -> bool
-    ensures { result ≡ has_any_key (table_view document.now) }
-{
-    !document.is_empty()
-}
-
-/// Whether a table has `key`: the entry with the number `entry` or, if `entry` is `None`, `document` itself.
-fn has_key(document: &Table, entry: Option<usize>, key: Key) -> bool
-    ensures { result
-        ≡ option_map_or (is_given key) (table_at (table_view document.now) entry) false }
-{
-    match table_at(document, entry) {
-        Some(table) => find_at(table, key).is_some(),
-        None => false,
-    }
-}
-
-#[tactic(auto, unfolding(crate::specs::Line::has_value))]
-fn has_value(document: &Table, sought: Sought) -> bool
-    ensures { result ≡ has_value sought (table_view document.now) }
-{
-    match sought {
-        Sought::Entry(entry) => table_at(document, Some(entry)).is_some(),
-        Sought::Key(entry, key) => has_key(document, entry, key),
-        Sought::AnyKey => has_any_key(document),
-    }
-}
-
-/// The entry or key to look for if `key` is missing:
-/// - in an entry: the entry itself
-/// - in the document, and `key` is `day`: any key of the document
-/// - in the document, and `key` isn't `day`: `None`
-fn sought_without(entry: Option<usize>, key: Key) -> Option<Sought>
-    ensures { result ≡ sought_without entry key }
-{
-    match (entry, key) {
-        (Some(entry), _) => Some(Sought::Entry(entry)),
-        (None, Key::Day) => Some(Sought::AnyKey),
-        (None, _) => None,
-    }
-}
-
-/// The entry or key to look for, to find the line of `finding`.
-fn sought_for(finding: &Finding) -> Option<Sought>
-    ensures { result ≡ sought_for finding.now.place finding.now.fault }
-{
-    let Place { entry, key, .. } = finding.place;
-    match finding.fault {
-        SheetFault::Missing(missing) => sought_without(entry, missing),
-        _ => Some(Sought::Key(entry, key)),
-    }
-}
-
-/// `line`, if `document` has the entry or key to look for; otherwise `None`.
-#[tactic(auto, unfolding(crate::specs::Line::line_in))]
-fn line_in(document: &Table, line: usize, finding: &Finding) -> Option<usize>
-    ensures { result ≡ line_in (table_view document.now) line finding.now }
-{
-    let sought = sought_for(finding)?;
-    if has_value(document, sought) {
-        Some(line)
+    if is_too_long(text) {
+        no_lines(alloc, findings)
     } else {
-        None
+        seek_lines(alloc, text, findings)
     }
 }
 
-/// The line `known`, if there is one. Otherwise `line`, if `document` has the entry or key to look for.
-fn known_line(
-    known: Option<usize>,
-    document: &Table,
-    line: usize,
-    finding: &Finding,
-) -> Option<usize>
-    ensures { result ≡ or_line known (line_in (table_view document.now) line finding.now) }
+/// Whether `text` is too long to look for lines in it.
+fn is_too_long(text: &[u8]) -> bool
+    ensures { result ≡ is_too_long text.now }
 {
-    match known {
-        Some(known) => Some(known),
-        None => line_in(document, line, finding),
+    text.len() > MOST_BYTES || text.iter().filter(|byte| **byte == b'\n').count() > MOST_LINES
+}
+
+/// The line of each of `findings` in `text`, whatever the length of `text`.
+fn seek_lines(
+    alloc: Global,
+    text: &[u8],
+    findings: &[Finding],
+) -> Result<Vec<Option<usize>>, AllocError>
+    ensures { IfOk result (λ lines. lines.items
+        ≡ map (line_so_far text.now (length text.now)) findings.now) }
+{
+    let mut lines = no_lines(alloc, findings)?;
+    let mut line = 1;
+    for (index, byte) in text.iter().enumerate() {
+        lines = lines_after(alloc, text, index, line, findings, lines)?;
+        if *byte == b'\n' {
+            line += 1;
+        }
+    }
+    Ok(lines)
+}
+
+/// A list with a `None` for each of `findings`: no line is known.
+fn no_lines(alloc: Global, findings: &[Finding]) -> Result<Vec<Option<usize>>, AllocError>
+    ensures { IfOk result (λ lines. lines.items ≡ map (λ finding. None) findings.now) }
+{
+    let mut lines = Vec::new(alloc);
+    for finding in findings {
+        lines.push(None)?;
+    }
+    Ok(lines)
+}
+
+/// The lines of `findings` that end at the byte at `index` or earlier. `lines` has the lines that end earlier.
+fn lines_after(
+    alloc: Global,
+    text: &[u8],
+    index: usize,
+    line: usize,
+    findings: &[Finding],
+    lines: Vec<Option<usize>>,
+) -> Result<Vec<Option<usize>>, AllocError>
+    requires within { index < length text.now }
+    requires so_far { lines.items ≡ map (line_so_far text.now index) findings.now }
+    requires line { line ≡ line_at text.now index }
+    ensures { IfOk result (λ next. next.items ≡ map (line_so_far text.now (index + 1)) findings.now) }
+{
+    if ends_line(text, index) {
+        lines_with(alloc, &text[..index + 1], line, findings, lines)
+    } else {
+        Ok(lines)
+    }
+}
+
+/// Whether a line ends after the byte at `index`.
+fn ends_line(text: &[u8], index: usize) -> bool
+    requires { index < length text.now }
+    ensures { result ≡ ends_line text.now index }
+{
+    text[index] == b'\n' || index + 1 == text.len()
+}
+
+/// Returns `lines`, the lines of `findings`. A finding without a line gets `line`, if `text` is a document with the
+/// entry or key to look for.
+fn lines_with(
+    alloc: Global,
+    text: &[u8],
+    line: usize,
+    findings: &[Finding],
+    lines: Vec<Option<usize>>,
+) -> Result<Vec<Option<usize>>, AllocError>
+    requires { length lines.items ≡ length findings.now }
+    ensures { (before : Finding → Option ℕ) → lines.items ≡ map before findings.now
+        → IfOk result (λ next. next.items ≡ map (λ finding.
+        or_line (before finding) (line_in_text text.now line finding)) findings.now) }
+{
+    match parse_table(alloc, text) {
+        Ok(document) => next_lines(alloc, &document, line, findings, lines.as_slice()),
+        Err(SheetFault::NoMemory) => Err(AllocError),
+        Err(_) => Ok(lines),
     }
 }
 
@@ -156,108 +159,105 @@ fn next_lines(
     Ok(next)
 }
 
-/// Returns `lines`, the lines of `findings`. A finding without a line gets `line`, if `text` is a document with the
-/// entry or key to look for.
-fn lines_with(
-    alloc: Global,
-    text: &[u8],
+/// The line `known`, if there is one. Otherwise `line`, if `document` has the entry or key to look for.
+fn known_line(
+    known: Option<usize>,
+    document: &Table,
     line: usize,
-    findings: &[Finding],
-    lines: Vec<Option<usize>>,
-) -> Result<Vec<Option<usize>>, AllocError>
-    requires { length lines.items ≡ length findings.now }
-    ensures { (before : Finding → Option ℕ) → lines.items ≡ map before findings.now
-        → IfOk result (λ next. next.items ≡ map (λ finding.
-        or_line (before finding) (line_in_text text.now line finding)) findings.now) }
+    finding: &Finding,
+) -> Option<usize>
+    ensures { result ≡ or_line known (line_in (table_view document.now) line finding.now) }
 {
-    match parse_table(alloc, text) {
-        Ok(document) => next_lines(alloc, &document, line, findings, lines.as_slice()),
-        Err(SheetFault::NoMemory) => Err(AllocError),
-        Err(_) => Ok(lines),
+    match known {
+        Some(known) => Some(known),
+        None => line_in(document, line, finding),
     }
 }
 
-/// Whether a line ends after the byte at `index`.
-fn ends_line(text: &[u8], index: usize) -> bool
-    requires { index < length text.now }
-    ensures { result ≡ ends_line text.now index }
+/// `line`, if `document` has the entry or key to look for; otherwise `None`.
+#[tactic(auto, unfolding(crate::specs::Line::line_in))]
+fn line_in(document: &Table, line: usize, finding: &Finding) -> Option<usize>
+    ensures { result ≡ line_in (table_view document.now) line finding.now }
 {
-    text[index] == b'\n' || index + 1 == text.len()
-}
-
-/// The lines of `findings` that end at the byte at `index` or earlier. `lines` has the lines that end earlier.
-fn lines_after(
-    alloc: Global,
-    text: &[u8],
-    index: usize,
-    line: usize,
-    findings: &[Finding],
-    lines: Vec<Option<usize>>,
-) -> Result<Vec<Option<usize>>, AllocError>
-    requires within { index < length text.now }
-    requires so_far { lines.items ≡ map (line_so_far text.now index) findings.now }
-    requires line { line ≡ line_at text.now index }
-    ensures { IfOk result (λ next. next.items ≡ map (line_so_far text.now (index + 1)) findings.now) }
-{
-    if ends_line(text, index) {
-        lines_with(alloc, &text[..index + 1], line, findings, lines)
+    let sought = sought_for(finding)?;
+    if has_value(document, sought) {
+        Some(line)
     } else {
-        Ok(lines)
+        None
     }
 }
 
-/// Whether `text` is too long to look for lines in it.
-fn is_too_long(text: &[u8]) -> bool
-    ensures { result ≡ is_too_long text.now }
+/// The entry or key to look for, to find the line of `finding`.
+fn sought_for(finding: &Finding) -> Option<Sought>
+    ensures { result ≡ sought_for finding.now.place finding.now.fault }
 {
-    text.len() > MOST_BYTES || text.iter().filter(|byte| **byte == b'\n').count() > MOST_LINES
+    let Place { entry, key, .. } = finding.place;
+    match finding.fault {
+        SheetFault::Missing(missing) => sought_without(entry, missing),
+        _ => Some(Sought::Key(entry, key)),
+    }
 }
 
-/// A list with a `None` for each of `findings`: no line is known.
-fn no_lines(alloc: Global, findings: &[Finding]) -> Result<Vec<Option<usize>>, AllocError>
-    ensures { IfOk result (λ lines. lines.items ≡ map (λ finding. None) findings.now) }
+/// The entry or key to look for if `key` is missing:
+/// - in an entry: the entry itself
+/// - in the document, and `key` is `day`: any key of the document
+/// - in the document, and `key` isn't `day`: `None`
+fn sought_without(entry: Option<usize>, key: Key) -> Option<Sought>
+    ensures { result ≡ sought_without entry key }
 {
-    let mut lines = Vec::new(alloc);
-    for finding in findings {
-        lines.push(None)?;
+    match (entry, key) {
+        (Some(entry), _) => Some(Sought::Entry(entry)),
+        (None, Key::Day) => Some(Sought::AnyKey),
+        (None, _) => None,
     }
-    Ok(lines)
 }
 
-/// The line of each of `findings` in `text`, whatever the length of `text`.
-fn seek_lines(
-    alloc: Global,
-    text: &[u8],
-    findings: &[Finding],
-) -> Result<Vec<Option<usize>>, AllocError>
-    ensures { IfOk result (λ lines. lines.items
-        ≡ map (line_so_far text.now (length text.now)) findings.now) }
+#[tactic(auto, unfolding(crate::specs::Line::has_value))]
+fn has_value(document: &Table, sought: Sought) -> bool
+    ensures { result ≡ has_value sought (table_view document.now) }
 {
-    let mut lines = no_lines(alloc, findings)?;
-    let mut line = 1;
-    for (index, byte) in text.iter().enumerate() {
-        lines = lines_after(alloc, text, index, line, findings, lines)?;
-        if *byte == b'\n' {
-            line += 1;
-        }
+    match sought {
+        Sought::Entry(entry) => table_at(document, Some(entry)).is_some(),
+        Sought::Key(entry, key) => has_key(document, entry, key),
+        Sought::AnyKey => has_any_key(document),
     }
-    Ok(lines)
 }
 
-/// The line of each of `findings`, found by cutting off `text` after each line in turn.
-///
-/// A finding's line is the first line such that the cut text is a document with the entry or key to look for. `None` if
-/// there is no such line, or `text` is too long.
-pub fn lines_of(
-    alloc: Global,
-    text: &[u8],
-    findings: &[Finding],
-) -> Result<Vec<Option<usize>>, AllocError>
-    ensures { IfOk result (λ lines. lines.items ≡ map (line_of text.now) findings.now) }
+/// Whether a table has `key`: the entry with the number `entry` or, if `entry` is `None`, `document` itself.
+fn has_key(document: &Table, entry: Option<usize>, key: Key) -> bool
+    ensures { result
+        ≡ option_map_or (is_given key) (table_at (table_view document.now) entry) false }
 {
-    if is_too_long(text) {
-        no_lines(alloc, findings)
-    } else {
-        seek_lines(alloc, text, findings)
+    match table_at(document, entry) {
+        Some(table) => find_at(table, key).is_some(),
+        None => false,
     }
+}
+
+/// The table that has a value: `document` itself or, if `entry` is a number, the item with this number in its array
+/// `day`.
+#[tactic(auto, unfolding(crate::specs::Line::table_at))]
+fn table_at(document: &Table, entry: Option<usize>) -> Option<&Table>
+    ensures { option_map (λ table. table_view table.now) result
+        ≡ table_at (table_view document.now) entry }
+{
+    match entry {
+        Some(entry) => entry_of(entries_of(document)?, entry),
+        None => Some(document),
+    }
+}
+
+/// The item of `items` with the number `entry`, counted from 1, if it is a table.
+fn entry_of(items: &[Value], entry: usize) -> Option<&Table>
+    ensures { option_map (λ table. table_view table.now) result ≡ entry_of (map view items.now) entry }
+{
+    let place = entry.checked_sub(1)?;
+    let item = items.get(place)?;
+    item.as_table()
+}
+
+fn has_any_key(document: &Table) -> bool
+    ensures { result ≡ has_any_key (table_view document.now) }
+{
+    !document.is_empty()
 }

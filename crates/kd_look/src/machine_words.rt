@@ -21,39 +21,70 @@ pub enum Thing {
     Bar,
 }
 
-/// Appends the start of a line: the thing's name and its number.
-#[tactic(auto, using(std::proofs::Common::append_assoc), unfolding(crate::specs::MachineWords::label))]
-fn push_label(text: &mut String, name: &str, number: u8) -> Result<(), AllocError>
-    ensures { OnOk result (string_bytes text.new ≡ string_bytes text.old ++ label name.now number) }
+/// Appends a line for the model, the reflector, and each slot, cable, pin wheel and bar of `machine`.
+#[tactic(auto, using(std::proofs::Common::append_assoc), unfolding(crate::specs::MachineWords::machine_words))]
+pub fn push_machine(text: &mut String, machine: &Machine) -> Result<(), AllocError>
+    ensures { OnOk result (string_bytes text.new ≡ string_bytes text.old ++ machine_words machine.now) }
 {
-    text.push_str(name)?;
-    text.push_str(" ")?;
-    push_number(text, number)?;
-    text.push_str(": ")
+    text.push_str("model ")?;
+    text.push_str(machine.model().text().as_str())?;
+    text.push_str("\n")?;
+    push_reflector(text, machine)?;
+    push_things(text, machine, Thing::Slot, 4)?;
+    push_things(text, machine, Thing::Cable, 13)?;
+    push_things(text, machine, Thing::PinWheel, 6)?;
+    push_things(text, machine, Thing::Bar, 27)
 }
 
-/// Appends the letter. If there is no letter, appends nothing.
-fn push_optional_letter(text: &mut String, letter: Option<Letter>) -> Result<(), AllocError>
-    ensures { OnOk result (string_bytes text.new ≡ string_bytes text.old ++ letter_words letter) }
+/// Appends the lines of all things of this sort, with the numbers from 1 to `count`.
+fn push_things(
+    text: &mut String,
+    machine: &Machine,
+    thing: Thing,
+    count: u8,
+) -> Result<(), AllocError>
+    requires { count < 255 }
+    ensures { OnOk result
+        (string_bytes text.new ≡ string_bytes text.old ++ things_words machine.now thing count) }
 {
-    match letter {
-        Some(letter) => push_letter(text, letter),
-        None => Ok(()),
+    for index in 0..count {
+        push_thing(text, machine, thing, index + 1)?;
+    }
+    Ok(())
+}
+
+/// Appends the line of the thing of this sort with the number `number`, if the machine has this thing.
+#[tactic(auto, unfolding(crate::specs::MachineWords::thing_words))]
+fn push_thing(
+    text: &mut String,
+    machine: &Machine,
+    thing: Thing,
+    number: u8,
+) -> Result<(), AllocError>
+    ensures { OnOk result
+        (string_bytes text.new ≡ string_bytes text.old ++ thing_words machine.now thing number) }
+{
+    match thing {
+        Thing::Slot => push_slot(text, machine, number),
+        Thing::Cable => push_cable(text, machine, number),
+        Thing::PinWheel => push_pin_wheel(text, machine, number),
+        Thing::Bar => push_bar(text, machine, number),
     }
 }
 
-/// Appends a ring as a letter and as a number.
-#[tactic(auto, using(std::proofs::Common::append_assoc), unfolding(crate::specs::MachineWords::ring_words))]
-fn push_ring(text: &mut String, ring: Option<Letter>) -> Result<(), AllocError>
-    ensures { OnOk result (string_bytes text.new ≡ string_bytes text.old ++ ring_words ring) }
+/// Appends the line of slot `slot`, if the machine has this slot.
+#[tactic(auto, using(std::proofs::Common::append_assoc), unfolding(crate::specs::MachineWords::slot_words))]
+fn push_slot(text: &mut String, machine: &Machine, slot: u8) -> Result<(), AllocError>
+    ensures { OnOk result (string_bytes text.new ≡ string_bytes text.old ++ slot_words machine.now slot) }
 {
-    let Some(ring) = ring else {
+    let Some(held) = machine.slot(slot) else {
         return Ok(());
     };
-    push_letter(text, ring)?;
-    text.push_str(" (")?;
-    push_two_digits(text, ring.index() as u8 + 1)?;
-    text.push_str(")")
+    push_label(text, "slot", slot)?;
+    match held {
+        Some(wheel) => push_wheel(text, machine, wheel),
+        None => text.push_str("empty\n"),
+    }
 }
 
 /// Appends a wheel with its ring and its window letter.
@@ -71,18 +102,39 @@ fn push_wheel(text: &mut String, machine: &Machine, wheel: Wheel) -> Result<(), 
     text.push_str("\n")
 }
 
-/// Appends the line of slot `slot`, if the machine has this slot.
-#[tactic(auto, using(std::proofs::Common::append_assoc), unfolding(crate::specs::MachineWords::slot_words))]
-fn push_slot(text: &mut String, machine: &Machine, slot: u8) -> Result<(), AllocError>
-    ensures { OnOk result (string_bytes text.new ≡ string_bytes text.old ++ slot_words machine.now slot) }
+/// Appends a ring as a letter and as a number.
+#[tactic(auto, using(std::proofs::Common::append_assoc), unfolding(crate::specs::MachineWords::ring_words))]
+fn push_ring(text: &mut String, ring: Option<Letter>) -> Result<(), AllocError>
+    ensures { OnOk result (string_bytes text.new ≡ string_bytes text.old ++ ring_words ring) }
 {
-    let Some(held) = machine.slot(slot) else {
+    let Some(ring) = ring else {
         return Ok(());
     };
-    push_label(text, "slot", slot)?;
-    match held {
-        Some(wheel) => push_wheel(text, machine, wheel),
-        None => text.push_str("empty\n"),
+    push_letter(text, ring)?;
+    text.push_str(" (")?;
+    push_two_digits(text, ring.index() as u8 + 1)?;
+    text.push_str(")")
+}
+
+/// Appends the letter. If there is no letter, appends nothing.
+fn push_optional_letter(text: &mut String, letter: Option<Letter>) -> Result<(), AllocError>
+    ensures { OnOk result (string_bytes text.new ≡ string_bytes text.old ++ letter_words letter) }
+{
+    match letter {
+        Some(letter) => push_letter(text, letter),
+        None => Ok(()),
+    }
+}
+
+/// Appends the line of cable `cable`, if the machine has this cable, and the cable has a letter.
+#[tactic(auto, unfolding(crate::specs::MachineWords::cable_words))]
+fn push_cable(text: &mut String, machine: &Machine, cable: u8) -> Result<(), AllocError>
+    ensures { OnOk result
+        (string_bytes text.new ≡ string_bytes text.old ++ cable_words machine.now cable) }
+{
+    match machine.cable(cable) {
+        Some((one, other)) => push_cable_line(text, cable, one, other),
+        None => Ok(()),
     }
 }
 
@@ -133,25 +185,32 @@ fn push_loose_cable(text: &mut String, cable: u8, letter: Letter) -> Result<(), 
     text.push_str(", one end free\n")
 }
 
-/// Appends the line of cable `cable`, if the machine has this cable, and the cable has a letter.
-#[tactic(auto, unfolding(crate::specs::MachineWords::cable_words))]
-fn push_cable(text: &mut String, machine: &Machine, cable: u8) -> Result<(), AllocError>
+/// Appends the line of pin wheel `wheel`, if the machine has this wheel.
+#[tactic(auto, using(std::proofs::Common::append_assoc), unfolding(crate::specs::MachineWords::pin_wheel_words))]
+fn push_pin_wheel(text: &mut String, machine: &Machine, wheel: u8) -> Result<(), AllocError>
     ensures { OnOk result
-        (string_bytes text.new ≡ string_bytes text.old ++ cable_words machine.now cable) }
+        (string_bytes text.new ≡ string_bytes text.old ++ pin_wheel_words machine.now wheel) }
 {
-    match machine.cable(cable) {
-        Some((one, other)) => push_cable_line(text, cable, one, other),
-        None => Ok(()),
-    }
+    let Some(shown) = machine.shown(wheel) else {
+        return Ok(());
+    };
+    push_label(text, "wheel", wheel)?;
+    text.push_str("window ")?;
+    push_letter(text, shown)?;
+    text.push_str(", effective pins:")?;
+    push_pins(text, machine, wheel)?;
+    text.push_str("\n")
 }
 
-#[tactic(auto, using(std::proofs::Common::append_assoc))]
-fn push_spaced_letter(text: &mut String, letter: Letter) -> Result<(), AllocError>
+/// Appends the letters of the effective pins of pin wheel `wheel`.
+fn push_pins(text: &mut String, machine: &Machine, wheel: u8) -> Result<(), AllocError>
     ensures { OnOk result (string_bytes text.new
-        ≡ string_bytes text.old ++ (codes " " ++ letters_text (letter ∷ []))) }
+        ≡ string_bytes text.old ++ flat_map (pin_words machine.now wheel) (range_with_len 0 26)) }
 {
-    text.push_str(" ")?;
-    push_letter(text, letter)
+    for index in 0..26 {
+        push_pin(text, machine, wheel, Letter::at(index))?;
+    }
+    Ok(())
 }
 
 /// Appends a space and `letter`, if the pin at this letter of pin wheel `wheel` is effective.
@@ -171,32 +230,13 @@ fn push_pin(
     }
 }
 
-/// Appends the letters of the effective pins of pin wheel `wheel`.
-fn push_pins(text: &mut String, machine: &Machine, wheel: u8) -> Result<(), AllocError>
+#[tactic(auto, using(std::proofs::Common::append_assoc))]
+fn push_spaced_letter(text: &mut String, letter: Letter) -> Result<(), AllocError>
     ensures { OnOk result (string_bytes text.new
-        ≡ string_bytes text.old ++ flat_map (pin_words machine.now wheel) (range_with_len 0 26)) }
+        ≡ string_bytes text.old ++ (codes " " ++ letters_text (letter ∷ []))) }
 {
-    for index in 0..26 {
-        push_pin(text, machine, wheel, Letter::at(index))?;
-    }
-    Ok(())
-}
-
-/// Appends the line of pin wheel `wheel`, if the machine has this wheel.
-#[tactic(auto, using(std::proofs::Common::append_assoc), unfolding(crate::specs::MachineWords::pin_wheel_words))]
-fn push_pin_wheel(text: &mut String, machine: &Machine, wheel: u8) -> Result<(), AllocError>
-    ensures { OnOk result
-        (string_bytes text.new ≡ string_bytes text.old ++ pin_wheel_words machine.now wheel) }
-{
-    let Some(shown) = machine.shown(wheel) else {
-        return Ok(());
-    };
-    push_label(text, "wheel", wheel)?;
-    text.push_str("window ")?;
-    push_letter(text, shown)?;
-    text.push_str(", effective pins:")?;
-    push_pins(text, machine, wheel)?;
-    text.push_str("\n")
+    text.push_str(" ")?;
+    push_letter(text, letter)
 }
 
 /// Appends the line of bar `bar`, if the machine has this bar.
@@ -212,40 +252,15 @@ fn push_bar(text: &mut String, machine: &Machine, bar: u8) -> Result<(), AllocEr
     text.push_str("\n")
 }
 
-/// Appends the line of the thing of this sort with the number `number`, if the machine has this thing.
-#[tactic(auto, unfolding(crate::specs::MachineWords::thing_words))]
-fn push_thing(
-    text: &mut String,
-    machine: &Machine,
-    thing: Thing,
-    number: u8,
-) -> Result<(), AllocError>
-    ensures { OnOk result
-        (string_bytes text.new ≡ string_bytes text.old ++ thing_words machine.now thing number) }
+/// Appends the start of a line: the thing's name and its number.
+#[tactic(auto, using(std::proofs::Common::append_assoc), unfolding(crate::specs::MachineWords::label))]
+fn push_label(text: &mut String, name: &str, number: u8) -> Result<(), AllocError>
+    ensures { OnOk result (string_bytes text.new ≡ string_bytes text.old ++ label name.now number) }
 {
-    match thing {
-        Thing::Slot => push_slot(text, machine, number),
-        Thing::Cable => push_cable(text, machine, number),
-        Thing::PinWheel => push_pin_wheel(text, machine, number),
-        Thing::Bar => push_bar(text, machine, number),
-    }
-}
-
-/// Appends the lines of all things of this sort, with the numbers from 1 to `count`.
-fn push_things(
-    text: &mut String,
-    machine: &Machine,
-    thing: Thing,
-    count: u8,
-) -> Result<(), AllocError>
-    requires { count < 255 }
-    ensures { OnOk result
-        (string_bytes text.new ≡ string_bytes text.old ++ things_words machine.now thing count) }
-{
-    for index in 0..count {
-        push_thing(text, machine, thing, index + 1)?;
-    }
-    Ok(())
+    text.push_str(name)?;
+    text.push_str(" ")?;
+    push_number(text, number)?;
+    text.push_str(": ")
 }
 
 /// Appends the line of the reflector, if the machine has one.
@@ -258,19 +273,4 @@ fn push_reflector(text: &mut String, machine: &Machine) -> Result<(), AllocError
     text.push_str("reflector ")?;
     text.push_str(reflector.text().as_str())?;
     text.push_str("\n")
-}
-
-/// Appends a line for the model, the reflector, and each slot, cable, pin wheel and bar of `machine`.
-#[tactic(auto, using(std::proofs::Common::append_assoc), unfolding(crate::specs::MachineWords::machine_words))]
-pub fn push_machine(text: &mut String, machine: &Machine) -> Result<(), AllocError>
-    ensures { OnOk result (string_bytes text.new ≡ string_bytes text.old ++ machine_words machine.now) }
-{
-    text.push_str("model ")?;
-    text.push_str(machine.model().text().as_str())?;
-    text.push_str("\n")?;
-    push_reflector(text, machine)?;
-    push_things(text, machine, Thing::Slot, 4)?;
-    push_things(text, machine, Thing::Cable, 13)?;
-    push_things(text, machine, Thing::PinWheel, 6)?;
-    push_things(text, machine, Thing::Bar, 27)
 }

@@ -6,7 +6,6 @@ ghost use Rattle.kd_look.specs.MissingDays.{machine_model, missing_lines, missin
 ghost use Rattle.kd_look.specs.MissingDays.{no_day_end, no_day_start, no_day_words, known_of, serves};
 
 use crate::file::File;
-use crate::sheet_words::has_model;
 use kd_slips::model_name;
 use kd_tables::Model;
 use std::alloc::{AllocError, Global};
@@ -18,6 +17,32 @@ pub struct ReadFile<'f> {
     pub file: Option<File>,
 }
 
+/// The warnings about machines for which no key sheet has a day. There are no warnings if there is no key sheet.
+pub fn missing_day_warnings(alloc: Global, files: &[ReadFile<'_>]) -> Result<String, AllocError>
+    ensures { IfOk result (λ lines. string_bytes lines ≡ missing_words (map known_of files.now)) }
+{
+    let mut lines = String::new(alloc);
+    for file in files {
+        push_missing(&mut lines, files, file)?;
+    }
+    Ok(lines)
+}
+
+/// Appends the warnings about `file`, if it is a machine file, and no key sheet of `files` has a day for the machine.
+fn push_missing(
+    lines: &mut String,
+    files: &[ReadFile<'_>],
+    file: &ReadFile<'_>,
+) -> Result<(), AllocError>
+    ensures { OnOk result (string_bytes lines.new
+        ≡ string_bytes lines.old ++ missing_lines (map known_of files.now) (known_of file.now)) }
+{
+    match machine_model(file) {
+        Some(model) if !is_served(model, files) => push_no_days(lines, file.name, model, files),
+        Some(_) | None => Ok(()),
+    }
+}
+
 /// The machine's model; `None` if the file isn't a machine file.
 fn machine_model(file: &ReadFile<'_>) -> Option<Model>
     ensures { result ≡ machine_model (known_of file.now) }
@@ -25,16 +50,6 @@ fn machine_model(file: &ReadFile<'_>) -> Option<Model>
     match &file.file {
         Some(File::Machine(machine)) => Some(machine.model()),
         Some(File::Sheet(_)) | None => None,
-    }
-}
-
-/// Whether `file` is a key sheet that has a day for `model`.
-fn serves(model: Model, file: &ReadFile<'_>) -> bool
-    ensures { result ≡ serves model (known_of file.now) }
-{
-    match &file.file {
-        Some(File::Sheet(sheet)) => has_model(sheet, model),
-        Some(File::Machine(_)) | None => false,
     }
 }
 
@@ -48,64 +63,13 @@ fn is_served(model: Model, files: &[ReadFile<'_>]) -> bool
     }
 }
 
-/// Appends three texts.
-#[tactic(auto, using(std::proofs::Common::append_assoc))]
-fn push_three(lines: &mut String, first: &str, second: &str, third: &str) -> Result<(), AllocError>
-    ensures { OnOk result (string_bytes lines.new
-        ≡ string_bytes lines.old ++ (first.now ++ second.now ++ third.now)) }
+/// Whether `file` is a key sheet that has a day for `model`.
+fn serves(model: Model, file: &ReadFile<'_>) -> bool
+    ensures { result ≡ serves model (known_of file.now) }
 {
-    lines.push_str(first)?;
-    lines.push_str(second)?;
-    lines.push_str(third)
-}
-
-/// Appends the start of a warning: the name of the machine file, and the name of the key sheet.
-#[tactic(auto, unfolding(crate::specs::MissingDays::no_day_start))]
-fn push_no_day_start(lines: &mut String, name: &str, sheet: &str) -> Result<(), AllocError>
-    ensures { OnOk result (string_bytes lines.new
-        ≡ string_bytes lines.old ++ no_day_start name.now sheet.now) }
-{
-    push_three(lines, name, ": warning: ", sheet)
-}
-
-/// Appends the end of a warning: the key sheet has no day for the machine. `model` is the machine's model in words.
-#[tactic(auto, unfolding(crate::specs::MissingDays::no_day_end))]
-fn push_no_day_end(lines: &mut String, model: &str) -> Result<(), AllocError>
-    ensures { OnOk result (string_bytes lines.new ≡ string_bytes lines.old ++ no_day_end model.now) }
-{
-    push_three(lines, " has no day for ", model, "\n")
-}
-
-/// Appends a warning that the key sheet `sheet` has no day for the machine in the file `name`. `model` is the machine's
-/// model in words.
-#[tactic(auto, using(std::proofs::Common::append_assoc))]
-fn push_no_day_words(
-    lines: &mut String,
-    name: &str,
-    sheet: &str,
-    model: &str,
-) -> Result<(), AllocError>
-    ensures { OnOk result (string_bytes lines.new
-        ≡ string_bytes lines.old ++ no_day_words name.now sheet.now model.now) }
-{
-    push_no_day_start(lines, name, sheet)?;
-    push_no_day_end(lines, model)
-}
-
-/// Appends a warning that `sheet` has no day for the machine in the file `name`. Appends nothing if `sheet` isn't a key
-/// sheet.
-fn push_no_day(
-    lines: &mut String,
-    name: &str,
-    model: Model,
-    sheet: &ReadFile<'_>,
-) -> Result<(), AllocError>
-    ensures { OnOk result (string_bytes lines.new
-        ≡ string_bytes lines.old ++ no_day_line name.now model (known_of sheet.now)) }
-{
-    match &sheet.file {
-        Some(File::Sheet(_)) => push_no_day_words(lines, name, sheet.name, model_name(model)),
-        Some(File::Machine(_)) | None => Ok(()),
+    match &file.file {
+        Some(File::Sheet(sheet)) => sheet.has_days_of(model),
+        Some(File::Machine(_)) | None => false,
     }
 }
 
@@ -129,28 +93,63 @@ fn push_no_days(
     }
 }
 
-/// Appends the warnings about `file`, if it is a machine file, and no key sheet of `files` has a day for the machine.
-fn push_missing(
+/// Appends a warning that `sheet` has no day for the machine in the file `name`. Appends nothing if `sheet` isn't a key
+/// sheet.
+fn push_no_day(
     lines: &mut String,
-    files: &[ReadFile<'_>],
-    file: &ReadFile<'_>,
+    name: &str,
+    model: Model,
+    sheet: &ReadFile<'_>,
 ) -> Result<(), AllocError>
     ensures { OnOk result (string_bytes lines.new
-        ≡ string_bytes lines.old ++ missing_lines (map known_of files.now) (known_of file.now)) }
+        ≡ string_bytes lines.old ++ no_day_line name.now model (known_of sheet.now)) }
 {
-    match machine_model(file) {
-        Some(model) if !is_served(model, files) => push_no_days(lines, file.name, model, files),
-        Some(_) | None => Ok(()),
+    match &sheet.file {
+        Some(File::Sheet(_)) => push_no_day_words(lines, name, sheet.name, model_name(model)),
+        Some(File::Machine(_)) | None => Ok(()),
     }
 }
 
-/// The warnings about machines for which no key sheet has a day. There are no warnings if there is no key sheet.
-pub fn missing_day_warnings(alloc: Global, files: &[ReadFile<'_>]) -> Result<String, AllocError>
-    ensures { IfOk result (λ lines. string_bytes lines ≡ missing_words (map known_of files.now)) }
+/// Appends a warning that the key sheet `sheet` has no day for the machine in the file `name`. `model` is the machine's
+/// model in words.
+#[tactic(auto, using(std::proofs::Common::append_assoc))]
+fn push_no_day_words(
+    lines: &mut String,
+    name: &str,
+    sheet: &str,
+    model: &str,
+) -> Result<(), AllocError>
+    ensures { OnOk result (string_bytes lines.new
+        ≡ string_bytes lines.old ++ no_day_words name.now sheet.now model.now) }
 {
-    let mut lines = String::new(alloc);
-    for file in files {
-        push_missing(&mut lines, files, file)?;
-    }
-    Ok(lines)
+    push_no_day_start(lines, name, sheet)?;
+    push_no_day_end(lines, model)
+}
+
+/// Appends the start of a warning: the name of the machine file, and the name of the key sheet.
+#[tactic(auto, unfolding(crate::specs::MissingDays::no_day_start))]
+fn push_no_day_start(lines: &mut String, name: &str, sheet: &str) -> Result<(), AllocError>
+    ensures { OnOk result (string_bytes lines.new
+        ≡ string_bytes lines.old ++ no_day_start name.now sheet.now) }
+{
+    push_three(lines, name, ": warning: ", sheet)
+}
+
+/// Appends the end of a warning: the key sheet has no day for the machine. `model` is the machine's model in words.
+#[tactic(auto, unfolding(crate::specs::MissingDays::no_day_end))]
+fn push_no_day_end(lines: &mut String, model: &str) -> Result<(), AllocError>
+    ensures { OnOk result (string_bytes lines.new ≡ string_bytes lines.old ++ no_day_end model.now) }
+{
+    push_three(lines, " has no day for ", model, "\n")
+}
+
+/// Appends three texts.
+#[tactic(auto, using(std::proofs::Common::append_assoc))]
+fn push_three(lines: &mut String, first: &str, second: &str, third: &str) -> Result<(), AllocError>
+    ensures { OnOk result (string_bytes lines.new
+        ≡ string_bytes lines.old ++ (first.now ++ second.now ++ third.now)) }
+{
+    lines.push_str(first)?;
+    lines.push_str(second)?;
+    lines.push_str(third)
 }

@@ -24,38 +24,6 @@ pub struct Report {
     pub file: Option<File>,
 }
 
-/// Appends the words for the content of the file `name`.
-#[tactic(auto, using(std::proofs::Common::append_assoc), unfolding(crate::specs::Report::file_words))]
-fn push_file(text: &mut String, name: &str, file: &File) -> Result<(), AllocError>
-    ensures { OnOk result (string_bytes text.new
-        ≡ string_bytes text.old ++ file_words name.now file.now) }
-{
-    text.push_str(name)?;
-    match file {
-        File::Machine(machine) => {
-            text.push_str(": a machine file without a fault\n")?;
-            push_machine(text, machine)
-        }
-        File::Sheet(sheet) => {
-            text.push_str(": a key sheet without a fault\n")?;
-            push_sheet(text, sheet)
-        }
-    }
-}
-
-/// The words for the content of the file `name`, and then the file's warnings.
-fn description(alloc: Global, bytes: &[u8], name: &str, file: &File) -> Result<String, AllocError>
-    ensures { IfOk result (λ text. Describes name.now bytes.now file.now (string_bytes text)) }
-{
-    let mut text = String::new(alloc);
-    push_file(&mut text, name, file)?;
-    let keys = key_warnings(alloc, bytes, name)?;
-    text.push_str(keys.as_str())?;
-    let days = day_warnings(alloc, name, file)?;
-    text.push_str(days.as_str())?;
-    Ok(text)
-}
-
 /// Makes the report on the file called `name`, with the content `bytes`.
 pub fn make_report(alloc: Global, bytes: &[u8], name: &str) -> Result<Report, AllocError>
     ensures report { IfOk result (λ made. IsReport name.now bytes.now (string_bytes made.text)) }
@@ -74,5 +42,37 @@ pub fn make_report(alloc: Global, bytes: &[u8], name: &str) -> Result<Report, Al
             outcome: Outcome::Faulty(fault),
             file: None,
         }),
+    }
+}
+
+/// The words for the content of the file `name`, and then the file's warnings.
+fn description(alloc: Global, bytes: &[u8], name: &str, file: &File) -> Result<String, AllocError>
+    ensures { IfOk result (λ text. Describes name.now bytes.now file.now (string_bytes text)) }
+{
+    let mut text = String::new(alloc);
+    push_file(&mut text, name, file)?;
+    let keys = key_warnings(alloc, bytes, name)?;
+    text.push_str(keys.as_str())?;
+    let days = day_warnings(alloc, name, file)?;
+    text.push_str(days.as_str())?;
+    Ok(text)
+}
+
+/// Appends the words for the content of the file `name`.
+#[tactic(auto, using(std::proofs::Common::append_assoc), unfolding(crate::specs::Report::file_words))]
+fn push_file(text: &mut String, name: &str, file: &File) -> Result<(), AllocError>
+    ensures { OnOk result (string_bytes text.new
+        ≡ string_bytes text.old ++ file_words name.now file.now) }
+{
+    text.push_str(name)?;
+    match file {
+        File::Machine(machine) => {
+            text.push_str(": a machine file without a fault\n")?;
+            push_machine(text, machine)
+        }
+        File::Sheet(sheet) => {
+            text.push_str(": a key sheet without a fault\n")?;
+            push_sheet(text, sheet)
+        }
     }
 }

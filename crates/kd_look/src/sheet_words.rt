@@ -1,8 +1,8 @@
 //! A key sheet in words: lines for the days of each model, and lines for the days without groups.
-ghost use Rattle.std.specs.Prelude.{codes, ◌≡◌, ◌<◌, ◌++◌, true, false, OnOk};
+ghost use Rattle.std.specs.Prelude.{codes, ◌≡◌, ◌<◌, ◌++◌, true, false, OnOk, flat_map};
 ghost use Rattle.std.specs.String.{string_bytes};
-ghost use Rattle.kd_look.specs.SheetWords.{is_of_sort, has_day, day_words, numbered_day_words, sort_words};
-ghost use Rattle.kd_look.specs.SheetWords.{has_model, model_words, sheet_words};
+ghost use Rattle.kd_look.specs.SheetWords.{lacks_groups, has_day, day_words, numbered_day_words, sort_words};
+ghost use Rattle.kd_look.specs.SheetWords.{model_words, sheet_words};
 
 use crate::texts::push_number;
 use kd_sheet::Sheet;
@@ -19,52 +19,46 @@ pub enum Sort {
     WithoutGroups,
 }
 
-fn is_of_sort(sort: Sort, day: &SheetDay) -> bool
-    ensures { result ≡ is_of_sort sort day.now }
+/// Appends the lines for the days of each model, and for the days without groups.
+#[tactic(auto, using(std::proofs::Common::append_assoc), unfolding(crate::specs::SheetWords::sheet_words))]
+pub fn push_sheet(text: &mut String, sheet: &Sheet) -> Result<(), AllocError>
+    ensures { OnOk result (string_bytes text.new ≡ string_bytes text.old ++ sheet_words sheet.now) }
 {
-    match sort {
-        Sort::Of(model) => day.model() == model,
-        Sort::WithoutGroups => match day.groups() {
-            Some(groups) => groups.is_empty(),
-            None => false,
-        },
+    push_models(text, sheet, &Model::ALL)?;
+    push_sort(text, sheet, "without groups", Sort::WithoutGroups)
+}
+
+/// Appends the lines for the days of each of `models`.
+#[tactic(auto, using(std::proofs::Common::append_assoc))]
+fn push_models(text: &mut String, sheet: &Sheet, models: &[Model]) -> Result<(), AllocError>
+    ensures { OnOk result (string_bytes text.new
+        ≡ string_bytes text.old ++ flat_map (model_words sheet.now) models.now) }
+{
+    match models {
+        [model, rest @ ..] => {
+            push_model(text, sheet, *model)?;
+            push_models(text, sheet, rest)
+        }
+        [] => Ok(()),
     }
 }
 
-/// Whether `sheet` has the day `number`, and the day is of this sort.
-#[tactic(auto, unfolding(crate::specs::SheetWords::has_day))]
-fn has_day(sheet: &Sheet, sort: Sort, number: u8) -> bool
-    ensures { result ≡ has_day sheet.now sort number }
+fn push_model(text: &mut String, sheet: &Sheet, model: Model) -> Result<(), AllocError>
+    ensures { OnOk result (string_bytes text.new ≡ string_bytes text.old ++ model_words sheet.now model) }
 {
-    match sheet.day(number) {
-        Some(day) => is_of_sort(sort, day),
-        None => false,
-    }
+    push_sort(text, sheet, model.text().as_str(), Sort::Of(model))
 }
 
-/// Appends `title` and the first day of a line. If the line has no further day, also ends the line.
-#[tactic(auto, using(std::proofs::Common::append_assoc), unfolding(crate::specs::SheetWords::day_words))]
-fn push_first_day(text: &mut String, title: &str, after: bool, number: u8) -> Result<(), AllocError>
+/// Appends the lines for the days of this sort. Each line begins with `title`.
+#[tactic(auto, unfolding(crate::specs::SheetWords::sort_words))]
+fn push_sort(text: &mut String, sheet: &Sheet, title: &str, sort: Sort) -> Result<(), AllocError>
     ensures { OnOk result
-        (string_bytes text.new ≡ string_bytes text.old ++ day_words title.now false after number) }
+        (string_bytes text.new ≡ string_bytes text.old ++ sort_words sheet.now title.now sort) }
 {
-    text.push_str(title)?;
-    text.push_str(if after { ": days " } else { ": day " })?;
-    push_number(text, number)?;
-    text.push_str(if after { " to " } else { "\n" })
-}
-
-/// Appends a line's last day, and ends the line. If the next day also belongs to the line, appends nothing.
-#[tactic(auto, using(std::proofs::Common::append_assoc), unfolding(crate::specs::SheetWords::day_words))]
-fn push_last_day(text: &mut String, title: &str, after: bool, number: u8) -> Result<(), AllocError>
-    ensures { OnOk result
-        (string_bytes text.new ≡ string_bytes text.old ++ day_words title.now true after number) }
-{
-    if after {
-        return Ok(());
+    for index in 0..31 {
+        push_day(text, sheet, title, sort, index + 1)?;
     }
-    push_number(text, number)?;
-    text.push_str("\n")
+    Ok(())
 }
 
 /// Appends the words for the day `number` to the lines of this sort, if the day is of this sort.
@@ -91,39 +85,51 @@ fn push_day(
     }
 }
 
-/// Appends the lines for the days of this sort. Each line begins with `title`.
-#[tactic(auto, unfolding(crate::specs::SheetWords::sort_words))]
-fn push_sort(text: &mut String, sheet: &Sheet, title: &str, sort: Sort) -> Result<(), AllocError>
-    ensures { OnOk result
-        (string_bytes text.new ≡ string_bytes text.old ++ sort_words sheet.now title.now sort) }
+/// Whether `sheet` has the day `number`, and the day is of this sort.
+#[tactic(auto, unfolding(crate::specs::SheetWords::has_day))]
+fn has_day(sheet: &Sheet, sort: Sort, number: u8) -> bool
+    ensures { result ≡ has_day sheet.now sort number }
 {
-    for index in 0..31 {
-        push_day(text, sheet, title, sort, index + 1)?;
+    match sort {
+        Sort::Of(model) => sheet.has_day_of(model, number),
+        Sort::WithoutGroups => match sheet.day(number) {
+            Some(day) => lacks_groups(day),
+            None => false,
+        },
     }
-    Ok(())
 }
 
-fn push_model(text: &mut String, sheet: &Sheet, model: Model) -> Result<(), AllocError>
-    ensures { OnOk result (string_bytes text.new ≡ string_bytes text.old ++ model_words sheet.now model) }
+/// Whether `day` is a rotor machine's day without groups.
+fn lacks_groups(day: &SheetDay) -> bool
+    ensures { result ≡ lacks_groups day.now }
 {
-    push_sort(text, sheet, model.text().as_str(), Sort::Of(model))
+    match day.groups() {
+        Some(groups) => groups.is_empty(),
+        None => false,
+    }
 }
 
-/// Appends the lines for the days of each model, and for the days without groups.
-#[tactic(auto, using(std::proofs::Common::append_assoc), unfolding(crate::specs::SheetWords::sheet_words))]
-pub fn push_sheet(text: &mut String, sheet: &Sheet) -> Result<(), AllocError>
-    ensures { OnOk result (string_bytes text.new ≡ string_bytes text.old ++ sheet_words sheet.now) }
+/// Appends a line's last day, and ends the line. If the next day also belongs to the line, appends nothing.
+#[tactic(auto, using(std::proofs::Common::append_assoc), unfolding(crate::specs::SheetWords::day_words))]
+fn push_last_day(text: &mut String, title: &str, after: bool, number: u8) -> Result<(), AllocError>
+    ensures { OnOk result
+        (string_bytes text.new ≡ string_bytes text.old ++ day_words title.now true after number) }
 {
-    push_model(text, sheet, Model::EnigmaI)?;
-    push_model(text, sheet, Model::M3)?;
-    push_model(text, sheet, Model::M4)?;
-    push_model(text, sheet, Model::M209)?;
-    push_sort(text, sheet, "without groups", Sort::WithoutGroups)
+    if after {
+        return Ok(());
+    }
+    push_number(text, number)?;
+    text.push_str("\n")
 }
 
-/// Whether `sheet` has a day for `model`.
-pub fn has_model(sheet: &Sheet, model: Model) -> bool
-    ensures { result ≡ has_model sheet.now model }
+/// Appends `title` and the first day of a line. If the line has no further day, also ends the line.
+#[tactic(auto, using(std::proofs::Common::append_assoc), unfolding(crate::specs::SheetWords::day_words))]
+fn push_first_day(text: &mut String, title: &str, after: bool, number: u8) -> Result<(), AllocError>
+    ensures { OnOk result
+        (string_bytes text.new ≡ string_bytes text.old ++ day_words title.now false after number) }
 {
-    (1..32).any(|number| has_day(sheet, Sort::Of(model), number))
+    text.push_str(title)?;
+    text.push_str(if after { ": days " } else { ": day " })?;
+    push_number(text, number)?;
+    text.push_str(if after { " to " } else { "\n" })
 }

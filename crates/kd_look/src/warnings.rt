@@ -13,12 +13,25 @@ use kd_sheet::by_key::parse_table;
 use kd_sheet::{Sheet, SheetFault};
 use std::alloc::{AllocError, Global};
 
-/// Whether the bytes begin with the byte order mark of UTF-8.
-#[tactic(auto, unfolding(crate::specs::Warnings::has_mark))]
-fn has_mark(bytes: &[u8]) -> bool
-    ensures { result ≡ has_mark bytes.now }
+/// The warnings about a byte order mark and the keys of a file. Each warning is a line.
+pub fn key_warnings(alloc: Global, bytes: &[u8], name: &str) -> Result<String, AllocError>
+    ensures { IfOk result (λ lines. AreKeyWarnings name.now bytes.now (string_bytes lines)) }
 {
-    bytes.len() > 2 && bytes[0] == 239 && bytes[1] == 187 && bytes[2] == 191
+    let mut lines = String::new(alloc);
+    push_mark(&mut lines, bytes, name)?;
+    let of_document = document_warnings(alloc, bytes, name)?;
+    lines.push_str(of_document.as_str())?;
+    Ok(lines)
+}
+
+/// The warnings about the days of a key sheet. Each warning is a line.
+pub fn day_warnings(alloc: Global, name: &str, file: &File) -> Result<String, AllocError>
+    ensures { IfOk result (λ lines. WarnsOfFile name.now file.now (string_bytes lines)) }
+{
+    match file {
+        File::Machine(_) => Ok(String::new(alloc)),
+        File::Sheet(sheet) => sheet_warnings(alloc, name, sheet),
+    }
 }
 
 /// Appends the warning about a byte order mark, if the file begins with one.
@@ -37,6 +50,14 @@ fn push_mark(lines: &mut String, bytes: &[u8], name: &str) -> Result<(), AllocEr
     }
 }
 
+/// Whether the bytes begin with the byte order mark of UTF-8.
+#[tactic(auto, unfolding(crate::specs::Warnings::has_mark))]
+fn has_mark(bytes: &[u8]) -> bool
+    ensures { result ≡ has_mark bytes.now }
+{
+    bytes.len() > 2 && bytes[0] == 239 && bytes[1] == 187 && bytes[2] == 191
+}
+
 /// The warnings about the keys of a file; empty if the file isn't a document.
 fn document_warnings(alloc: Global, bytes: &[u8], name: &str) -> Result<String, AllocError>
     ensures { IfOk result (λ lines. MatchResult (document_of bytes.now)
@@ -49,17 +70,6 @@ fn document_warnings(alloc: Global, bytes: &[u8], name: &str) -> Result<String, 
     }
 }
 
-/// The warnings about a byte order mark and the keys of a file. Each warning is a line.
-pub fn key_warnings(alloc: Global, bytes: &[u8], name: &str) -> Result<String, AllocError>
-    ensures { IfOk result (λ lines. AreKeyWarnings name.now bytes.now (string_bytes lines)) }
-{
-    let mut lines = String::new(alloc);
-    push_mark(&mut lines, bytes, name)?;
-    let of_document = document_warnings(alloc, bytes, name)?;
-    lines.push_str(of_document.as_str())?;
-    Ok(lines)
-}
-
 /// The warnings about the days of `sheet`. Each warning is a line.
 fn sheet_warnings(alloc: Global, name: &str, sheet: &Sheet) -> Result<String, AllocError>
     ensures { IfOk result (λ lines. WarnsOfMonth name.now sheet.now (string_bytes lines)) }
@@ -68,14 +78,4 @@ fn sheet_warnings(alloc: Global, name: &str, sheet: &Sheet) -> Result<String, Al
     push_alike_days(&mut lines, alloc, name, sheet)?;
     push_few_days(&mut lines, alloc, name, sheet)?;
     Ok(lines)
-}
-
-/// The warnings about the days of a key sheet. Each warning is a line.
-pub fn day_warnings(alloc: Global, name: &str, file: &File) -> Result<String, AllocError>
-    ensures { IfOk result (λ lines. WarnsOfFile name.now file.now (string_bytes lines)) }
-{
-    match file {
-        File::Machine(_) => Ok(String::new(alloc)),
-        File::Sheet(sheet) => sheet_warnings(alloc, name, sheet),
-    }
 }

@@ -1,11 +1,10 @@
 -- How a machine file is read, key by key in the order of testing. The result is the machine that the file describes, or
 -- the first fault.
 -- Test: tests/cases/desk-files.toml
-use Rattle.std.specs.Prelude.{ℕ, nat_le, List, [], ◌∷◌, length, Result, Ok, ok_or}
+use Rattle.std.specs.Prelude.{ℕ, nat_le, List, length, Result, Ok, ok_or}
 use Rattle.toml.specs.Data.{Members, as_str}
-use Rattle.kd_tables.specs.Tables.{box_of, model_text, reflector_text, reflectors_of}
+use Rattle.kd_tables.specs.Tables.{all_models, box_of, by_family, family_of, model_text, reflector_text, reflectors_of}
 use Rattle.kd_tables.specs.declared.model.Model.{Model}
-use Rattle.kd_tables.specs.declared.model.Model.TheVariants.{EnigmaI, M3, M4, M209}
 use Rattle.kd_tables.specs.declared.reflector.Reflector.{Reflector}
 use Rattle.kd_state.specs.Machine.{with_cables_in_order}
 use Rattle.kd_state.specs.declared.machine.rotor_parts.RotorParts.{RotorParts}
@@ -27,7 +26,7 @@ use Rattle.kd_sheet.specs.declared.fault.SheetFault.TheVariants.{UnknownModel}
 
 unfoldable pub model_in : Members → Result Model SheetFault
 model_in table = read_at keys.Model as_str table
-    >>= (λ name. ok_or (find_by_text model_text (EnigmaI ∷ M3 ∷ M4 ∷ M209 ∷ []) name) UnknownModel)
+    >>= (λ name. ok_or (find_by_text model_text all_models name) UnknownModel)
 
 unfoldable pub reflector_in : Model → Members → Result Reflector SheetFault
 reflector_in model table = read_at keys.Reflector (from_text (find_by_text reflector_text (reflectors_of model))) table
@@ -51,8 +50,9 @@ pin_parts_in table = do
   Ok (record { pins = pins; letters = letters; bars = bars })
 
 unfoldable pub parts_in : Model → Members → Result Parts SheetFault
-parts_in M209 table = pin_parts_in table >>= (λ parts. Ok (Pin parts))
-parts_in model table = rotor_parts_in model table >>= (λ parts. Ok (with_cables_in_order (Rotor parts)))
+parts_in model table = by_family
+    (rotor_parts_in model table >>= (λ parts. Ok (with_cables_in_order (Rotor parts))))
+    (pin_parts_in table >>= (λ parts. Ok (Pin parts))) (family_of model)
 
 -- the machine that a machine file's bytes describe, or the file's first fault
 abbrev pub machine_of : List ℕ → Result Parts SheetFault

@@ -7,7 +7,7 @@ use Rattle.kd_tables.specs.Places.{digit_text, standing_text}
 use Rattle.kd_tables.specs.Rings.{ring_of}
 use Rattle.kd_tables.specs.Tables.{model_text, reflector_text, wheel_text}
 use Rattle.kd_tables.specs.declared.model.Model.{Model}
-use Rattle.kd_tables.specs.declared.model.Model.TheVariants.{M4, M209}
+use Rattle.kd_tables.specs.declared.model.Model.TheVariants.{EnigmaI, M3, M4, M209}
 use Rattle.kd_tables.specs.declared.wheel.Wheel.{Wheel}
 use Rattle.kd_tables.specs.Text.{letters_text}
 use Rattle.kd_pins.specs.declared.pin_set.PinSet.{PinSet}
@@ -34,8 +34,10 @@ key_line key value = key_name key ++ codes " = " ++ value ++ codes "\n"
 
 -- the version in which machines of `model` are written: the lowest version that has this model
 abbrev pub file_version : Model → ℕ
+file_version EnigmaI = 1
+file_version M3 = 1
 file_version M4 = 2
-file_version _ = 1
+file_version M209 = 1
 
 -- the name of the wheel in a slot, or the empty text if the slot is empty
 abbrev pub slot_text : Option Wheel → List ℕ

@@ -5,9 +5,8 @@ use Rattle.std.specs.Prelude.{ℕ, nat_eq, nat_le, ◌==◌, not, List, [], ◌�
 use Rattle.std.specs.List.{list_any}
 use Rattle.std.specs.Option.{option_and_then, option_map_or}
 use Rattle.toml.specs.Data.{Data, string, Members, get_member, as_table}
-use Rattle.kd_tables.specs.Tables.{slots_of}
+use Rattle.kd_tables.specs.Tables.{by_family, family_of, slots_of}
 use Rattle.kd_tables.specs.declared.model.Model.{Model}
-use Rattle.kd_tables.specs.declared.model.Model.TheVariants.{M209}
 use Rattle.kd_tables.specs.declared.wheel.Wheel.{Wheel}
 use Rattle.kd_state.specs.SheetDay.{Day, Rotor, Pin, day_number}
 use Rattle.kd_state.specs.declared.sheet_day.rotor_entry.SheetWheel.{SheetWheel}
@@ -65,8 +64,7 @@ pin_day_in number table = do
   Ok (Pin (record { day = number; rows = rows; pins = pins; window = window; list = list }))
 
 unfoldable pub day_in : ℕ → Model → Members → Result Day SheetFault
-day_in number M209 table = pin_day_in number table
-day_in number model table = rotor_day_in number model table
+day_in number model table = by_family (rotor_day_in number model table) (pin_day_in number table) (family_of model)
 
 -- the day that `item` describes, or the item's first fault; `days` are the days of the items before `item`
 unfoldable pub day_for : List Day → Data → Result Day SheetFault

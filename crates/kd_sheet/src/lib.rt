@@ -15,9 +15,10 @@ pub mod writing;
 
 pub use fault::SheetFault;
 pub use key::Key;
-pub use machine_reader::read_machine;
+pub use machine_reader::{LATEST_VERSION, file_version, read_machine};
 pub use machine_writer::write_machine;
-pub use sheet::Sheet;
+pub use sheet::{DAYS, Sheet};
 pub use sheet_reader::read_sheet;
+pub use values::bars::BARS;
 pub use values::pin_wheels::pins_of_text;
 pub use values::rows::reading_of_text;

@@ -1,32 +1,32 @@
 //! Writes machine files of all models.
 ghost use Rattle.std.specs.{Prelude.{◌≡◌, ◌≤◌, ◌||◌, is_err, Ok}, List.{concat}};
 ghost use Rattle.arrayvec.specs.ArrayString.{array_string_len};
-ghost use Rattle.kd_tables.specs.{Places.{digit_text}, Writing.{Writes}};
+ghost use Rattle.kd_tables.specs.Writing.{Writes};
 ghost use Rattle.kd_state.specs.Machine.{AreLegalRotorParts, AreLegalPinParts};
-ghost use Rattle.kd_sheet.specs.{MachineFile.{machine_of}, MachineText.{file_version, head_file_lines, machine_text}};
+ghost use Rattle.kd_sheet.specs.{MachineFile.{machine_of}, MachineText.{head_file_lines, machine_text}};
 
 use crate::Key;
+use crate::machine_reader::file_version;
 use crate::writing::letters::{pin_texts, push_letters_line};
-use crate::writing::lines::{FileString, push_digit_line, push_list_line, push_text_line};
+use crate::writing::lines::{FileString, push_list_line, push_number_line, push_text_line};
 use kd_state::{Machine, Parts, PinParts, RotorParts};
 use kd_tables::{Device, Model, Sink, put_all};
 
-/// The version in which a machine of `model` is written, as a digit.
-fn file_version(model: Model) -> &'static str
-    ensures value { result.now ≡ digit_text (file_version model) }
+/// Writes the file of `machine`: in version 2 for the M4, otherwise in version 1.
+///
+/// If the call returns `Device`, the sink has taken a prefix of the text. `read_machine` reads the whole text as
+/// `machine`.
+#[tactic(auto, using(crate::proofs::ReadBack::parts_are_read_back))]
+pub fn write_machine<W: Sink>(sink: &mut W, machine: &Machine) -> Result<(), Device>
+    ensures text { Writes (W.taken sink.old) (W.taken sink.new) (machine_text machine.now) result }
+    ensures failed { W.has_failed sink.new ≡ (W.has_failed sink.old || is_err result) }
+    ensures file { machine_of (machine_text machine.now) ≡ Ok machine.now }
 {
-    if model == Model::M4 { "2" } else { "1" }
-}
-
-/// Writes the first two lines of a machine file: the version and the model.
-fn head_text(model: Model) -> FileString
-    ensures bytes { result.bytes ≡ concat (head_file_lines model) }
-    ensures len { array_string_len result ≤ 40 }
-{
-    let mut text = FileString::new();
-    push_digit_line(&mut text, Key::Version, file_version(model));
-    push_text_line(&mut text, Key::Model, model.text().as_str());
-    text
+    let text = match machine.parts() {
+        Parts::Rotor(parts) => rotor_machine_text(parts),
+        Parts::Pin(parts) => pin_machine_text(parts),
+    };
+    put_all(sink, text.as_str().as_bytes())
 }
 
 /// Writes the file of a rotor machine.
@@ -57,19 +57,14 @@ fn pin_machine_text(parts: &PinParts) -> FileString
     text
 }
 
-/// Writes the file of `machine`: in version 2 for the M4, otherwise in version 1.
-///
-/// If the call returns `Device`, the sink has taken a prefix of the text. `read_machine` reads the whole text as
-/// `machine`.
-#[tactic(auto, using(crate::proofs::ReadBack::parts_are_read_back))]
-pub fn write_machine<W: Sink>(sink: &mut W, machine: &Machine) -> Result<(), Device>
-    ensures text { Writes (W.taken sink.old) (W.taken sink.new) (machine_text machine.now) result }
-    ensures failed { W.has_failed sink.new ≡ (W.has_failed sink.old || is_err result) }
-    ensures file { machine_of (machine_text machine.now) ≡ Ok machine.now }
+/// Writes the first two lines of a machine file: the version and the model.
+#[tactic(auto, using(crate::proofs::ReadBack::Described::KeyValues::version_has_one_digit))]
+fn head_text(model: Model) -> FileString
+    ensures bytes { result.bytes ≡ concat (head_file_lines model) }
+    ensures len { array_string_len result ≤ 40 }
 {
-    let text = match machine.parts() {
-        Parts::Rotor(parts) => rotor_machine_text(parts),
-        Parts::Pin(parts) => pin_machine_text(parts),
-    };
-    put_all(sink, text.as_str().as_bytes())
+    let mut text = FileString::new();
+    push_number_line(&mut text, Key::Version, file_version(model));
+    push_text_line(&mut text, Key::Model, model.text().as_str());
+    text
 }

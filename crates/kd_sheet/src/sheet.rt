@@ -1,13 +1,14 @@
 //! A key sheet: a month, in which some days have an entry.
-ghost use Rattle.std.specs.Prelude.{◌≡◌, option_copied, slice_set, ◌-◌, IfSome, List, [], Option, Some};
+ghost use Rattle.std.specs.Prelude.{◌≡◌, ◌↔◌, option_copied, slice_set, ◌-◌, IfSome, IsTrue, List, [], Option, Some};
 ghost use Rattle.kd_state.specs.SheetDay.{Day, day_number};
-ghost use Rattle.kd_sheet.specs.Sheet.{day_of, month_of, IsMonth};
+ghost use Rattle.kd_sheet.specs.Sheet.{day_of, has_day_of, has_days_of, month_of, HasDayOf, IsMonth};
 
 use kd_state::SheetDay;
+use kd_tables::Model as MachineModel;
 use std::marker::Model;
 
 /// The number of days of the longest month.
-pub(crate) const DAYS: u8 = 31;
+pub const DAYS: u8 = 31;
 
 /// A key sheet: a month in which some days have an entry. The days are stored inline, without heap memory.
 #[derive(Drop)]
@@ -42,6 +43,25 @@ impl Sheet {
     {
         let index = usize::from(number).checked_sub(1)?;
         self.days.get(index)?.as_ref()
+    }
+
+    /// Whether the sheet has day `number`, and this day is of `model`.
+    #[tactic(auto, unfolding(crate::specs::Sheet::has_day_of))]
+    pub fn has_day_of(&self, model: MachineModel, number: u8) -> bool
+        ensures value { result ≡ has_day_of model self.now number }
+        ensures day { IsTrue result ↔ HasDayOf model self.now number }
+    {
+        match self.day(number) {
+            Some(day) => day.model() == model,
+            None => false,
+        }
+    }
+
+    /// Whether the sheet has a day of `model`.
+    pub fn has_days_of(&self, model: MachineModel) -> bool
+        ensures { result ≡ has_days_of model self.now }
+    {
+        (1..DAYS + 1).any(|number| self.has_day_of(model, number))
     }
 
     /// Takes day `number` out of the sheet, if the sheet has this day.

@@ -18,17 +18,14 @@ use kd_state::SheetDay;
 use std::alloc::Global;
 use toml::Value;
 
-/// Reads the day that `item` describes, or returns the item's first fault. `sheet` has the days of earlier items.
-#[tactic(auto, using(crate::proofs::ReadBack::Described::day_of_is_some), unfolding(crate::specs::SheetFile::day_for))]
-fn day_for(sheet: &Sheet, item: &Value) -> Result<SheetDay, SheetFault>
-    ensures { (days : List Day) → sheet.now ≡ month_of days → result ≡ day_for days (view item.now) }
+/// Reads a key sheet, or returns its first fault.
+///
+/// `NoMemory` may replace any other result: the contract doesn't say when memory runs out.
+pub fn read_sheet(alloc: Global, bytes: &[u8]) -> Result<Sheet, SheetFault>
+    ensures { AgreesOrNoMemory SheetFault.NoMemory (sheet_of bytes.now) result }
 {
-    let table = item.as_table().ok_or(SheetFault::BadValue(Key::Day))?;
-    let number = number_at(table, Key::Day, DAYS)?;
-    if sheet.day(number).is_some() {
-        return Err(SheetFault::DayTwice(number));
-    }
-    day_in(table, number, model_in(table)?)
+    let table = parse_table(alloc, bytes)?;
+    sheet_of_items(items_at(&table, Key::Day)?)
 }
 
 /// Reads `items` as the days of a sheet.
@@ -44,12 +41,15 @@ fn sheet_of_items(items: &[Value]) -> Result<Sheet, SheetFault>
     Ok(sheet)
 }
 
-/// Reads a key sheet, or returns its first fault.
-///
-/// `NoMemory` may replace any other result: the contract doesn't say when memory runs out.
-pub fn read_sheet(alloc: Global, bytes: &[u8]) -> Result<Sheet, SheetFault>
-    ensures { AgreesOrNoMemory SheetFault.NoMemory (sheet_of bytes.now) result }
+/// Reads the day that `item` describes, or returns the item's first fault. `sheet` has the days of earlier items.
+#[tactic(auto, using(crate::proofs::ReadBack::Described::day_of_is_some), unfolding(crate::specs::SheetFile::day_for))]
+fn day_for(sheet: &Sheet, item: &Value) -> Result<SheetDay, SheetFault>
+    ensures { (days : List Day) → sheet.now ≡ month_of days → result ≡ day_for days (view item.now) }
 {
-    let table = parse_table(alloc, bytes)?;
-    sheet_of_items(items_at(&table, Key::Day)?)
+    let table = item.as_table().ok_or(SheetFault::BadValue(Key::Day))?;
+    let number = number_at(table, Key::Day, DAYS)?;
+    if sheet.day(number).is_some() {
+        return Err(SheetFault::DayTwice(number));
+    }
+    day_in(table, number, model_in(table)?)
 }

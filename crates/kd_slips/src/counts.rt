@@ -38,44 +38,50 @@ pub fn counts_of(day: &SheetDay) -> DayCounts
     }
 }
 
-/// The day's number of pairs or of groups, as `counted` says.
-fn count(counted: Counted, day: &DayCounts) -> usize
-    ensures { result ≡ count counted day.now }
+/// The warnings about all days that have fewer pairs, or fewer groups, than another day of their model. Each warning
+/// begins with `start`.
+pub fn few_lines(alloc: Global, start: &str, days: &[DayCounts]) -> Result<String, AllocError>
+    ensures { IfOk result (λ lines. string_bytes lines ≡ few_lines start.now days.now) }
 {
-    match counted {
-        Counted::Pairs => day.pairs,
-        Counted::Groups => day.groups,
+    let mut lines = String::new(alloc);
+    for day in days {
+        push_day(&mut lines, start, days, day)?;
     }
+    Ok(lines)
 }
 
-/// Whether `other` is for the same model as `day`, and has more pairs or groups.
+/// Appends the warnings about `day`: about its pairs, and about its groups.
+#[tactic(auto, using(std::proofs::Common::append_assoc), unfolding(crate::specs::Counts::day_lines))]
+fn push_day(
+    lines: &mut String,
+    start: &str,
+    days: &[DayCounts],
+    day: &DayCounts,
+) -> Result<(), AllocError>
+    ensures { OnOk result (string_bytes lines.new
+        ≡ string_bytes lines.old ++ day_lines start.now days.now day.now) }
+{
+    push_few(lines, start, days, day, Counted::Pairs)?;
+    push_few(lines, start, days, day, Counted::Groups)
+}
+
+/// Appends the warning about `day`, if another day of the same model in `days` has more pairs or groups.
 ///
 /// `counted` says whether pairs or groups are compared.
-fn has_more(counted: Counted, day: &DayCounts, other: &DayCounts) -> bool
-    ensures { result ≡ has_more counted day.now other.now }
+fn push_few(
+    lines: &mut String,
+    start: &str,
+    days: &[DayCounts],
+    day: &DayCounts,
+    counted: Counted,
+) -> Result<(), AllocError>
+    ensures { OnOk result (string_bytes lines.new
+        ≡ string_bytes lines.old ++ few_line start.now days.now day.now counted) }
 {
-    other.model == day.model && count(counted, day) < count(counted, other)
-}
-
-/// Whether one of `days` is for the same model as `day`, and has more pairs or groups.
-///
-/// `counted` says whether pairs or groups are compared.
-fn is_topped(counted: Counted, day: &DayCounts, days: &[DayCounts]) -> bool
-    ensures { result ≡ list_any (has_more counted day.now) days.now }
-{
-    match days {
-        [other, rest @ ..] => has_more(counted, day, other) || is_topped(counted, day, rest),
-        [] => false,
+    match find_most(counted, days, day, days) {
+        Some(most) => push_words(lines, start, counted, day, &most),
+        None => Ok(()),
     }
-}
-
-/// Whether `other` has more pairs or groups than `day`, and no day in `days` has more than `other`.
-///
-/// Only days of the same model are compared. `counted` says whether pairs or groups are compared.
-fn has_most(counted: Counted, days: &[DayCounts], day: &DayCounts, other: &DayCounts) -> bool
-    ensures { result ≡ has_most counted days.now day.now other.now }
-{
-    has_more(counted, day, other) && !is_topped(counted, other, days)
 }
 
 /// The first of `rest` that has more pairs or groups than `day`, and that no day in `days` surpasses.
@@ -101,40 +107,34 @@ fn find_most(
     }
 }
 
-/// Appends `title`, and then a number in decimal.
-#[tactic(auto, using(std::proofs::Common::append_assoc))]
-fn push_titled(text: &mut String, title: &str, number: usize) -> Result<(), AllocError>
-    ensures { OnOk result (string_bytes text.new
-        ≡ string_bytes text.old ++ title.now ++ decimal number) }
+/// Whether `other` has more pairs or groups than `day`, and no day in `days` has more than `other`.
+///
+/// Only days of the same model are compared. `counted` says whether pairs or groups are compared.
+fn has_most(counted: Counted, days: &[DayCounts], day: &DayCounts, other: &DayCounts) -> bool
+    ensures { result ≡ has_most counted days.now day.now other.now }
 {
-    let mut buffer = Buffer::new();
-    text.push_str(title)?;
-    text.push_str(buffer.format(number))
+    has_more(counted, day, other) && !is_topped(counted, other, days)
 }
 
-/// A space, then the noun `pair` or `group`.
-fn noun(counted: Counted) -> &'static str
-    ensures { result.now ≡ noun counted }
+/// Whether one of `days` is for the same model as `day`, and has more pairs or groups.
+///
+/// `counted` says whether pairs or groups are compared.
+fn is_topped(counted: Counted, day: &DayCounts, days: &[DayCounts]) -> bool
+    ensures { result ≡ list_any (has_more counted day.now) days.now }
 {
-    match counted {
-        Counted::Pairs => " pair",
-        Counted::Groups => " group",
+    match days {
+        [other, rest @ ..] => has_more(counted, day, other) || is_topped(counted, day, rest),
+        [] => false,
     }
 }
 
-/// Appends the words that give a number of pairs or groups, for example `no pairs`.
-#[tactic(auto, using(std::proofs::Common::append_assoc), unfolding(crate::specs::Counts::count_words))]
-fn push_count(text: &mut String, counted: Counted, number: usize) -> Result<(), AllocError>
-    ensures { OnOk result (string_bytes text.new
-        ≡ string_bytes text.old ++ count_words counted number) }
+/// Whether `other` is for the same model as `day`, and has more pairs or groups.
+///
+/// `counted` says whether pairs or groups are compared.
+fn has_more(counted: Counted, day: &DayCounts, other: &DayCounts) -> bool
+    ensures { result ≡ has_more counted day.now other.now }
 {
-    if number == 0 {
-        text.push_str("no")?;
-    } else {
-        push_titled(text, "", number)?;
-    }
-    text.push_str(noun(counted))?;
-    text.push_str(if number == 1 { "" } else { "s" })
+    other.model == day.model && count(counted, day) < count(counted, other)
 }
 
 /// Appends the warning about `day`. `most` is a day of the same model that has the most pairs or groups.
@@ -158,48 +158,48 @@ fn push_words(
     lines.push_str("\n")
 }
 
-/// Appends the warning about `day`, if another day of the same model in `days` has more pairs or groups.
-///
-/// `counted` says whether pairs or groups are compared.
-fn push_few(
-    lines: &mut String,
-    start: &str,
-    days: &[DayCounts],
-    day: &DayCounts,
-    counted: Counted,
-) -> Result<(), AllocError>
-    ensures { OnOk result (string_bytes lines.new
-        ≡ string_bytes lines.old ++ few_line start.now days.now day.now counted) }
+/// Appends the words that give a number of pairs or groups, for example `no pairs`.
+#[tactic(auto, using(std::proofs::Common::append_assoc), unfolding(crate::specs::Counts::count_words))]
+fn push_count(text: &mut String, counted: Counted, number: usize) -> Result<(), AllocError>
+    ensures { OnOk result (string_bytes text.new
+        ≡ string_bytes text.old ++ count_words counted number) }
 {
-    match find_most(counted, days, day, days) {
-        Some(most) => push_words(lines, start, counted, day, &most),
-        None => Ok(()),
+    if number == 0 {
+        text.push_str("no")?;
+    } else {
+        push_titled(text, "", number)?;
+    }
+    text.push_str(noun(counted))?;
+    text.push_str(if number == 1 { "" } else { "s" })
+}
+
+/// Appends `title`, and then a number in decimal.
+#[tactic(auto, using(std::proofs::Common::append_assoc))]
+fn push_titled(text: &mut String, title: &str, number: usize) -> Result<(), AllocError>
+    ensures { OnOk result (string_bytes text.new
+        ≡ string_bytes text.old ++ title.now ++ decimal number) }
+{
+    let mut buffer = Buffer::new();
+    text.push_str(title)?;
+    text.push_str(buffer.format(number))
+}
+
+/// A space, then the noun `pair` or `group`.
+fn noun(counted: Counted) -> &'static str
+    ensures { result.now ≡ noun counted }
+{
+    match counted {
+        Counted::Pairs => " pair",
+        Counted::Groups => " group",
     }
 }
 
-/// Appends the warnings about `day`: about its pairs, and about its groups.
-#[tactic(auto, using(std::proofs::Common::append_assoc), unfolding(crate::specs::Counts::day_lines))]
-fn push_day(
-    lines: &mut String,
-    start: &str,
-    days: &[DayCounts],
-    day: &DayCounts,
-) -> Result<(), AllocError>
-    ensures { OnOk result (string_bytes lines.new
-        ≡ string_bytes lines.old ++ day_lines start.now days.now day.now) }
+/// The day's number of pairs or of groups, as `counted` says.
+fn count(counted: Counted, day: &DayCounts) -> usize
+    ensures { result ≡ count counted day.now }
 {
-    push_few(lines, start, days, day, Counted::Pairs)?;
-    push_few(lines, start, days, day, Counted::Groups)
-}
-
-/// The warnings about all days that have fewer pairs, or fewer groups, than another day of their model. Each warning
-/// begins with `start`.
-pub fn few_lines(alloc: Global, start: &str, days: &[DayCounts]) -> Result<String, AllocError>
-    ensures { IfOk result (λ lines. string_bytes lines ≡ few_lines start.now days.now) }
-{
-    let mut lines = String::new(alloc);
-    for day in days {
-        push_day(&mut lines, start, days, day)?;
+    match counted {
+        Counted::Pairs => day.pairs,
+        Counted::Groups => day.groups,
     }
-    Ok(lines)
 }

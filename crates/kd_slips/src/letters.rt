@@ -5,10 +5,11 @@ ghost use Rattle.std.specs.List.{list_all};
 ghost use Rattle.kd_tables.specs.Rings.{ring_of};
 ghost use Rattle.kd_slips.specs.Items.{HasFault};
 
+use crate::models::box_words;
 use crate::slip::{Slip, refuse};
 use crate::values::{shown, text_at};
 use kd_sheet::{Key, SheetFault};
-use kd_tables::{Letter, place_on_wheel};
+use kd_tables::{Letter, Model, place_on_wheel};
 use std::alloc::{AllocError, Global};
 use toml::Table;
 
@@ -65,6 +66,12 @@ pub fn check_letters(
 ) -> Result<(), Slip> {
     let text = text_at(alloc, table, key)?;
     check_text(alloc, text, SheetFault::BadValue(key), count, of)
+}
+
+/// Checks that the text at `key` has a capital letter for each wheel in the model's box.
+pub fn check_box_letters(alloc: Global, table: &Table, key: Key, model: Model) -> Result<(), Slip> {
+    let of = format!(in alloc; ", one for each of the wheels {}", box_words(model))?;
+    check_letters(alloc, table, key, model.wheels().len(), of.as_str())
 }
 
 /// Checks that `text` has exactly `count` capital letters. The words `of` say what the letters stand for.

@@ -15,4 +15,4 @@ pub mod rings;
 pub mod slip;
 pub mod values;
 
-pub use models::model_name;
+pub use models::{box_words, model_name};

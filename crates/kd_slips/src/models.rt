@@ -1,5 +1,5 @@
 //! Refuses models, reflectors and wheels that the desk doesn't know, or that don't fit together.
-ghost use Rattle.std.specs.Prelude.{◌≡◌, IfErr, IsErr, None};
+ghost use Rattle.std.specs.Prelude.{◌≡◌, ◌≤◌, length, IfErr, IsErr, None};
 ghost use Rattle.kd_sheet.specs.declared.fault.SheetFault.TheVariants.{BadValue, UnknownModel, WheelNotAllowed};
 ghost use Rattle.kd_sheet.specs.declared.fault.SheetFault.TheVariants.{WheelTwice};
 ghost use Rattle.kd_slips.specs.Items.{HasFault};
@@ -15,7 +15,8 @@ use toml::{Table, Value};
 
 /// The model's name, with an article before it.
 pub fn model_name(model: Model) -> &'static str
-    ensures { result.now ≡ model_with_article model }
+    ensures value { result.now ≡ model_with_article model }
+    ensures len { length result.now ≤ 17 }
 {
     match model {
         Model::EnigmaI => "an Enigma I",
@@ -26,7 +27,9 @@ pub fn model_name(model: Model) -> &'static str
 }
 
 /// The wheels in the model's box, in words.
-fn box_words(model: Model) -> &'static str {
+pub fn box_words(model: Model) -> &'static str
+    ensures { length result.now ≤ 25 }
+{
     match model {
         Model::EnigmaI => "I to V",
         Model::M3 => "I to VIII",
@@ -35,98 +38,12 @@ fn box_words(model: Model) -> &'static str {
     }
 }
 
-/// The wheels that slot `slot` of the model takes, in words.
-fn slot_words(model: Model, slot: u8) -> &'static str {
-    match model {
-        Model::M4 if slot == 1 => "Beta or Gamma",
-        Model::M4 => "I to VIII",
-        _ => box_words(model),
-    }
-}
-
-/// The model's reflectors, in words.
-fn reflector_words(model: Model) -> &'static str {
-    match model {
-        Model::EnigmaI => "A, B and C",
-        Model::M3 => "B and C",
-        Model::M4 => "b and c",
-        Model::M209 => "none",
-    }
-}
-
-/// Refuses `name`, which differs from the name `right` only in capital and small letters.
-fn refuse_case<T>(alloc: Global, fault: SheetFault, name: &str, right: &str) -> Result<T, Slip>
-    ensures refused { IsErr result }
-    ensures slip { IfErr result (HasFault fault None) }
-{
-    refuse(
-        fault,
-        format!(in alloc; "capital and small letters: write `{right}` for `{name}`"),
-    )
-}
-
-/// The model with this name. Capital and small letters count as equal.
-fn near_model(name: &str) -> Option<Model> {
-    for model in [Model::EnigmaI, Model::M3, Model::M4, Model::M209] {
-        if model.text().as_str().eq_ignore_ascii_case(name) {
-            return Some(model);
-        }
-    }
-    None
-}
-
-/// The model's reflector with this name. Capital and small letters count as equal.
-fn near_reflector(model: Model, name: &str) -> Option<Reflector> {
-    for reflector in model.reflectors() {
-        if reflector.text().as_str().eq_ignore_ascii_case(name) {
-            return Some(*reflector);
-        }
-    }
-    None
-}
-
-/// The wheel with this name. Capital and small letters count as equal.
-fn near_wheel(name: &str) -> Option<Wheel> {
-    for wheel in Model::M4.wheels() {
-        if wheel.text().as_str().eq_ignore_ascii_case(name) {
-            return Some(*wheel);
-        }
-    }
-    None
-}
-
-/// Refuses a name that no model has.
-fn unknown_model(alloc: Global, name: &str) -> Result<Model, Slip>
-    ensures refused { IsErr result }
-    ensures slip { IfErr result (HasFault UnknownModel None) }
-{
-    let fault = SheetFault::UnknownModel;
-    if let Some(model) = near_model(name) {
-        return refuse_case(alloc, fault, name, model.text().as_str());
-    }
-    let name_shown = shown(alloc, name)?;
-    refuse(
-        fault,
-        format!(in alloc;
-            "{} is no model: write `Enigma I`, `M3`, `M4` or `M-209`",
-            name_shown.as_str()
-        ),
-    )
-}
-
 /// The model at the key `model`, or the reason why there is no valid model.
 pub fn model_at(alloc: Global, table: &Table) -> Result<Model, Slip> {
     let name = text_at(alloc, table, Key::Model)?;
     match Model::from_text(name.as_bytes()) {
         Some(model) => Ok(model),
         None => unknown_model(alloc, name),
-    }
-}
-
-fn has_reflector(model: Model, name: &str) -> bool {
-    match Reflector::from_text(name.as_bytes()) {
-        Some(reflector) => model.reflectors().contains(&reflector),
-        None => false,
     }
 }
 
@@ -152,6 +69,97 @@ pub fn check_reflector(alloc: Global, table: &Table, model: Model) -> Result<(),
     )
 }
 
+/// Checks that the list at `key` has a valid wheel for each slot of the model. In a machine file, a slot may be empty.
+pub fn check_wheels(alloc: Global, table: &Table, key: Key, model: Model) -> Result<(), Slip> {
+    let items = items_at(alloc, table, key)?;
+    check_count(alloc, key, items.len(), usize::from(model.slots()), "slots")?;
+    let mut slot = 1;
+    for item in items {
+        let name = item_text(alloc, item, usize::from(slot), SheetFault::BadValue(key))?;
+        check_wheel(alloc, items, key, model, slot, name)?;
+        if slot < 4 {
+            slot += 1;
+        }
+    }
+    Ok(())
+}
+
+/// The model's reflectors, in words.
+fn reflector_words(model: Model) -> &'static str {
+    match model {
+        Model::EnigmaI => "A, B and C",
+        Model::M3 => "B and C",
+        Model::M4 => "b and c",
+        Model::M209 => "none",
+    }
+}
+
+/// The model's reflector with this name. Capital and small letters count as equal.
+fn near_reflector(model: Model, name: &str) -> Option<Reflector> {
+    for reflector in model.reflectors() {
+        if reflector.text().as_str().eq_ignore_ascii_case(name) {
+            return Some(*reflector);
+        }
+    }
+    None
+}
+
+/// Refuses a name that no model has.
+fn unknown_model(alloc: Global, name: &str) -> Result<Model, Slip>
+    ensures refused { IsErr result }
+    ensures slip { IfErr result (HasFault UnknownModel None) }
+{
+    let fault = SheetFault::UnknownModel;
+    if let Some(model) = near_model(name) {
+        return refuse_case(alloc, fault, name, model.text().as_str());
+    }
+    let name_shown = shown(alloc, name)?;
+    refuse(
+        fault,
+        format!(in alloc;
+            "{} is no model: write `Enigma I`, `M3`, `M4` or `M-209`",
+            name_shown.as_str()
+        ),
+    )
+}
+
+/// The model with this name. Capital and small letters count as equal.
+fn near_model(name: &str) -> Option<Model> {
+    for model in Model::ALL {
+        if model.text().as_str().eq_ignore_ascii_case(name) {
+            return Some(model);
+        }
+    }
+    None
+}
+
+fn has_reflector(model: Model, name: &str) -> bool {
+    match Reflector::from_text(name.as_bytes()) {
+        Some(reflector) => model.reflectors().contains(&reflector),
+        None => false,
+    }
+}
+
+/// Checks the wheel `name` for slot `slot`, in the list `items` at `key`.
+fn check_wheel(
+    alloc: Global,
+    items: &[Value],
+    key: Key,
+    model: Model,
+    slot: u8,
+    name: &str,
+) -> Result<(), Slip> {
+    if matches!(key, Key::Slots) && name.is_empty() {
+        return Ok(());
+    }
+    let wheel = match Wheel::from_text(name.as_bytes()) {
+        Some(wheel) => wheel,
+        None => unknown_wheel(alloc, name, key, model)?,
+    };
+    check_allowed(alloc, model, slot, wheel)?;
+    check_first(alloc, items, slot, name)
+}
+
 /// Refuses a name that no wheel has.
 fn unknown_wheel(alloc: Global, name: &str, key: Key, model: Model) -> Result<Wheel, Slip>
     ensures refused { IsErr result }
@@ -170,6 +178,27 @@ fn unknown_wheel(alloc: Global, name: &str, key: Key, model: Model) -> Result<Wh
             model_name(model),
             box_words(model)
         ),
+    )
+}
+
+/// The wheel with this name. Capital and small letters count as equal.
+fn near_wheel(name: &str) -> Option<Wheel> {
+    for wheel in Model::M4.wheels() {
+        if wheel.text().as_str().eq_ignore_ascii_case(name) {
+            return Some(*wheel);
+        }
+    }
+    None
+}
+
+/// Refuses `name`, which differs from the name `right` only in capital and small letters.
+fn refuse_case<T>(alloc: Global, fault: SheetFault, name: &str, right: &str) -> Result<T, Slip>
+    ensures refused { IsErr result }
+    ensures slip { IfErr result (HasFault fault None) }
+{
+    refuse(
+        fault,
+        format!(in alloc; "capital and small letters: write `{right}` for `{name}`"),
     )
 }
 
@@ -203,6 +232,15 @@ fn check_allowed(alloc: Global, model: Model, slot: u8, wheel: Wheel) -> Result<
     )
 }
 
+/// The wheels that slot `slot` of the model takes, in words.
+fn slot_words(model: Model, slot: u8) -> &'static str {
+    match model {
+        Model::M4 if slot == 1 => "Beta or Gamma",
+        Model::M4 => box_words(Model::M3),
+        Model::EnigmaI | Model::M3 | Model::M209 => box_words(model),
+    }
+}
+
 /// Refuses the wheel `name` in slot `slot`, if an earlier slot has this wheel, too.
 fn check_first(alloc: Global, items: &[Value], slot: u8, name: &str) -> Result<(), Slip>
     ensures { IfErr result (HasFault WheelTwice None) }
@@ -217,41 +255,6 @@ fn check_first(alloc: Global, items: &[Value], slot: u8, name: &str) -> Result<(
                 );
             }
             earlier += 1;
-        }
-    }
-    Ok(())
-}
-
-/// Checks the wheel `name` for slot `slot`, in the list `items` at `key`.
-fn check_wheel(
-    alloc: Global,
-    items: &[Value],
-    key: Key,
-    model: Model,
-    slot: u8,
-    name: &str,
-) -> Result<(), Slip> {
-    if matches!(key, Key::Slots) && name.is_empty() {
-        return Ok(());
-    }
-    let wheel = match Wheel::from_text(name.as_bytes()) {
-        Some(wheel) => wheel,
-        None => unknown_wheel(alloc, name, key, model)?,
-    };
-    check_allowed(alloc, model, slot, wheel)?;
-    check_first(alloc, items, slot, name)
-}
-
-/// Checks that the list at `key` has a valid wheel for each slot of the model. In a machine file, a slot may be empty.
-pub fn check_wheels(alloc: Global, table: &Table, key: Key, model: Model) -> Result<(), Slip> {
-    let items = items_at(alloc, table, key)?;
-    check_count(alloc, key, items.len(), usize::from(model.slots()), "slots")?;
-    let mut slot = 1;
-    for item in items {
-        let name = item_text(alloc, item, usize::from(slot), SheetFault::BadValue(key))?;
-        check_wheel(alloc, items, key, model, slot, name)?;
-        if slot < 4 {
-            slot += 1;
         }
     }
     Ok(())

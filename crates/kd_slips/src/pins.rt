@@ -10,98 +10,10 @@ use crate::letters::{check_capitals, check_on_wheel};
 use crate::slip::{Slip, refuse, refuse_item};
 use crate::values::{check_count, item_text, items_at, shown};
 use kd_sheet::by_key::{bars_in, find_at, rows_in};
-use kd_sheet::{Key, SheetFault, pins_of_text};
+use kd_sheet::{BARS, Key, SheetFault, pins_of_text};
 use kd_tables::{Letter, ring1, ring2, ring3, ring4, ring5, ring6};
 use std::alloc::Global;
 use toml::{Table, Value};
-
-/// The number of bars of the drum.
-const BARS: usize = 27;
-
-/// Adds the item's number to the slip in `checked`. If `checked` has no slip, makes a slip with general words, as the
-/// desk refuses the item in any case.
-fn at_item(alloc: Global, checked: Result<(), Slip>, item: usize) -> Result<(), Slip>
-    ensures refused { IsErr result }
-    ensures slip { IfErr result (IsOfItem (Some item)) }
-{
-    match checked {
-        Ok(()) => refuse_item(
-            SheetFault::BadValue(Key::Pins),
-            item,
-            String::from_str(alloc, "these aren't the pins of the wheel"),
-        ),
-        Err(Slip::Fault(fault, _, words)) => Err(Slip::Fault(fault, Some(item), words)),
-        Err(Slip::NoMemory) => Err(Slip::NoMemory),
-    }
-}
-
-/// Checks that the pins in `text` are on pin wheel `wheel`, and that no pin comes twice.
-fn check_wheel_pins(alloc: Global, wheel: u8, text: &str) -> Result<(), Slip>
-    ensures { IfErr result (HasFault (BadValue keys.Pins) None) }
-{
-    let fault = SheetFault::BadValue(Key::Pins);
-    check_capitals(alloc, text, fault)?;
-    for (place, byte) in text.as_bytes().iter().enumerate() {
-        if let Some(letter) = Letter::from_byte(*byte) {
-            check_on_wheel(alloc, wheel, letter, fault)?;
-        }
-        if text
-            .as_bytes()
-            .iter()
-            .take(place)
-            .any(|earlier| earlier == byte)
-        {
-            return refuse(
-                fault,
-                format!(in alloc; "the pin {} stands twice", char::from(*byte)),
-            );
-        }
-    }
-    Ok(())
-}
-
-/// Whether the desk can read `item` as the pins of pin wheel `wheel`.
-#[tactic(auto, unfolding(crate::specs::Items::reads_pins))]
-fn reads_pins(wheel: u8, item: &Value) -> bool
-    requires first { 1 ≤ wheel }
-    requires last { wheel ≤ 6 }
-    ensures { result ≡ reads_pins wheel (view item.now) }
-{
-    let Some(text) = item.as_str() else {
-        return false;
-    };
-    let text = text.as_bytes();
-    match wheel {
-        1 => pins_of_text(&ring1(), text).is_some(),
-        2 => pins_of_text(&ring2(), text).is_some(),
-        3 => pins_of_text(&ring3(), text).is_some(),
-        4 => pins_of_text(&ring4(), text).is_some(),
-        5 => pins_of_text(&ring5(), text).is_some(),
-        _ => pins_of_text(&ring6(), text).is_some(),
-    }
-}
-
-/// Explains why the desk can't read `item` as the pins of pin wheel `wheel`.
-fn refuse_pins(alloc: Global, wheel: u8, item: &Value) -> Result<(), Slip> {
-    let number = usize::from(wheel);
-    let text = item_text(alloc, item, number, SheetFault::BadValue(Key::Pins))?;
-    check_wheel_pins(alloc, wheel, text)
-}
-
-/// Refuses the first item that the desk can't read as the pins of its wheel.
-fn check_pin_items(alloc: Global, items: &[Value]) -> Result<(), Slip>
-    requires { length items.now ≤ 6 }
-    ensures read { OnOk result (first_refused reads_pins (map view items.now) ≡ None) }
-    ensures item { IfErr result (IsOfItem (first_refused reads_pins (map view items.now))) }
-{
-    for (index, item) in items.iter().enumerate() {
-        let wheel = index as u8 + 1;
-        if !reads_pins(wheel, item) {
-            return at_item(alloc, refuse_pins(alloc, wheel, item), usize::from(wheel));
-        }
-    }
-    Ok(())
-}
 
 /// Checks the pins at the key `pins`. A slip's words are about the first wheel whose pins the desk refuses.
 #[tactic(auto, unfolding(crate::specs::Items::refused_pins))]
@@ -112,45 +24,6 @@ pub fn check_pins(alloc: Global, table: &Table) -> Result<(), Slip>
     let items = items_at(alloc, table, Key::Pins)?;
     check_count(alloc, Key::Pins, items.len(), 6, "wheels")?;
     check_pin_items(alloc, items)
-}
-
-/// Item number `number` of the list at `key`, counted from 1.
-fn numbered_item(table: &Table, key: Key, number: u8) -> Option<&Value> {
-    let items = find_at(table, key)?.as_array()?;
-    items.as_slice().get(usize::from(number).checked_sub(1)?)
-}
-
-/// Refuses item number `number` of the list at `key`. If the item is a text, the slip's words are this text, then
-/// `advice`.
-fn refuse_row(alloc: Global, table: &Table, key: Key, number: u8, advice: &str) -> Result<(), Slip>
-    ensures refused { IsErr result }
-    ensures slip { IfErr result (HasFault (BadRow number) (Some number)) }
-{
-    let fault = SheetFault::BadRow(number);
-    let place = usize::from(number);
-    let Some(item) = numbered_item(table, key, number) else {
-        return refuse_item(fault, place, String::from_str(alloc, "the item is missing"));
-    };
-    let text = item_text(alloc, item, place, fault)?;
-    let text_shown = shown(alloc, text)?;
-    refuse_item(
-        fault,
-        place,
-        format!(in alloc; "{} {advice}", text_shown.as_str()),
-    )
-}
-
-/// Refuses the value at `key`, which isn't a list with an item for each bar.
-fn refuse_list(alloc: Global, table: &Table, key: Key) -> Result<(), Slip>
-    ensures refused { IsErr result }
-    ensures slip { IfErr result IsOfItsRow }
-{
-    let items = items_at(alloc, table, key)?;
-    check_count(alloc, key, items.len(), BARS, "bars")?;
-    refuse(
-        SheetFault::BadValue(key),
-        String::from_str(alloc, "the list has another form"),
-    )
 }
 
 /// Checks the standings at the key `bars`. A slip's words are about the first bar that the desk refuses.
@@ -191,4 +64,128 @@ pub fn check_rows(alloc: Global, table: &Table) -> Result<(), Slip>
         ),
         Err(_) => refuse_list(alloc, table, Key::Rows),
     }
+}
+
+/// Refuses the first item that the desk can't read as the pins of its wheel.
+fn check_pin_items(alloc: Global, items: &[Value]) -> Result<(), Slip>
+    requires { length items.now ≤ 6 }
+    ensures read { OnOk result (first_refused reads_pins (map view items.now) ≡ None) }
+    ensures item { IfErr result (IsOfItem (first_refused reads_pins (map view items.now))) }
+{
+    for (index, item) in items.iter().enumerate() {
+        let wheel = index as u8 + 1;
+        if !reads_pins(wheel, item) {
+            return at_item(alloc, refuse_pins(alloc, wheel, item), usize::from(wheel));
+        }
+    }
+    Ok(())
+}
+
+/// Whether the desk can read `item` as the pins of pin wheel `wheel`.
+#[tactic(auto, unfolding(crate::specs::Items::reads_pins))]
+fn reads_pins(wheel: u8, item: &Value) -> bool
+    requires first { 1 ≤ wheel }
+    requires last { wheel ≤ 6 }
+    ensures { result ≡ reads_pins wheel (view item.now) }
+{
+    let Some(text) = item.as_str() else {
+        return false;
+    };
+    let text = text.as_bytes();
+    match wheel {
+        1 => pins_of_text(&ring1(), text).is_some(),
+        2 => pins_of_text(&ring2(), text).is_some(),
+        3 => pins_of_text(&ring3(), text).is_some(),
+        4 => pins_of_text(&ring4(), text).is_some(),
+        5 => pins_of_text(&ring5(), text).is_some(),
+        _ => pins_of_text(&ring6(), text).is_some(),
+    }
+}
+
+/// Adds the item's number to the slip in `checked`. If `checked` has no slip, makes a slip with general words, as the
+/// desk refuses the item in any case.
+fn at_item(alloc: Global, checked: Result<(), Slip>, item: usize) -> Result<(), Slip>
+    ensures refused { IsErr result }
+    ensures slip { IfErr result (IsOfItem (Some item)) }
+{
+    match checked {
+        Ok(()) => refuse_item(
+            SheetFault::BadValue(Key::Pins),
+            item,
+            String::from_str(alloc, "these aren't the pins of the wheel"),
+        ),
+        Err(Slip::Fault(fault, _, words)) => Err(Slip::Fault(fault, Some(item), words)),
+        Err(Slip::NoMemory) => Err(Slip::NoMemory),
+    }
+}
+
+/// Explains why the desk can't read `item` as the pins of pin wheel `wheel`.
+fn refuse_pins(alloc: Global, wheel: u8, item: &Value) -> Result<(), Slip> {
+    let number = usize::from(wheel);
+    let text = item_text(alloc, item, number, SheetFault::BadValue(Key::Pins))?;
+    check_wheel_pins(alloc, wheel, text)
+}
+
+/// Checks that the pins in `text` are on pin wheel `wheel`, and that no pin comes twice.
+fn check_wheel_pins(alloc: Global, wheel: u8, text: &str) -> Result<(), Slip>
+    ensures { IfErr result (HasFault (BadValue keys.Pins) None) }
+{
+    let fault = SheetFault::BadValue(Key::Pins);
+    check_capitals(alloc, text, fault)?;
+    for (place, byte) in text.as_bytes().iter().enumerate() {
+        if let Some(letter) = Letter::from_byte(*byte) {
+            check_on_wheel(alloc, wheel, letter, fault)?;
+        }
+        if text
+            .as_bytes()
+            .iter()
+            .take(place)
+            .any(|earlier| earlier == byte)
+        {
+            return refuse(
+                fault,
+                format!(in alloc; "the pin {} stands twice", char::from(*byte)),
+            );
+        }
+    }
+    Ok(())
+}
+
+/// Refuses item number `number` of the list at `key`. If the item is a text, the slip's words are this text, then
+/// `advice`.
+fn refuse_row(alloc: Global, table: &Table, key: Key, number: u8, advice: &str) -> Result<(), Slip>
+    ensures refused { IsErr result }
+    ensures slip { IfErr result (HasFault (BadRow number) (Some number)) }
+{
+    let fault = SheetFault::BadRow(number);
+    let place = usize::from(number);
+    let Some(item) = numbered_item(table, key, number) else {
+        return refuse_item(fault, place, String::from_str(alloc, "the item is missing"));
+    };
+    let text = item_text(alloc, item, place, fault)?;
+    let text_shown = shown(alloc, text)?;
+    refuse_item(
+        fault,
+        place,
+        format!(in alloc; "{} {advice}", text_shown.as_str()),
+    )
+}
+
+/// Item number `number` of the list at `key`, counted from 1.
+fn numbered_item(table: &Table, key: Key, number: u8) -> Option<&Value> {
+    let items = find_at(table, key)?.as_array()?;
+    items.as_slice().get(usize::from(number).checked_sub(1)?)
+}
+
+/// Refuses the value at `key`, which isn't a list with an item for each bar.
+fn refuse_list(alloc: Global, table: &Table, key: Key) -> Result<(), Slip>
+    ensures refused { IsErr result }
+    ensures slip { IfErr result IsOfItsRow }
+{
+    let items = items_at(alloc, table, key)?;
+    check_count(alloc, key, items.len(), BARS, "bars")?;
+    refuse(
+        SheetFault::BadValue(key),
+        String::from_str(alloc, "the list has another form"),
+    )
 }

@@ -128,15 +128,6 @@ pub fn items_at(alloc: Global, table: &Table, key: Key) -> Result<&[Value], Slip
     items_of(alloc, value_at(alloc, table, key)?, key)
 }
 
-/// The number of items in a list, in words.
-fn items_words(alloc: Global, len: usize) -> Result<String, AllocError> {
-    match len {
-        0 => String::from_str(alloc, "none stands"),
-        1 => String::from_str(alloc, "1 stands"),
-        _ => format!(in alloc; "{len} stand"),
-    }
-}
-
 /// Checks that a list of `len` items has exactly `count` items. The words `of` say what the items are.
 pub fn check_count(alloc: Global, key: Key, len: usize, count: usize, of: &str) -> Result<(), Slip>
     ensures same { OnOk result (len ≡ count) }
@@ -173,27 +164,6 @@ pub fn check_at_most(alloc: Global, key: Key, len: usize, most: usize, of: &str)
     )
 }
 
-/// Whether `byte` isn't a control character.
-fn is_printed(byte: u8) -> bool
-    ensures { result ≡ is_printed byte }
-{
-    32 <= byte && byte != 127
-}
-
-fn are_printed(bytes: &[u8]) -> bool
-    ensures { result ≡ list_all is_printed bytes.now }
-{
-    bytes.iter().all(|byte| is_printed(*byte))
-}
-
-/// Whether `text` has at most 40 bytes, none of which is a control character.
-#[tactic(auto, unfolding(crate::specs::Shown::can_be_shown))]
-fn can_be_shown(text: &str) -> bool
-    ensures { result ≡ can_be_shown text.now }
-{
-    text.len() <= SHOWN && are_printed(text.as_bytes())
-}
-
 /// `text` in backticks. If `text` is long, or has control characters, only its length in bytes.
 #[tactic(auto, using(std::proofs::Common::append_assoc), unfolding(crate::specs::Shown::shown_text))]
 pub fn shown(alloc: Global, text: &str) -> Result<String, AllocError>
@@ -211,4 +181,34 @@ pub fn shown(alloc: Global, text: &str) -> Result<String, AllocError>
         words.push_str(" bytes")?;
     }
     Ok(words)
+}
+
+/// The number of items in a list, in words.
+fn items_words(alloc: Global, len: usize) -> Result<String, AllocError> {
+    match len {
+        0 => String::from_str(alloc, "none stands"),
+        1 => String::from_str(alloc, "1 stands"),
+        _ => format!(in alloc; "{len} stand"),
+    }
+}
+
+/// Whether `text` has at most 40 bytes, none of which is a control character.
+#[tactic(auto, unfolding(crate::specs::Shown::can_be_shown))]
+fn can_be_shown(text: &str) -> bool
+    ensures { result ≡ can_be_shown text.now }
+{
+    text.len() <= SHOWN && are_printed(text.as_bytes())
+}
+
+fn are_printed(bytes: &[u8]) -> bool
+    ensures { result ≡ list_all is_printed bytes.now }
+{
+    bytes.iter().all(|byte| is_printed(*byte))
+}
+
+/// Whether `byte` isn't a control character.
+fn is_printed(byte: u8) -> bool
+    ensures { result ≡ is_printed byte }
+{
+    32 <= byte && byte != 127
 }

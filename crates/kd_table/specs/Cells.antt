@@ -5,9 +5,8 @@ use Rattle.std.specs.Prelude.{ℕ, nat_le, ◌&&◌, ◌||◌, not, Bool, true, 
 use Rattle.std.specs.List.{list_all}
 use Rattle.std.specs.Option.{option_map_or, option_and_then}
 use Rattle.kd_tables.specs.Rings.{ring_of}
-use Rattle.kd_tables.specs.Tables.{slots_of}
+use Rattle.kd_tables.specs.Tables.{by_family, family_of, slots_of}
 use Rattle.kd_tables.specs.declared.model.Model.{Model}
-use Rattle.kd_tables.specs.declared.model.Model.TheVariants.{M209}
 use Rattle.kd_sheet.specs.PinWheels.{pins_of_text}
 use Rattle.kd_table.specs.Columns.{cell_or}
 use Rattle.kd_table.specs.Items.{exactly, groups_in, is_blank, joined, letters_in, number_in, pairs_in, readings_in, wheels_in}
@@ -54,13 +53,19 @@ has_text options columns cell = is_some (column_of columns cell) || not (is_blan
 
 -- ---- Which cells a row has.
 
--- the cells that a day of this model has besides its number and its model
-abbrev pub cells_of : Model → List Cell
-cells_of M209 =
+-- the cells that a rotor machine's day has besides its number and its model
+abbrev pub rotor_cells : List Cell
+rotor_cells = cells.Reflector ∷ cells.Wheels ∷ cells.Rings ∷ cells.Window ∷ cells.Plugs ∷ cells.Groups ∷ []
+
+-- the cells that a Converter's day has besides its number and its model
+abbrev pub pin_cells : List Cell
+pin_cells =
     cells.List ∷ cells.Window ∷ cells.Pins1 ∷ cells.Pins2 ∷ cells.Pins3 ∷ cells.Pins4 ∷ cells.Pins5 ∷ cells.Pins6
     ∷ cells.Bars ∷ []
-cells_of model =
-    cells.Reflector ∷ cells.Wheels ∷ cells.Rings ∷ cells.Window ∷ cells.Plugs ∷ cells.Groups ∷ []
+
+-- the cells that a day of this model has besides its number and its model
+abbrev pub cells_of : Model → List Cell
+cells_of model = by_family rotor_cells pin_cells (family_of model)
 
 -- the model of a row; `None` if the model's name can't be read
 abbrev pub row_model : OptionTexts → Columns → List (List ℕ) → Option Model
@@ -98,8 +103,8 @@ are_pins wheel text = is_some (joined text >>= pins_of_text (ring_of wheel))
 
 -- how many window letters a machine of this model has; 0 if the model isn't known
 abbrev pub windows : Option Model → ℕ
-windows (Some M209) = 6
-windows model = slots model
+windows (Some model) = by_family (slots_of model) 6 (family_of model)
+windows None = 0
 
 -- whether the text of a cell can be read, in a row of this model
 abbrev pub is_read : Option Model → Cell → List ℕ → Bool

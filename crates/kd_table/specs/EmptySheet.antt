@@ -3,9 +3,8 @@
 -- Test: tests/cases/curator-sheet.toml
 use Rattle.std.specs.Prelude.{codes, false, ℕ, List, [], ◌∷◌, ◌++◌, map, replicate}
 use Rattle.std.specs.List.{range_with_len}
-use Rattle.kd_tables.specs.Tables.{slots_of}
+use Rattle.kd_tables.specs.Tables.{by_family, family_of, slots_of}
 use Rattle.kd_tables.specs.declared.model.Model.{Model}
-use Rattle.kd_tables.specs.declared.model.Model.TheVariants.{M209}
 use Rattle.kd_sheet.specs.MachineText.{quoted_text, array_text, key_line}
 use Rattle.kd_sheet.specs.SheetText.{day_head_lines, sections_text}
 use Rattle.kd_sheet.specs.declared.key.Key.{Key}
@@ -42,8 +41,8 @@ empty_pin_lines =
 
 -- all lines of a day of this model
 abbrev pub empty_day_lines : Model → ℕ → List (List ℕ)
-empty_day_lines M209 number = day_head_lines number M209 ++ empty_pin_lines
-empty_day_lines model number = day_head_lines number model ++ empty_rotor_lines (slots_of model)
+empty_day_lines model number =
+    day_head_lines number model ++ by_family (empty_rotor_lines (slots_of model)) empty_pin_lines (family_of model)
 
 -- the text of a sheet with the days 1 to `days`
 unfoldable pub empty_month_text : Model → ℕ → List ℕ

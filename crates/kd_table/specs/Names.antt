@@ -5,9 +5,9 @@
 use Rattle.std.specs.Prelude.{ℕ, nat_eq, nat_le, ◌-◌, ◌==◌, ◌&&◌, ◌||◌, not, Bool, false, List, [], ◌∷◌, ◌++◌, codes, length, map, filter, find}
 use Rattle.std.specs.Prelude.{bytes_eq, drop, take, Option}
 use Rattle.std.specs.Prelude.{if◌then◌else◌}
-use Rattle.kd_tables.specs.Tables.{box_of, reflectors_of, model_text, reflector_text, wheel_text}
+use Rattle.kd_tables.specs.Tables.{all_models, box_of, reflectors_of, model_text, reflector_text, wheel_text}
 use Rattle.kd_tables.specs.declared.model.Model.{Model}
-use Rattle.kd_tables.specs.declared.model.Model.TheVariants.{EnigmaI, M3, M4, M209}
+use Rattle.kd_tables.specs.declared.model.Model.TheVariants.{M4}
 use Rattle.kd_tables.specs.declared.reflector.Reflector.{Reflector}
 use Rattle.kd_tables.specs.declared.wheel.Wheel.{Wheel}
 
@@ -54,7 +54,7 @@ is_named name cell = nat_le (length cell) 32 && bytes_eq (plain (unquoted cell))
 
 -- the model whose name is in the cell
 abbrev pub model_named : List ℕ → Option Model
-model_named cell = find (λ model. is_named (model_text model) cell) (EnigmaI ∷ M3 ∷ M4 ∷ M209 ∷ [])
+model_named cell = find (λ model. is_named (model_text model) cell) all_models
 
 -- the wheel with the name `word`
 abbrev pub wheel_named : List ℕ → Option Wheel

@@ -3,8 +3,8 @@
 use Rattle.std.specs.Prelude.{◌≡◌, ◌-◌, ◌==◌, ◌&&◌, ◌||◌, ℕ, nat_le, Bool, false, List, [], ◌∷◌, length, Option, Some, None, ⊤, if◌then◌else◌}
 use Rattle.std.specs.List.{list_all, list_any, range_with_len}
 use Rattle.std.specs.Option.{option_map, option_map_or}
+use Rattle.kd_tables.specs.Tables.{by_family, family_of}
 use Rattle.kd_tables.specs.declared.model.Model.{Model}
-use Rattle.kd_tables.specs.declared.model.Model.TheVariants.{M209}
 use Rattle.kd_state.specs.SheetDay.{Day, Rotor, Pin, IsLegalDay}
 use Rattle.kd_table.specs.Columns.{cell_at, cell_or}
 use Rattle.kd_table.specs.Items.{is_blank}
@@ -35,8 +35,9 @@ is_blank_row columns row =
 
 -- the values of a row, read as a day of this model
 abbrev pub values_of_model : OptionTexts → Columns → List (List ℕ) → Model → Option Day
-values_of_model options columns row M209 = option_map Pin (pin_values options columns row)
-values_of_model options columns row model = option_map Rotor (rotor_values options columns row model)
+values_of_model options columns row model =
+    by_family (option_map Rotor (rotor_values options columns row model))
+    (option_map Pin (pin_values options columns row)) (family_of model)
 
 -- whether a row has a cell in each column of the table, and only blank cells beyond the last column
 abbrev pub fits_columns : Columns → List (List ℕ) → Bool

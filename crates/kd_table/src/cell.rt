@@ -16,7 +16,9 @@ use crate::names::{model_named, reflector_named};
 use crate::options::TableOptions;
 use csv::ByteRecord;
 use kd_sheet::pins_of_text;
-use kd_tables::{Letter, Model, Reading, Ring, Wheel, ring1, ring2, ring3, ring4, ring5, ring6};
+use kd_tables::{
+    Family, Letter, Model, Reading, Ring, Wheel, ring1, ring2, ring3, ring4, ring5, ring6,
+};
 
 /// A cell of a row. The cell is named after the value that it has.
 #[derive(Clone, Copy)]
@@ -66,9 +68,9 @@ static PIN_CELLS: [Cell; 9] = [
 pub fn cells_of(model: Model) -> &'static [Cell]
     ensures { result.now ≡ cells_of model }
 {
-    match model {
-        Model::M209 => &PIN_CELLS,
-        Model::EnigmaI | Model::M3 | Model::M4 => &ROTOR_CELLS,
+    match model.family() {
+        Family::Rotor => &ROTOR_CELLS,
+        Family::Pin => &PIN_CELLS,
     }
 }
 
@@ -222,8 +224,11 @@ pub fn windows(model: Option<Model>) -> usize
     ensures { result ≡ windows model }
 {
     match model {
-        Some(Model::M209) => 6,
-        _ => slots(model),
+        Some(model) => match model.family() {
+            Family::Rotor => usize::from(model.slots()),
+            Family::Pin => 6,
+        },
+        None => 0,
     }
 }
 

@@ -10,7 +10,7 @@ use crate::sheet_writer::push_day_head;
 use kd_sheet::Key;
 use kd_sheet::writing::item_text::ItemString;
 use kd_sheet::writing::lines::{FileString, push_list_line, push_text_line};
-use kd_tables::{Device, Model, Sink, put_all};
+use kd_tables::{Device, Family, Model, Sink, put_all};
 
 /// Appends the line of the TOML key `key`. Its value is a text of `count` question marks.
 #[tactic(auto, unfolding(crate::specs::EmptySheet::unknown_line))]
@@ -80,9 +80,9 @@ fn push_empty_day(text: &mut FileString, model: Model, number: u8)
     ensures { text.new.bytes ≡ text.old.bytes ++ concat (empty_day_lines model number) }
 {
     push_day_head(text, number, model);
-    match model {
-        Model::M209 => push_empty_pin(text),
-        Model::EnigmaI | Model::M3 | Model::M4 => push_empty_rotor(text, model),
+    match model.family() {
+        Family::Rotor => push_empty_rotor(text, model),
+        Family::Pin => push_empty_pin(text),
     }
 }
 

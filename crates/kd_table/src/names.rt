@@ -107,9 +107,6 @@ pub fn is_named(name: &str, cell: &[u8]) -> bool
     cell.len() <= 32 && plain(unquoted(cell)).as_slice() == plain(name.as_bytes()).as_slice()
 }
 
-/// All models.
-static MODELS: [Model; 4] = [Model::EnigmaI, Model::M3, Model::M4, Model::M209];
-
 /// The first of `models` whose name is in `cell`.
 fn model_among(models: &[Model], cell: &[u8]) -> Option<Model>
     ensures { result ≡ find (λ model. is_named (model_text model) cell.now) models.now }
@@ -126,7 +123,7 @@ fn model_among(models: &[Model], cell: &[u8]) -> Option<Model>
 pub fn model_named(cell: &[u8]) -> Option<Model>
     ensures { result ≡ model_named cell.now }
 {
-    model_among(&MODELS, cell)
+    model_among(&Model::ALL, cell)
 }
 
 /// The wheel with the name `word`.

@@ -15,7 +15,7 @@ use crate::pin_row::pin_day;
 use crate::rotor_row::rotor_day;
 use csv::ByteRecord;
 use kd_state::SheetDay;
-use kd_tables::Model;
+use kd_tables::Family;
 
 /// The places of all columns that are read, except the pin columns.
 pub fn places_of(columns: &Columns) -> [Option<usize>; 10]
@@ -109,9 +109,9 @@ pub fn row_day(
         return None;
     }
     let model = model_named(cell_or(options.model, row, columns.model))?;
-    let day = match model {
-        Model::M209 => pin_day(options, columns, row)?,
-        Model::EnigmaI | Model::M3 | Model::M4 => rotor_day(options, columns, row, model)?,
+    let day = match model.family() {
+        Family::Rotor => rotor_day(options, columns, row, model)?,
+        Family::Pin => pin_day(options, columns, row)?,
     };
     let _legal = day.model();
     Some(day)

@@ -8,6 +8,8 @@ use Rattle.kd_tables.specs.declared.wheel.Wheel.{Wheel}
 use Rattle.kd_tables.specs.declared.wheel.Wheel.TheVariants.{I, II, III, IV, V, VI, VII, VIII, Beta, Gamma}
 use Rattle.kd_tables.specs.declared.reflector.Reflector.{Reflector}
 use Rattle.kd_tables.specs.declared.reflector.Reflector.TheVariants as reflectors
+use Rattle.kd_tables.specs.declared.model.Family.{Family}
+use Rattle.kd_tables.specs.declared.model.Family.TheVariants as families
 use Rattle.kd_tables.specs.declared.model.Model.{Model}
 use Rattle.kd_tables.specs.declared.model.Model.TheVariants.{EnigmaI, M3, M4, M209}
 
@@ -62,10 +64,14 @@ reflector_text reflector = (reflector_table reflector).0
 unfoldable pub reflector_of : Reflector → List ℕ
 reflector_of reflector = letters_of (reflector_table reflector).1
 
--- ---- Models: their names, their slots, and the wheels and reflectors of their boxes.
+-- ---- Models: their names, their slots, their families, and the wheels and reflectors of their boxes.
 -- Source: the published accounts of the models.
 -- Code: the box of each model is a prefix of one array.
 -- Test: models_have_names_and_parts
+
+-- all models
+abbrev pub all_models : List Model
+all_models = EnigmaI ∷ M3 ∷ M4 ∷ M209 ∷ []
 
 -- The name, the number of slots, and the reflectors of each model. A Converter M-209's pin wheels have no slots.
 abbrev pub model_table : Model → List ℕ × ℕ × List Reflector
@@ -81,6 +87,18 @@ model_text model = (model_table model).0
 -- the number of slots for wheels that a model has
 abbrev pub slots_of : Model → ℕ
 slots_of model = (model_table model).1
+
+-- the family of a model: rotor machines have slots for wheels, and pin machines have none
+abbrev pub family_of : Model → Family
+family_of EnigmaI = families.Rotor
+family_of M3 = families.Rotor
+family_of M4 = families.Rotor
+family_of M209 = families.Pin
+
+-- the value for a model's family: `rotor` for rotor machines, and `pin` for pin machines
+abbrev pub by_family : {X : Type 0} → X → X → Family → X
+by_family rotor pin families.Rotor = rotor
+by_family rotor pin families.Pin = pin
 
 -- the reflectors of a model
 abbrev pub reflectors_of : Model → List Reflector

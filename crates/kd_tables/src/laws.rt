@@ -1,8 +1,10 @@
 //! Laws of published tables, pin wheels, permutations, orderings and the read limit.
-ghost use Rattle.std.specs.Prelude.{◌≡◌, ℕ};
+ghost use Rattle.std.specs.Prelude.{◌≡◌, ℕ, Contains};
 ghost use Rattle.std.specs.Ordering.{ordering_then, nat_cmp};
 ghost use Rattle.kd_tables.specs.Places.{place_rank};
 ghost use Rattle.kd_tables.specs.Ports.{read_limit};
+ghost use Rattle.kd_tables.specs.Tables.{all_models};
+ghost use Rattle.kd_tables.specs.declared.model.TheConstants.Model.{ALL};
 ghost use Rattle.kd_tables.specs.declared.ports.limit.TheConstants.{READ_LIMIT};
 ghost use Rattle.kd_tables.specs.Laws.{WiringsArePermutations, ReflectorsArePermutations, ReflectorsAreOwnInverses};
 ghost use Rattle.kd_tables.specs.Laws.{ReflectorsMoveEachLetter, ProductsByLetter, InversesByLetter, ShiftsByLetter};
@@ -11,6 +13,7 @@ ghost use Rattle.kd_tables.specs.Laws.{InverseUndoesAfter, InverseUndoesBefore, 
 ghost use Rattle.kd_tables.specs.Laws.{LettersLeadToPlaces, PlacesLeadToLetters};
 
 use super::letter::Letter;
+use super::model::Model;
 use super::place::Place;
 use super::reading::Reading;
 use super::standing::Standing;
@@ -77,4 +80,10 @@ pub fn places_and_standings_have_their_order()
 /// The code's constant `READ_LIMIT` equals `read_limit` in the definitions.
 pub fn the_limit_is_the_definitions()
     ensures { READ_LIMIT ≡ read_limit }
+{}
+
+/// The code's constant `Model::ALL` is the definitions' list `all_models`. The list has each model.
+pub fn all_models_are_listed()
+    ensures constant { ALL ≡ all_models }
+    ensures each { (model : Model) → Contains all_models model }
 {}

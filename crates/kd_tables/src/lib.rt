@@ -19,7 +19,7 @@ mod wheel;
 
 pub use letter::Letter;
 pub use lug::Lug;
-pub use model::{Model, allowed, allowed_reflector, in_box};
+pub use model::{Family, Model, allowed, allowed_reflector, in_box};
 pub use pairs::{have_no_letter_twice, is_apart};
 pub use place::Place;
 pub use ports::{

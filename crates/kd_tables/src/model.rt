@@ -1,6 +1,6 @@
 //! The models of cipher machines, and the wheels and reflectors that each model takes.
-ghost use Rattle.std.specs.Prelude.{◌≡◌, ◌↔◌, ◌≢◌, IsTrue, MatchOption, Contains};
-ghost use Rattle.kd_tables.specs.Tables.{model_text, box_of, slots_of, wheels_for, reflectors_of};
+ghost use Rattle.std.specs.Prelude.{◌≡◌, ◌↔◌, ◌≢◌, ◌<◌, IsTrue, MatchOption, Contains};
+ghost use Rattle.kd_tables.specs.Tables.{model_text, family_of, box_of, slots_of, wheels_for, reflectors_of};
 
 use super::reflector::Reflector;
 use super::variant_names::{name_of, named};
@@ -34,6 +34,15 @@ pub enum Model {
     M209,
 }
 
+/// A family of models, which have the same sorts of settings.
+#[derive(Clone, Copy, PartialEq, Eq)]
+pub enum Family {
+    /// Rotor machines: a reflector, wheels in slots, and cables.
+    Rotor,
+    /// Pin machines: pin wheels that can't be taken out, and a drum of bars.
+    Pin,
+}
+
 /// Calls the macro `$read` (`name_of` or `named`) with `$value` and the table of all models and their names.
 macro_rules! names {
     ($read:ident, $value:expr) => {
@@ -47,6 +56,9 @@ macro_rules! names {
 }
 
 impl Model {
+    /// All models.
+    pub const ALL: [Model; 4] = [Model::EnigmaI, Model::M3, Model::M4, Model::M209];
+
     /// The model's name in machine files and sheets.
     pub fn text(self) -> ArrayString<8>
         ensures { result.bytes ≡ model_text self }
@@ -63,6 +75,17 @@ impl Model {
             (λ model. model_text model ≡ text.now) }
     {
         names!(named, text)
+    }
+
+    /// The model's family. Exactly the rotor machines have slots.
+    pub fn family(self) -> Family
+        ensures value { result ≡ family_of self }
+        ensures slots { (result ≡ Family.Rotor) ↔ (0 < slots_of self) }
+    {
+        match self {
+            Model::EnigmaI | Model::M3 | Model::M4 => Family::Rotor,
+            Model::M209 => Family::Pin,
+        }
     }
 
     /// The number of slots for wheels; 0 for a Converter M-209, whose wheels can't be taken out.

@@ -18,20 +18,8 @@ use crate::values::slots::slots_in;
 use crate::{Key, SheetFault};
 use arrayvec::ArrayVec;
 use kd_state::{PerSlot, SheetDay, SheetWheel};
-use kd_tables::{Letter, Model, Wheel};
+use kd_tables::{Family, Letter, Model, Wheel};
 use toml::{Table, Value};
-
-/// Reads a ring for each slot of `model`, from a text of capital letters or from an array of numbers.
-fn rings_of(value: &Value, model: Model) -> Option<PerSlot<Letter>>
-    requires { 0 < slots_of model }
-    ensures { result ≡ rings_of (slots_of model) (view value.now) }
-{
-    match value {
-        Value::String(_) => slot_letters(value, model),
-        Value::Array(items) => letters_of_numbers(items.as_slice(), model),
-        _ => None,
-    }
-}
 
 /// Reads the day's rings, one for each slot of `model`.
 pub fn rings_in(table: &Table, model: Model) -> Result<PerSlot<Letter>, SheetFault>
@@ -50,26 +38,15 @@ pub fn window_in(table: &Table, model: Model) -> Result<PerSlot<Letter>, SheetFa
     slot_letters(value_at(table, Key::Window)?, model).ok_or(SheetFault::BadValue(Key::Window))
 }
 
-/// Appends the wheel of each slot, with the wheel's ring and window letter.
-fn push_wheels(
-    wheels: &mut ArrayVec<SheetWheel, 4>,
-    slots: &[Option<Wheel>],
-    rings: &[Letter],
-    window: &[Letter],
-)
-    requires { length wheels.old.items + length slots.now ≤ 4 }
-    ensures { wheels.new.items ≡ wheels.old.items ++ sheet_wheels slots.now rings.now window.now }
+/// Reads day `number` of a key sheet from the day's table, for a machine of `model`.
+#[tactic(auto, unfolding(crate::specs::SheetFile::day_in))]
+pub fn day_in(table: &Table, number: u8, model: Model) -> Result<SheetDay, SheetFault>
+    requires { IsDayNumber number }
+    ensures { result ≡ day_in number model (table_view table.now) }
 {
-    match (slots, rings, window) {
-        ([Some(wheel), slots @ ..], [ring, rings @ ..], [letter, window @ ..]) => {
-            wheels.push(SheetWheel {
-                wheel: *wheel,
-                ring: *ring,
-                letter: *letter,
-            });
-            push_wheels(wheels, slots, rings, window);
-        }
-        _ => {}
+    match model.family() {
+        Family::Rotor => rotor_day_in(table, number, model),
+        Family::Pin => pin_day_in(table, number),
     }
 }
 
@@ -104,6 +81,41 @@ fn rotor_day_in(table: &Table, number: u8, model: Model) -> Result<SheetDay, She
     Ok(day.unwrap())
 }
 
+/// Reads a ring for each slot of `model`, from a text of capital letters or from an array of numbers.
+fn rings_of(value: &Value, model: Model) -> Option<PerSlot<Letter>>
+    requires { 0 < slots_of model }
+    ensures { result ≡ rings_of (slots_of model) (view value.now) }
+{
+    match value {
+        Value::String(_) => slot_letters(value, model),
+        Value::Array(items) => letters_of_numbers(items.as_slice(), model),
+        _ => None,
+    }
+}
+
+/// Appends the wheel of each slot, with the wheel's ring and window letter.
+fn push_wheels(
+    wheels: &mut ArrayVec<SheetWheel, 4>,
+    slots: &[Option<Wheel>],
+    rings: &[Letter],
+    window: &[Letter],
+)
+    requires { length wheels.old.items + length slots.now ≤ 4 }
+    ensures { wheels.new.items ≡ wheels.old.items ++ sheet_wheels slots.now rings.now window.now }
+{
+    match (slots, rings, window) {
+        ([Some(wheel), slots @ ..], [ring, rings @ ..], [letter, window @ ..]) => {
+            wheels.push(SheetWheel {
+                wheel: *wheel,
+                ring: *ring,
+                letter: *letter,
+            });
+            push_wheels(wheels, slots, rings, window);
+        }
+        _ => {}
+    }
+}
+
 /// Reads a day of a Converter M-209.
 #[tactic(auto, unfolding(crate::specs::SheetFile::pin_day_in))]
 fn pin_day_in(table: &Table, number: u8) -> Result<SheetDay, SheetFault>
@@ -115,16 +127,4 @@ fn pin_day_in(table: &Table, number: u8) -> Result<SheetDay, SheetFault>
     let window = shown_letters_in(table, Key::Window)?;
     let list = letters_at(table, Key::List)?;
     Ok(SheetDay::pin(number, rows, pins, window, list).unwrap())
-}
-
-/// Reads day `number` of a key sheet from the day's table, for a machine of `model`.
-#[tactic(auto, unfolding(crate::specs::SheetFile::day_in))]
-pub fn day_in(table: &Table, number: u8, model: Model) -> Result<SheetDay, SheetFault>
-    requires { IsDayNumber number }
-    ensures { result ≡ day_in number model (table_view table.now) }
-{
-    match model {
-        Model::M209 => pin_day_in(table, number),
-        Model::EnigmaI | Model::M3 | Model::M4 => rotor_day_in(table, number, model),
-    }
 }

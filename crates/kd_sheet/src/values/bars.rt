@@ -12,13 +12,6 @@ use toml::{Table, Value};
 /// The number of bars of the drum.
 pub const BARS: usize = 27;
 
-/// Reads the standing that `item` names.
-fn standing_of_item(item: &Value) -> Option<Standing>
-    ensures { result ≡ from_text (find_by_text standing_text standings) (view item.now) }
-{
-    Standing::from_text(item.as_str()?.as_bytes())
-}
-
 /// Reads an item as a bar's standing: the places of its lugs. A fault has the bar's number, counted from 1.
 impl FromItem<()> for Standing {
     ghost parse = { λ _. or_bad_row (find_by_text standing_text standings) };
@@ -35,4 +28,11 @@ pub fn bars_in(table: &Table) -> Result<[Standing; BARS], SheetFault>
 {
     let bars = read_exactly(table, Key::Bars, BARS, &())?;
     Ok(bars.into_inner().ok().unwrap())
+}
+
+/// Reads the standing that `item` names.
+fn standing_of_item(item: &Value) -> Option<Standing>
+    ensures { result ≡ from_text (find_by_text standing_text standings) (view item.now) }
+{
+    Standing::from_text(item.as_str()?.as_bytes())
 }

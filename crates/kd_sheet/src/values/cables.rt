@@ -16,6 +16,32 @@ use toml::{Table, Value};
 /// The number of cables of a plugboard.
 const CABLES: usize = 13;
 
+/// Reads an item as a cable. The cable must share no letter with the cables before it.
+impl FromItem<()> for Cable {
+    ghost parse = { λ _. cable_for };
+
+    #[tactic(auto, unfolding(crate::specs::Cables::cable_for))]
+    fn read_item(_given: &(), earlier: &[Self], item: &Value) -> Result<Self, SheetFault> {
+        let cable = cable_of_item(item).ok_or(SheetFault::BadValue(Key::Cables))?;
+        if !are_new_and_distinct(&cable, earlier) {
+            return Err(SheetFault::LetterTwice);
+        }
+        Ok(cable)
+    }
+}
+
+/// Reads the machine's cables. Without the key `cables`, all 13 cables are empty.
+#[tactic(auto, unfolding(crate::specs::Cables::cables_in))]
+pub fn cables_in(table: &Table) -> Result<[Cable; CABLES], SheetFault>
+    ensures { result ≡ cables_in (table_view table.now) }
+{
+    let cables: ArrayVec<Cable, CABLES> = match find_at(table, Key::Cables) {
+        Some(value) => read_up_to(value, Key::Cables)?,
+        None => ArrayVec::new(),
+    };
+    Ok(fill_up_cables(cables.as_slice()))
+}
+
 /// Reads a cable from a text of at most two letters.
 fn cable_of_item(item: &Value) -> Option<Cable>
     ensures value { result ≡ option_map (λ letters. (slice_get letters 0, slice_get letters 1))
@@ -32,20 +58,6 @@ fn cable_of_item(item: &Value) -> Option<Cable>
     Some((letters.first().copied(), letters.get(1).copied()))
 }
 
-/// Reads an item as a cable. The cable must share no letter with the cables before it.
-impl FromItem<()> for Cable {
-    ghost parse = { λ _. cable_for };
-
-    #[tactic(auto, unfolding(crate::specs::Cables::cable_for))]
-    fn read_item(_given: &(), earlier: &[Self], item: &Value) -> Result<Self, SheetFault> {
-        let cable = cable_of_item(item).ok_or(SheetFault::BadValue(Key::Cables))?;
-        if !are_new_and_distinct(&cable, earlier) {
-            return Err(SheetFault::LetterTwice);
-        }
-        Ok(cable)
-    }
-}
-
 /// `cables`, with empty cables appended until there are 13.
 fn fill_up_cables(cables: &[Cable]) -> [Cable; CABLES]
     requires { length cables.now ≤ 13 }
@@ -54,16 +66,4 @@ fn fill_up_cables(cables: &[Cable]) -> [Cable; CABLES]
     let mut all = [(None, None); CABLES];
     all[..cables.len()].copy_from_slice(cables);
     all
-}
-
-/// Reads the machine's cables. Without the key `cables`, all 13 cables are empty.
-#[tactic(auto, unfolding(crate::specs::Cables::cables_in))]
-pub fn cables_in(table: &Table) -> Result<[Cable; CABLES], SheetFault>
-    ensures { result ≡ cables_in (table_view table.now) }
-{
-    let cables: ArrayVec<Cable, CABLES> = match find_at(table, Key::Cables) {
-        Some(value) => read_up_to(value, Key::Cables)?,
-        None => ArrayVec::new(),
-    };
-    Ok(fill_up_cables(cables.as_slice()))
 }

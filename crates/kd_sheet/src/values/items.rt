@@ -22,24 +22,6 @@ pub trait FromItem<Given> {
         ensures { result ≡ parse given.now earlier.now (view item.now) };
 }
 
-/// Reads all `items`, at most `N`, or returns the first fault.
-fn read_items<T: FromItem<G> + Copy + Default, G, const N: usize>(
-    given: &G,
-    items: &[Value],
-) -> Result<ArrayVec<T, N>, SheetFault>
-    requires { (length items.now ≤ N) × (N ≤ 27) }
-    ensures value { result_map (λ values. values.items) result
-        ≡ read_items (T.parse given.now) (map view items.now) }
-    ensures count { IfOk result (λ values. length values.items ≡ length items.now) }
-{
-    let mut values = ArrayVec::new();
-    for item in items {
-        let value = T::read_item(given, values.as_slice(), item)?;
-        values.push(value);
-    }
-    Ok(values)
-}
-
 /// Reads the items of the array at `key`. The fault is `BadValue(key)` if there aren't exactly `count` items.
 pub fn read_exactly<T: FromItem<G> + Copy + Default, G, const N: usize>(
     table: &Table,
@@ -74,4 +56,22 @@ pub fn read_up_to<T: FromItem<()> + Copy + Default, const N: usize>(
         return Err(SheetFault::BadValue(key));
     }
     read_items(&(), items)
+}
+
+/// Reads all `items`, at most `N`, or returns the first fault.
+fn read_items<T: FromItem<G> + Copy + Default, G, const N: usize>(
+    given: &G,
+    items: &[Value],
+) -> Result<ArrayVec<T, N>, SheetFault>
+    requires { (length items.now ≤ N) × (N ≤ 27) }
+    ensures value { result_map (λ values. values.items) result
+        ≡ read_items (T.parse given.now) (map view items.now) }
+    ensures count { IfOk result (λ values. length values.items ≡ length items.now) }
+{
+    let mut values = ArrayVec::new();
+    for item in items {
+        let value = T::read_item(given, values.as_slice(), item)?;
+        values.push(value);
+    }
+    Ok(values)
 }

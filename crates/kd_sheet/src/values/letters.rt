@@ -57,13 +57,6 @@ pub fn slot_letters(value: &Value, model: Model) -> Option<PerSlot<Letter>>
     PerSlot::new(letters.as_slice())
 }
 
-/// Reads a number from 1 to 26 as a letter. 1 is A.
-fn letter_of_number(item: &Value) -> Option<Letter>
-    ensures { result ≡ option_map (λ number. number - 1) (number_up_to 26 (view item.now)) }
-{
-    Letter::new(number_up_to(item, 26)? - 1)
-}
-
 /// Reads an array with a number from 1 to 26 for each slot of `model`. 1 is A.
 pub fn letters_of_numbers(items: &[Value], model: Model) -> Option<PerSlot<Letter>>
     requires { 0 < slots_of model }
@@ -77,4 +70,11 @@ pub fn letters_of_numbers(items: &[Value], model: Model) -> Option<PerSlot<Lette
         letters.push(letter_of_number(item)?);
     }
     PerSlot::new(letters.as_slice())
+}
+
+/// Reads a number from 1 to 26 as a letter. 1 is A.
+fn letter_of_number(item: &Value) -> Option<Letter>
+    ensures { result ≡ option_map (λ number. number - 1) (number_up_to 26 (view item.now)) }
+{
+    Letter::new(number_up_to(item, 26)? - 1)
 }

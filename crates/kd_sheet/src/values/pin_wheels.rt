@@ -16,22 +16,6 @@ use kd_pins::PinSet;
 use kd_tables::{Letter, Ring, place_on_wheel, ring1, ring2, ring3, ring4, ring5, ring6};
 use toml::{Table, Value};
 
-/// Whether each of `letters` is on its wheel: the first letter on wheel `wheel`, the second letter on the next wheel,
-/// and so on.
-#[tactic(auto, using(kd_state::proofs::Slots::on_wheels))]
-fn are_on_wheels(wheel: u8, letters: &[Letter]) -> bool
-    requires { wheel + length letters.now < 256 }
-    ensures { result ≡ list_all (λ numbered. has_letter (ring_of numbered.0) numbered.1)
-        (enumerate_from wheel letters.now) }
-{
-    match letters {
-        [first, rest @ ..] => {
-            place_on_wheel(wheel, *first).is_some() && are_on_wheels(wheel + 1, rest)
-        }
-        [] => true,
-    }
-}
-
 /// Reads the text at `key`: the letters that the six wheels show, from wheel 1 to wheel 6.
 #[tactic(auto, unfolding(crate::specs::PinWheels::shown_letters_in))]
 pub fn shown_letters_in(table: &Table, key: Key) -> Result<[Letter; 6], SheetFault>
@@ -42,13 +26,6 @@ pub fn shown_letters_in(table: &Table, key: Key) -> Result<[Letter; 6], SheetFau
         return Err(SheetFault::BadValue(key));
     }
     Ok(letters)
-}
-
-/// The index in `letters` of the letter with the ASCII code `byte`, if `letters` has this letter.
-fn index_of_byte(letters: &[Letter], byte: u8) -> Option<usize>
-    ensures { result ≡ position (λ letter. letter + 65 == byte) letters.now }
-{
-    letters.iter().position(|letter| letter.byte() == byte)
 }
 
 /// Reads the effective pins of one wheel from a text of their letters; no letter may come twice.
@@ -67,13 +44,6 @@ pub fn pins_of_text<const N: usize>(ring: &Ring<N>, text: &[u8]) -> Option<[bool
     Some(pins)
 }
 
-/// Reads the effective pins of one wheel: `item` is a text of their letters.
-fn pins_of_item<const N: usize>(ring: &Ring<N>, item: &Value) -> Option<[bool; N]>
-    ensures { result ≡ from_text (pins_of_text ring.now) (view item.now) }
-{
-    pins_of_text(ring, item.as_str()?.as_bytes())
-}
-
 /// Reads the effective pins of the six wheels, from an array with an item for each wheel.
 #[tactic(auto, unfolding(crate::specs::PinWheels::pins_in))]
 pub fn pins_in(table: &Table) -> Result<PinSet, SheetFault>
@@ -84,6 +54,22 @@ pub fn pins_in(table: &Table) -> Result<PinSet, SheetFault>
         return Err(SheetFault::BadValue(Key::Pins));
     };
     pins_of_items([one, two, three, four, five, six]).ok_or(SheetFault::BadValue(Key::Pins))
+}
+
+/// Whether each of `letters` is on its wheel: the first letter on wheel `wheel`, the second letter on the next wheel,
+/// and so on.
+#[tactic(auto, using(kd_state::proofs::Slots::on_wheels))]
+fn are_on_wheels(wheel: u8, letters: &[Letter]) -> bool
+    requires { wheel + length letters.now < 256 }
+    ensures { result ≡ list_all (λ numbered. has_letter (ring_of numbered.0) numbered.1)
+        (enumerate_from wheel letters.now) }
+{
+    match letters {
+        [first, rest @ ..] => {
+            place_on_wheel(wheel, *first).is_some() && are_on_wheels(wheel + 1, rest)
+        }
+        [] => true,
+    }
 }
 
 /// Reads the effective pins of the six wheels: the first of `items` is a text of wheel 1's pins, and so on.
@@ -100,4 +86,18 @@ fn pins_of_items(items: [&Value; 6]) -> Option<PinSet>
         w5: pins_of_item(&ring5(), five)?,
         w6: pins_of_item(&ring6(), six)?,
     })
+}
+
+/// Reads the effective pins of one wheel: `item` is a text of their letters.
+fn pins_of_item<const N: usize>(ring: &Ring<N>, item: &Value) -> Option<[bool; N]>
+    ensures { result ≡ from_text (pins_of_text ring.now) (view item.now) }
+{
+    pins_of_text(ring, item.as_str()?.as_bytes())
+}
+
+/// The index in `letters` of the letter with the ASCII code `byte`, if `letters` has this letter.
+fn index_of_byte(letters: &[Letter], byte: u8) -> Option<usize>
+    ensures { result ≡ position (λ letter. letter + 65 == byte) letters.now }
+{
+    letters.iter().position(|letter| letter.byte() == byte)
 }

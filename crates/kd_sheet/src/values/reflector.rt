@@ -9,15 +9,6 @@ use crate::{Key, SheetFault};
 use kd_tables::{Model, Reflector};
 use toml::Table;
 
-/// The reflector named `name`, if `model` has this reflector.
-#[tactic(auto, unfolding(crate::specs::Names::find_by_text))]
-fn reflector_by_name(model: Model, name: &str) -> Option<Reflector>
-    ensures { result ≡ find_by_text reflector_text (reflectors_of model) name.now }
-{
-    let mut reflectors = model.reflectors().iter().copied();
-    reflectors.find(|reflector| reflector.text().as_str() == name)
-}
-
 /// Reads the reflector from its name; `model` must have the reflector.
 #[tactic(auto, unfolding(crate::specs::MachineFile::reflector_in))]
 pub fn reflector_in(table: &Table, model: Model) -> Result<Reflector, SheetFault>
@@ -25,4 +16,13 @@ pub fn reflector_in(table: &Table, model: Model) -> Result<Reflector, SheetFault
 {
     let name = text_at(table, Key::Reflector)?;
     reflector_by_name(model, name).ok_or(SheetFault::BadValue(Key::Reflector))
+}
+
+/// The reflector named `name`, if `model` has this reflector.
+#[tactic(auto, unfolding(crate::specs::Names::find_by_text))]
+fn reflector_by_name(model: Model, name: &str) -> Option<Reflector>
+    ensures { result ≡ find_by_text reflector_text (reflectors_of model) name.now }
+{
+    let mut reflectors = model.reflectors().iter().copied();
+    reflectors.find(|reflector| reflector.text().as_str() == name)
 }

@@ -9,12 +9,13 @@ use crate::{Key, SheetFault};
 use kd_tables::Reading;
 use toml::{Table, Value};
 
-/// The number that `byte` means, if it is an ASCII digit from 0 to 6.
-fn digit_value(byte: u8) -> Option<u8>
-    ensures value { IfSome result (λ number. byte ≡ number + 48) }
-    ensures exists { is_some result ≡ (nat_le 48 byte && nat_le byte 54) }
-{
-    byte.checked_sub(b'0').filter(|digit| *digit <= 6)
+/// Reads an item as a row: the reading that a bar must have. A fault has the row's number, counted from 1.
+impl FromItem<()> for Reading {
+    ghost parse = { λ _. or_bad_row reading_of_text };
+
+    fn read_item(_given: &(), earlier: &[Self], item: &Value) -> Result<Self, SheetFault> {
+        reading_of_item(item).ok_or(SheetFault::BadRow(earlier.len() as u8 + 1))
+    }
 }
 
 /// Reads a bar's reading: two different digits from 0 to 6, in either order, or 0 twice, with `-` between them.
@@ -28,22 +29,6 @@ pub fn reading_of_text(text: &[u8]) -> Option<Reading>
     }
 }
 
-/// Reads `item` as a bar's reading.
-fn reading_of_item(item: &Value) -> Option<Reading>
-    ensures { result ≡ from_text reading_of_text (view item.now) }
-{
-    reading_of_text(item.as_str()?.as_bytes())
-}
-
-/// Reads an item as a row: the reading that a bar must have. A fault has the row's number, counted from 1.
-impl FromItem<()> for Reading {
-    ghost parse = { λ _. or_bad_row reading_of_text };
-
-    fn read_item(_given: &(), earlier: &[Self], item: &Value) -> Result<Self, SheetFault> {
-        reading_of_item(item).ok_or(SheetFault::BadRow(earlier.len() as u8 + 1))
-    }
-}
-
 /// Reads the rows of a day: the readings that the 27 bars must have.
 #[tactic(auto, unfolding(crate::specs::Bars::rows_in))]
 pub fn rows_in(table: &Table) -> Result<[Reading; BARS], SheetFault>
@@ -51,4 +36,19 @@ pub fn rows_in(table: &Table) -> Result<[Reading; BARS], SheetFault>
 {
     let rows = read_exactly(table, Key::Rows, BARS, &())?;
     Ok(rows.into_inner().ok().unwrap())
+}
+
+/// Reads `item` as a bar's reading.
+fn reading_of_item(item: &Value) -> Option<Reading>
+    ensures { result ≡ from_text reading_of_text (view item.now) }
+{
+    reading_of_text(item.as_str()?.as_bytes())
+}
+
+/// The number that `byte` means, if it is an ASCII digit from 0 to 6.
+fn digit_value(byte: u8) -> Option<u8>
+    ensures value { IfSome result (λ number. byte ≡ number + 48) }
+    ensures exists { is_some result ≡ (nat_le 48 byte && nat_le byte 54) }
+{
+    byte.checked_sub(b'0').filter(|digit| *digit <= 6)
 }

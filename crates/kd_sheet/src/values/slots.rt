@@ -10,35 +10,6 @@ use kd_state::PerSlot;
 use kd_tables::{Model, Wheel, allowed};
 use toml::{Table, Value};
 
-/// The wheel named `name`.
-fn wheel_by_name(name: &str) -> Option<Wheel>
-    ensures { result ≡ find_by_text wheel_text (box_of M4) name.now }
-{
-    Wheel::from_text(name.as_bytes())
-}
-
-/// The wheel named `name`, if it may be in the next slot after `slots`. Otherwise the result is the fault that says why
-/// not.
-#[tactic(auto, using(crate::proofs::ReadBack::Described::KeyValues::seating), unfolding(crate::specs::Slots::wheel_for))]
-fn wheel_for(
-    key: Key,
-    model: Model,
-    slots: &[Option<Wheel>],
-    name: &str,
-) -> Result<Wheel, SheetFault>
-    requires { length slots.now < 27 }
-    ensures { result ≡ wheel_for key model slots.now (string name.now) }
-{
-    let wheel = wheel_by_name(name).ok_or(SheetFault::BadValue(key))?;
-    if !allowed(model, slots.len() as u8 + 1, wheel) {
-        return Err(SheetFault::WheelNotAllowed);
-    }
-    if slots.contains(&Some(wheel)) {
-        return Err(SheetFault::WheelTwice);
-    }
-    Ok(wheel)
-}
-
 /// Reads an item as the wheel in a slot. At the key `slots`, the empty text means that the slot is empty.
 impl FromItem<(Key, Model)> for Option<Wheel> {
     ghost parse = { λ given. slot_for given.0 given.1 };
@@ -63,4 +34,33 @@ pub fn slots_in(table: &Table, key: Key, model: Model) -> Result<PerSlot<Option<
     let count = usize::from(model.slots());
     let slots = read_exactly::<_, _, 4>(table, key, count, &(key, model))?;
     Ok(PerSlot::new(slots.as_slice()).unwrap())
+}
+
+/// The wheel named `name`, if it may be in the next slot after `slots`. Otherwise the result is the fault that says why
+/// not.
+#[tactic(auto, using(crate::proofs::ReadBack::Described::KeyValues::seating), unfolding(crate::specs::Slots::wheel_for))]
+fn wheel_for(
+    key: Key,
+    model: Model,
+    slots: &[Option<Wheel>],
+    name: &str,
+) -> Result<Wheel, SheetFault>
+    requires { length slots.now < 27 }
+    ensures { result ≡ wheel_for key model slots.now (string name.now) }
+{
+    let wheel = wheel_by_name(name).ok_or(SheetFault::BadValue(key))?;
+    if !allowed(model, slots.len() as u8 + 1, wheel) {
+        return Err(SheetFault::WheelNotAllowed);
+    }
+    if slots.contains(&Some(wheel)) {
+        return Err(SheetFault::WheelTwice);
+    }
+    Ok(wheel)
+}
+
+/// The wheel named `name`.
+fn wheel_by_name(name: &str) -> Option<Wheel>
+    ensures { result ≡ find_by_text wheel_text (box_of M4) name.now }
+{
+    Wheel::from_text(name.as_bytes())
 }

@@ -34,30 +34,6 @@ pub fn push_letters_line(text: &mut FileString, key: Key, letters: &[Letter])
     push_text_line(text, key, letters_text(letters).as_str());
 }
 
-/// Appends the letters whose pins are effective; `pins` has a pin for each of `letters`, in the same order.
-fn push_pin_letters(text: &mut ItemString, letters: &[Letter], pins: &[bool])
-    requires room { array_string_len text.old + length letters.now ≤ 32 }
-    requires pins { length pins.now ≡ length letters.now }
-    ensures { text.new.bytes ≡ text.old.bytes ++ pins_text letters.now pins.now }
-{
-    if let ([letter, letters @ ..], [effective, pins @ ..]) = (letters, pins) {
-        if *effective {
-            push_letter(text, *letter);
-        }
-        push_pin_letters(text, letters, pins);
-    }
-}
-
-/// Writes the letters of a wheel's effective pins, in the order of the wheel's letters `ring`.
-fn pins_text<const N: usize>(ring: &Ring<N>, pins: &[bool; N]) -> ItemString
-    requires { N ≤ 32 }
-    ensures { result.bytes ≡ pins_text ring.now pins.now }
-{
-    let mut text = ItemString::new();
-    push_pin_letters(&mut text, &ring.letters(), pins);
-    text
-}
-
 /// For each of the six wheels, writes the letters of the wheel's effective pins.
 pub fn pin_texts(pins: &PinSet) -> [ItemString; 6]
     ensures { map (λ text. text.bytes) result ≡ pin_texts pins.now }
@@ -70,4 +46,28 @@ pub fn pin_texts(pins: &PinSet) -> [ItemString; 6]
         pins_text(&ring5(), &pins.w5),
         pins_text(&ring6(), &pins.w6),
     ]
+}
+
+/// Writes the letters of a wheel's effective pins, in the order of the wheel's letters `ring`.
+fn pins_text<const N: usize>(ring: &Ring<N>, pins: &[bool; N]) -> ItemString
+    requires { N ≤ 32 }
+    ensures { result.bytes ≡ pins_text ring.now pins.now }
+{
+    let mut text = ItemString::new();
+    push_pin_letters(&mut text, &ring.letters(), pins);
+    text
+}
+
+/// Appends the letters whose pins are effective; `pins` has a pin for each of `letters`, in the same order.
+fn push_pin_letters(text: &mut ItemString, letters: &[Letter], pins: &[bool])
+    requires room { array_string_len text.old + length letters.now ≤ 32 }
+    requires pins { length pins.now ≡ length letters.now }
+    ensures { text.new.bytes ≡ text.old.bytes ++ pins_text letters.now pins.now }
+{
+    if let ([letter, letters @ ..], [effective, pins @ ..]) = (letters, pins) {
+        if *effective {
+            push_letter(text, *letter);
+        }
+        push_pin_letters(text, letters, pins);
+    }
 }

@@ -11,38 +11,6 @@ use kd_state::push_number;
 /// A text of at most 2048 bytes: a machine file, or one day of a key sheet.
 pub type FileString = ArrayString<2048>;
 
-/// Appends `key` and ` = `.
-fn push_key(text: &mut FileString, key: Key)
-    requires { array_string_len text.old + 12 ≤ 2048 }
-    ensures bytes { text.new.bytes ≡ text.old.bytes ++ (key_name key ++ codes " = ") }
-    ensures len { array_string_len text.new ≤ array_string_len text.old + 12 }
-{
-    text.push_str(key.name());
-    text.push_str(" = ");
-}
-
-/// Appends `value` in double quotes.
-fn push_quoted(text: &mut FileString, value: &str)
-    requires { array_string_len text.old + length value.now + 2 ≤ 2048 }
-    ensures bytes { text.new.bytes ≡ text.old.bytes ++ quoted_text value.now }
-    ensures len { array_string_len text.new ≡ array_string_len text.old + length value.now + 2 }
-{
-    text.push_str("\"");
-    text.push_str(value);
-    text.push_str("\"");
-}
-
-/// Appends the line of `key`. The value `value`, such as a digit, isn't in quotes.
-pub(crate) fn push_digit_line(text: &mut FileString, key: Key, value: &str)
-    requires { array_string_len text.old + length value.now + 13 ≤ 2048 }
-    ensures bytes { text.new.bytes ≡ text.old.bytes ++ key_line key value.now }
-    ensures len { array_string_len text.new ≤ array_string_len text.old + length value.now + 13 }
-{
-    push_key(text, key);
-    text.push_str(value);
-    text.push_str("\n");
-}
-
 /// Appends the line of `key` with the number `number`.
 pub fn push_number_line(text: &mut FileString, key: Key, number: u8)
     requires { array_string_len text.old + 16 ≤ 2048 }
@@ -65,18 +33,27 @@ pub fn push_text_line(text: &mut FileString, key: Key, value: &str)
     text.push_str("\n");
 }
 
-/// Appends the texts of `items` in double quotes, each after a comma and a space.
-fn push_more_items<T: ItemText>(text: &mut FileString, items: &[T])
-    requires { array_string_len text.old + 36 * length items.now ≤ 2048 }
-    ensures bytes { text.new.bytes ≡ text.old.bytes ++ flat_map
-        (λ text. codes ", " ++ quoted_text text) (map T.item_text items.now) }
-    ensures len { array_string_len text.new ≤ array_string_len text.old + 36 * length items.now }
+/// Appends the line of `key`; its value is an array of the texts of `items`.
+pub fn push_list_line<T: ItemText>(text: &mut FileString, key: Key, items: &[T])
+    requires { array_string_len text.old + 36 * length items.now + 15 ≤ 2048 }
+    ensures bytes { text.new.bytes
+        ≡ text.old.bytes ++ key_line key (array_text (map T.item_text items.now)) }
+    ensures len { array_string_len text.new ≤ array_string_len text.old + 36 * length items.now + 15 }
 {
-    if let [first, rest @ ..] = items {
-        text.push_str(", ");
-        push_quoted(text, first.item_text().as_str());
-        push_more_items(text, rest);
-    }
+    push_key(text, key);
+    text.push_str("[");
+    push_items(text, items);
+    text.push_str("]\n");
+}
+
+/// Appends `key` and ` = `.
+fn push_key(text: &mut FileString, key: Key)
+    requires { array_string_len text.old + 12 ≤ 2048 }
+    ensures bytes { text.new.bytes ≡ text.old.bytes ++ (key_name key ++ codes " = ") }
+    ensures len { array_string_len text.new ≤ array_string_len text.old + 12 }
+{
+    text.push_str(key.name());
+    text.push_str(" = ");
 }
 
 /// Appends the texts of `items` in double quotes, with a comma and a space between them.
@@ -92,15 +69,27 @@ fn push_items<T: ItemText>(text: &mut FileString, items: &[T])
     }
 }
 
-/// Appends the line of `key`; its value is an array of the texts of `items`.
-pub fn push_list_line<T: ItemText>(text: &mut FileString, key: Key, items: &[T])
-    requires { array_string_len text.old + 36 * length items.now + 15 ≤ 2048 }
-    ensures bytes { text.new.bytes
-        ≡ text.old.bytes ++ key_line key (array_text (map T.item_text items.now)) }
-    ensures len { array_string_len text.new ≤ array_string_len text.old + 36 * length items.now + 15 }
+/// Appends the texts of `items` in double quotes, each after a comma and a space.
+fn push_more_items<T: ItemText>(text: &mut FileString, items: &[T])
+    requires { array_string_len text.old + 36 * length items.now ≤ 2048 }
+    ensures bytes { text.new.bytes ≡ text.old.bytes ++ flat_map
+        (λ text. codes ", " ++ quoted_text text) (map T.item_text items.now) }
+    ensures len { array_string_len text.new ≤ array_string_len text.old + 36 * length items.now }
 {
-    push_key(text, key);
-    text.push_str("[");
-    push_items(text, items);
-    text.push_str("]\n");
+    if let [first, rest @ ..] = items {
+        text.push_str(", ");
+        push_quoted(text, first.item_text().as_str());
+        push_more_items(text, rest);
+    }
+}
+
+/// Appends `value` in double quotes.
+fn push_quoted(text: &mut FileString, value: &str)
+    requires { array_string_len text.old + length value.now + 2 ≤ 2048 }
+    ensures bytes { text.new.bytes ≡ text.old.bytes ++ quoted_text value.now }
+    ensures len { array_string_len text.new ≡ array_string_len text.old + length value.now + 2 }
+{
+    text.push_str("\"");
+    text.push_str(value);
+    text.push_str("\"");
 }

@@ -4,7 +4,8 @@ use super::words::Words;
 use crate::cell::{Cell, day_in, slots, windows};
 use crate::items::{CELL_LIMIT, FromWord, is_blank, push_item_text, values_in};
 use crate::names::{model_named, reflector_named};
-use arrayvec::ArrayVec;
+use arrayvec::{ArrayString, ArrayVec};
+use kd_slips::{box_words, model_name};
 use kd_state::split_words;
 use kd_tables::{Letter, Model, Reading, Wheel, allowed, in_box};
 
@@ -194,7 +195,7 @@ fn seat_words(lines: &mut Words, wheels: &[Option<Wheel>], model: Model, is_whol
 /// Says that `wheel` isn't in the model's box, or can't be in slot `slot`. If the slot isn't known, `slot` is 0.
 fn one_seat_words(lines: &mut Words, wheel: Wheel, model: Model, slot: u8) {
     if !in_box(model, wheel) {
-        one_wheel_words(lines, wheel, no_box_rule(model));
+        one_wheel_words(lines, wheel, no_box_rule(model).as_str());
     } else if slot != 0 && !allowed(model, slot, wheel) {
         one_wheel_words(lines, wheel, seat_rule(wheel));
     }
@@ -205,11 +206,13 @@ fn one_wheel_words(lines: &mut Words, wheel: Wheel, words: &str) {
 }
 
 /// The words for a wheel that isn't in the model's box.
-fn no_box_rule(model: Model) -> &'static str {
-    match model {
-        Model::EnigmaI => " isn't in the box of an Enigma I, which has I to V",
-        _ => " isn't in the box of an M3, which has I to VIII",
-    }
+fn no_box_rule(model: Model) -> ArrayString<96> {
+    let mut words = ArrayString::new();
+    words.push_str(" isn't in the box of ");
+    words.push_str(model_name(model));
+    words.push_str(", which has ");
+    words.push_str(box_words(model));
+    words
 }
 
 /// The words for a wheel of an M4 that can't be in its slot.

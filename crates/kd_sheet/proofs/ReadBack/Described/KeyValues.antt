@@ -4,6 +4,7 @@ unfoldable pub use Steps.*
 pub use Rattle.kd_tables.specs.declared.model.Model.TheVariants.{EnigmaI, M3, M4}
 use Rattle.std.proofs.lemmas.{List.{take_more}, List.Quantifiers.{position-Some}}
 use Rattle.std.{proofs.lemmas.List.Folds.{find_at, list_any-append}, specs.List.{position, position_or_len}}
+use Rattle.std.specs.Prelude.{decimal}
 
 -- ---- names
 
@@ -26,9 +27,17 @@ find_named text_of xs own text (Some x) named = sym (own x) ∙ ap (find_by_text
 
 -- each model, and each wheel, is found by its name
 pub model_found : (model : Model)
-    → find_by_text model_text (EnigmaI ∷ M3 ∷ M4 ∷ M209 ∷ []) (model_text model) ≡ Some model
+    → find_by_text model_text all_models (model_text model) ≡ Some model
 unfolding find_by_text
 model_found model = grind arith
+
+-- the version of a model's files has one digit
+pub version_has_one_digit : (model : Model) → decimal (file_version model) ≡ digit_text (file_version model)
+unfolding digits
+version_has_one_digit EnigmaI = refl
+version_has_one_digit M3 = refl
+version_has_one_digit M4 = refl
+version_has_one_digit M209 = refl
 
 pub wheel_found : (wheel : Wheel) → find_by_text wheel_text (box_of M4) (wheel_text wheel) ≡ Some wheel
 unfolding find_by_text

@@ -9,7 +9,7 @@ pub use Rattle.kd_state.specs.Machine.{AreLegalSeats, AreCables, AreLetters, Are
 pub use Rattle.kd_state.specs.Machine.{AreLegalPinParts}
 pub use Rattle.kd_state.specs.SheetDay.{ArePairs, Day, HasWheelLetters, IsDayNumber, IsLegalDay}
 pub use Rattle.kd_state.specs.SheetDay.{IsLegalPinDay}
-pub use Rattle.kd_tables.specs.Tables.{box_of, letters_of, model_text, reflector_text, reflectors_of}
+pub use Rattle.kd_tables.specs.Tables.{all_models, box_of, letters_of, model_text, reflector_text, reflectors_of}
 pub use Rattle.std.proofs.Common.{All, Bool, Bor, Contains, Decides, Err, Global, IfSome, IsSome, IsUtf8, List}
 pub use Rattle.std.proofs.Common.{MatchOption, None, Ok, Option, Result, Some, Vec, [], ap, append_assoc, arith}
 pub use Rattle.std.proofs.Common.{bytes_eq, codes, cond, drop, false, filter_map, find, get_or, inl, inr, is_some}
