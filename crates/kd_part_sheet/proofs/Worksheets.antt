@@ -1,5 +1,5 @@
 -- A worksheet is the same for all letters that the machine may give.
-use Rattle.std.proofs.Common.{◌≡◌, ◌∙◌, ℕ, List, [], ◌∷◌, ◌++◌, map, length, take, drop, refl, sym, ap, subst}
+use Rattle.std.proofs.Common.{◌≡◌, ◌∙◌, ℕ, List, [], ◌∷◌, ◌++◌, length, take, drop, refl, sym, ap, subst}
 use Rattle.std.proofs.lemmas.List.{length-map}
 use Rattle.kd_state.specs.SheetDay.{Day}
 use Rattle.kd_pictures.specs.declared.language.Language.{Language}
@@ -47,13 +47,15 @@ next_same : (l : Language) (sheet : Sheet) (s : Day) (name : PartName) (one othe
     → next_sheet l sheet s (open_name name) one progress cells ≡ next_sheet l sheet s (open_name name) other progress cells
 next_same l sheet s name one other progress [] = refl
 next_same l sheet s name one other progress (cell ∷ cells) =
-    ap (λ rows. _ ++ rows) (rows_same s one other progress _)
+    ap (λ rows. filled (sheet_text l sheet texts.NEXT_STEP) (name_values name) ++ rows)
+    (rows_same s one other progress (pieces 50 (cell ∷ cells)))
 
 text_rows_same : (l : Language) (sheet : Sheet) (s : Day) (name : PartName) (one other : List ℕ) (body : List Cell)
     → text_rows l sheet s (open_name name) one body ≡ text_rows l sheet s (open_name name) other body
 text_rows_same l sheet s name one other body =
-    λ i. rows_same s one other _ _ i
-    ++ next_same l sheet s name one other _ (drop (first_sheet name.model) body) i
+    let first = take (first_sheet name.model) body in
+    λ i. rows_same s one other beginning (pieces 50 first) i
+    ++ next_same l sheet s name one other (progress_after beginning first) (drop (first_sheet name.model) body) i
 
 start_same : (l : Language) (sheet : Sheet) (name : PartName) (work other : Work) → AskTheSame sheet work other
     → start_text l sheet (open_name name) work.start ≡ start_text l sheet (open_name name) other.start
@@ -64,7 +66,7 @@ start_same l PinReceive name work other same = refl
 
 as_many : (one other : List Cell) → cells_with LeftOpen one ≡ cells_with LeftOpen other → length one ≡ length other
 as_many one other same =
-    sym (length-map (cell_with LeftOpen) one) ∙ ap length same ∙ length-map (cell_with LeftOpen) other
+    sym (length-map one (cell_with LeftOpen)) ∙ ap length same ∙ length-map other (cell_with LeftOpen)
 
 module _ (l : Language) (sheet : Sheet) (s : Day) (name : PartName) (work other : Work)
     (same : AskTheSame sheet work other) where
