@@ -27,6 +27,7 @@ use Rattle.kd_curator.specs.Looks.{Looks, named_texts}
 use Rattle.kd_curator_command.specs.UpToThree.{list_of_three}
 use Rattle.kd_curator.specs.Refusals.{comes_after_writing, is_after_all, is_device_fault, refused_device, refused_unread}
 use Rattle.kd_pictures.specs.declared.language.Language.{Language}
+use Rattle.kd_pictures.specs.declared.results.Results.{Results}
 use Rattle.kd_curator.specs.RunList.{WritesList}
 use Rattle.kd_curator.specs.RunPage.{WritesPages, wanted_days}
 use Rattle.kd_curator.specs.RunReceive.{WritesReceivePage}
@@ -55,16 +56,18 @@ DoesTask l (tasks.List day) name machine sheet sink answer = IsAnswerOnSheet mac
     (λ m month. WritesList month m day sink answer) answer
 
 -- The output for a message of this kind is written, and `answer` is the command's answer.
-abbrev pub WritesMessage : MessageKind → Language → List (Option Day) → Parts → ℕ → List ℕ → Port
+abbrev pub WritesMessage : MessageKind → Results → Language → List (Option Day) → Parts → ℕ → List ℕ → Port
     → Result (Unit {0}) Refused → Type 0
-WritesMessage kinds.Order l month m number order sink answer = WritesSendPage l month m number order sink answer
-WritesMessage kinds.Form l month m number form sink answer = WritesReceivePage l month m number form sink answer
+WritesMessage kinds.Order results l month m number order sink answer =
+    WritesSendPage results l month m number order sink answer
+WritesMessage kinds.Form results l month m number form sink answer =
+    WritesReceivePage results l month m number form sink answer
 
 -- The task writes its output and gives this answer, if the machine file, the key sheet and the message have these
 -- bytes. Words are in language `l`, unless the task asks for another language.
 abbrev pub WorksMessage : Language → MessageTask → List ℕ → List ℕ → List ℕ → Port → Result (Unit {0}) Refused → Type 0
 WorksMessage l task machine sheet message sink answer = IsAnswerOnSheet machine sheet
-    (λ m month. WritesMessage task.kind (unwrap_or task.language l) month m task.day message sink answer) answer
+    (λ m month. WritesMessage task.kind task.results (unwrap_or task.language l) month m task.day message sink answer) answer
 
 -- The command writes its output and gives this answer, if its files have the bytes `texts`, in the order of the files.
 -- Words are in language `l`, unless the command asks for another language.

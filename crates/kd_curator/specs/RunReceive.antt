@@ -12,6 +12,7 @@ use Rattle.kd_lost.specs.DamagedForm.{AreFormParts, IsFormFault, damaged_parts_o
 use Rattle.kd_lost.specs.declared.form.DamagedFormFault.{DamagedFormFault}
 use Rattle.kd_lost.specs.declared.part.DamagedPart.{DamagedPart}
 use Rattle.kd_pictures.specs.declared.language.Language.{Language}
+use Rattle.kd_pictures.specs.declared.results.Results.{Results}
 use Rattle.kd_message.specs.ReceivePage.{page_fault, receive_notes, receive_text}
 use Rattle.kd_lost.specs.ShownParts.{IsWhole}
 use Rattle.kd_curator.specs.Refusals.{has_written, refused_device, refused_message, refused_receive, refused_whole}
@@ -36,21 +37,21 @@ IsReceivedAs parts answer =
 -- - `NotRead`: the form has too many parts, or memory ran out.
 -- - `Page`: the page of the form's parts was written.
 -- - `Cut`: only a prefix of the page was written, since the sink failed.
-pub data WritesReceivePage (l : Language) (month : List (Option Day)) (m : Parts) (number : ℕ) (form : List ℕ)
+pub data WritesReceivePage (results : Results) (l : Language) (month : List (Option Day)) (m : Parts) (number : ℕ) (form : List ℕ)
     (sink : Port) (answer : Result (Unit {0}) Refused) : Type 0 where
   NoDay : day_of month number ≡ None → answer ≡ Err (refused_whole NoSuchDay)
-      → WritesReceivePage l month m number form sink answer
+      → WritesReceivePage results l month m number form sink answer
   OffKey : (s : Day) → day_of month number ≡ Some s → (fault : FormFault) → IsKeyFault m s fault
-      → answer ≡ Err (refused_message fault) → WritesReceivePage l month m number form sink answer
+      → answer ≡ Err (refused_message fault) → WritesReceivePage results l month m number form sink answer
   NotRead : (s : Day) → day_of month number ≡ Some s → IsReadyOnKey m s → (fault : DamagedFormFault)
       → IsFormFault (damaged_parts_of form) fault → answer ≡ Err (refused_receive (page_fault fault))
-      → WritesReceivePage l month m number form sink answer
+      → WritesReceivePage results l month m number form sink answer
   Page : (s : Day) → day_of month number ≡ Some s → (parts : List DamagedPart)
-      → IsFormRead m s form parts → Appends sink.had sink.has (receive_text l s parts)
-      → IsReceivedAs parts answer → WritesReceivePage l month m number form sink answer
+      → IsFormRead m s form parts → Appends sink.had sink.has (receive_text results l s parts)
+      → IsReceivedAs parts answer → WritesReceivePage results l month m number form sink answer
   Cut : (s : Day) → day_of month number ≡ Some s → (parts : List DamagedPart)
-      → IsFormRead m s form parts → TakesPrefix sink.had sink.has (receive_text l s parts)
-      → answer ≡ Err refused_device → WritesReceivePage l month m number form sink answer
+      → IsFormRead m s form parts → TakesPrefix sink.had sink.has (receive_text results l s parts)
+      → answer ≡ Err refused_device → WritesReceivePage results l month m number form sink answer
 
 -- `Told` holds of the notes on standard error. The notes say what is wrong with the form's parts, and what the sender
 -- should repeat. If no page is written, there may be no notes.

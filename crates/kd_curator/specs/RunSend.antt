@@ -9,6 +9,7 @@ use Rattle.kd_form.specs.OnTheKey.{IsReadyOnKey}
 use Rattle.kd_form.specs.Sending.{IsFormOf}
 use Rattle.kd_form.specs.declared.fault.FormFault.{FormFault}
 use Rattle.kd_pictures.specs.declared.language.Language.{Language}
+use Rattle.kd_pictures.specs.declared.results.Results.{Results}
 use Rattle.kd_message.specs.SendPage.{IsSendPage, IsSendRefusal}
 use Rattle.kd_curator.specs.Refusals.{refused_device, refused_message, refused_whole}
 use Rattle.kd_curator.specs.declared.fault.PageFault.TheVariants.{NoSuchDay}
@@ -18,12 +19,12 @@ use Rattle.kd_curator.specs.declared.fault.Refused.{Refused}
 -- - `NoDay`: the sheet doesn't have the day.
 -- - `NoPage`: the order is refused on this day, for the fault that `send` returns.
 -- - `Page`: the order's page was written in language `l`. If the sink failed, only a prefix of the page was written.
-pub data WritesSendPage (l : Language) (month : List (Option Day)) (m : Parts) (number : ℕ) (order : List ℕ)
+pub data WritesSendPage (results : Results) (l : Language) (month : List (Option Day)) (m : Parts) (number : ℕ) (order : List ℕ)
     (sink : Port) (answer : Result (Unit {0}) Refused) : Type 0 where
   NoDay : day_of month number ≡ None → answer ≡ Err (refused_whole NoSuchDay)
-      → WritesSendPage l month m number order sink answer
+      → WritesSendPage results l month m number order sink answer
   NoPage : (s : Day) → day_of month number ≡ Some s → (fault : FormFault) → IsSendRefusal m s order fault
-      → answer ≡ Err (refused_message fault) → WritesSendPage l month m number order sink answer
+      → answer ≡ Err (refused_message fault) → WritesSendPage results l month m number order sink answer
   Page : (s : Day) → day_of month number ≡ Some s → (form page : List ℕ)
-      → IsReadyOnKey m s → IsFormOf s order form → IsSendPage l s order form page
-      → WritesText refused_device page sink answer → WritesSendPage l month m number order sink answer
+      → IsReadyOnKey m s → IsFormOf s order form → IsSendPage results l s order form page
+      → WritesText refused_device page sink answer → WritesSendPage results l month m number order sink answer

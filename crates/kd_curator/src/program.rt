@@ -356,12 +356,14 @@ fn work_message<W: Sink, E: Sink>(
     ensures told { TellsOfMessage task.kind (port E.taken E.has_failed errors.old errors.new) }
 {
     let language = task.language.unwrap_or(language);
-    let day = task.day;
+    let (day, results) = (task.day, task.results);
     match task.kind {
-        MessageKind::Order => run_send(alloc, language, machine, sheet, day, message, sink),
-        MessageKind::Form => {
-            run_receive(alloc, language, machine, sheet, day, message, sink, errors)
+        MessageKind::Order => {
+            run_send(alloc, language, results, machine, sheet, day, message, sink)
         }
+        MessageKind::Form => run_receive(
+            alloc, language, results, machine, sheet, day, message, sink, errors,
+        ),
     }
 }
 

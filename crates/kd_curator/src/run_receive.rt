@@ -11,7 +11,7 @@ use crate::fault::{PageFault, Refused};
 use crate::machine_and_sheet::read_both;
 use kd_form::machine_check::check_machine;
 use kd_message::write_receive_page;
-use kd_page::Language;
+use kd_pictures::{Language, Results};
 use kd_sheet::Sheet;
 use kd_state::{Machine, SheetDay};
 use kd_tables::Sink;
@@ -27,6 +27,7 @@ use std::alloc::Global;
 pub fn run_receive<W: Sink, E: Sink>(
     alloc: Global,
     language: Language,
+    results: Results,
     machine: &[u8],
     sheet: &[u8],
     number: u8,
@@ -35,7 +36,7 @@ pub fn run_receive<W: Sink, E: Sink>(
     errors: &mut E,
 ) -> Result<(), Refused>
     ensures page { IsAnswerOnSheet machine.now sheet.now
-        (λ m month. WritesReceivePage language month m number form.now
+        (λ m month. WritesReceivePage results language month m number form.now
         (port W.taken W.has_failed sink.old sink.new) result) result }
     ensures untouched { IsErr result → has_written result ≡ false → sink.new ≡ sink.old }
     ensures failed { W.has_failed sink.new ≡ (W.has_failed sink.old || is_device result) }
@@ -47,7 +48,7 @@ pub fn run_receive<W: Sink, E: Sink>(
 {
     let (machine, sheet) = read_both(alloc, machine, sheet)?;
     write_form(
-        alloc, language, &machine, &sheet, number, form, sink, errors,
+        alloc, language, results, &machine, &sheet, number, form, sink, errors,
     )
 }
 
@@ -55,6 +56,7 @@ pub fn run_receive<W: Sink, E: Sink>(
 fn write_form<W: Sink, E: Sink>(
     alloc: Global,
     language: Language,
+    results: Results,
     machine: &Machine,
     sheet: &Sheet,
     number: u8,
@@ -62,7 +64,7 @@ fn write_form<W: Sink, E: Sink>(
     sink: &mut W,
     errors: &mut E,
 ) -> Result<(), Refused>
-    ensures page { WritesReceivePage language sheet.now machine.now number form.now
+    ensures page { WritesReceivePage results language sheet.now machine.now number form.now
         (port W.taken W.has_failed sink.old sink.new) result }
     ensures untouched { IsErr result → has_written result ≡ false → sink.new ≡ sink.old }
     ensures failed { W.has_failed sink.new ≡ (W.has_failed sink.old || is_device result) }
@@ -77,7 +79,7 @@ fn write_form<W: Sink, E: Sink>(
     if let Err(fault) = check_machine(machine, day) {
         return Err(Refused::of_message(fault));
     }
-    match write_receive_page(alloc, language, day, form, sink, errors) {
+    match write_receive_page(alloc, language, results, day, form, sink, errors) {
         Ok(true) => Ok(()),
         Ok(false) => Err(Refused::from(PageFault::NotWhole)),
         Err(fault) => Err(Refused::from(fault)),

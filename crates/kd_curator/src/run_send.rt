@@ -8,7 +8,7 @@ ghost use Rattle.kd_curator.specs.RunSend.{WritesSendPage};
 use crate::fault::{PageFault, Refused};
 use crate::machine_and_sheet::read_both;
 use kd_message::write_send_page;
-use kd_page::Language;
+use kd_pictures::{Language, Results};
 use kd_sheet::Sheet;
 use kd_state::Machine;
 use kd_tables::Sink;
@@ -23,6 +23,7 @@ use std::alloc::Global;
 pub fn run_send<W: Sink>(
     alloc: Global,
     language: Language,
+    results: Results,
     machine: &[u8],
     sheet: &[u8],
     number: u8,
@@ -30,26 +31,29 @@ pub fn run_send<W: Sink>(
     sink: &mut W,
 ) -> Result<(), Refused>
     ensures page { IsAnswerOnSheet machine.now sheet.now
-        (λ m month. WritesSendPage language month m number order.now
+        (λ m month. WritesSendPage results language month m number order.now
         (port W.taken W.has_failed sink.old sink.new) result) result }
     ensures untouched { IsErr result → is_device result ≡ false → sink.new ≡ sink.old }
     ensures failed { W.has_failed sink.new ≡ (W.has_failed sink.old || is_device result) }
 {
     let (machine, sheet) = read_both(alloc, machine, sheet)?;
-    write_order(alloc, language, &machine, &sheet, number, order, sink)
+    write_order(
+        alloc, language, results, &machine, &sheet, number, order, sink,
+    )
 }
 
 /// Does what `run_send` does, for a machine and a sheet that are already read.
 fn write_order<W: Sink>(
     alloc: Global,
     language: Language,
+    results: Results,
     machine: &Machine,
     sheet: &Sheet,
     number: u8,
     order: &[u8],
     sink: &mut W,
 ) -> Result<(), Refused>
-    ensures page { WritesSendPage language sheet.now machine.now number order.now
+    ensures page { WritesSendPage results language sheet.now machine.now number order.now
         (port W.taken W.has_failed sink.old sink.new) result }
     ensures untouched { IsErr result → is_device result ≡ false → sink.new ≡ sink.old }
     ensures failed { W.has_failed sink.new ≡ (W.has_failed sink.old || is_device result) }
@@ -57,7 +61,7 @@ fn write_order<W: Sink>(
     let Some(day) = sheet.day(number) else {
         return Err(Refused::from(PageFault::NoSuchDay));
     };
-    match write_send_page(alloc, language, machine, day, order, sink) {
+    match write_send_page(alloc, language, results, machine, day, order, sink) {
         Ok(()) => Ok(()),
         Err(fault) => Err(Refused::from(fault)),
     }

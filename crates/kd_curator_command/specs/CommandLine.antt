@@ -14,6 +14,8 @@ use Rattle.kd_state.specs.SheetDay.{IsDayNumber}
 use Rattle.kd_curator_command.specs.Days.{AreDays}
 use Rattle.kd_curator_command.specs.Locale.{language_code}
 use Rattle.kd_pictures.specs.declared.language.Language.{Language}
+use Rattle.kd_pictures.specs.declared.results.Results.{Results}
+use Rattle.kd_pictures.specs.declared.results.Results.TheVariants.{LeftOpen, Shown}
 use Rattle.clap.specs.declared.builder.action.ArgAction.TheVariants.{SetTrue}
 use Rattle.kd_tables.specs.Tables.{model_text}
 use Rattle.kd_tables.specs.declared.model.Model.{Model}
@@ -96,9 +98,14 @@ look_shape = record (new_shape (codes "look")) {
   rules = needed (codes "FILE") ∷ new_rule (codes "FILE2") ∷ new_rule (codes "FILE3") ∷ [];
 }
 
+-- the option `--blank`, which takes no value
+abbrev pub blank_flag : Rule
+blank_flag = flag (codes "blank")
+
 abbrev pub message_shape : List ℕ → Rule → Shape
 message_shape name message =
-    with_rule (with_rule (with_rule (command_shape name (needed (codes "DAY"))) message) language_option) output_option
+    with_rule (with_rule (with_rule (with_rule (command_shape name (needed (codes "DAY"))) message) blank_flag)
+    language_option) output_option
 
 abbrev pub send_shape : Shape
 send_shape = message_shape (codes "send") (needed (codes "ORDER"))
@@ -191,6 +198,11 @@ abbrev pub HasForm : List Row → TableForm → Type 0
 HasForm rows forms.Csv = first_of (codes "csv") rows ≡ Some (codes "true")
 HasForm rows forms.Page = first_of (codes "csv") rows ≢ Some (codes "true")
 
+-- The arguments say whether the page shows the results. With the option `--blank`, they are left open.
+abbrev pub HasResults : List Row → Results → Type 0
+HasResults rows LeftOpen = first_of (codes "blank") rows ≡ Some (codes "true")
+HasResults rows Shown = first_of (codes "blank") rows ≢ Some (codes "true")
+
 -- the command for a message of this kind: `send` for an order, `receive` for a form
 abbrev pub message_name : MessageKind → List ℕ
 message_name kinds.Order = codes "send"
@@ -208,6 +220,7 @@ pub record IsMessageOf (said : List ℕ × List Row) (machine_file key_sheet its
   pub sheet : first_of (codes "SHEET") said.1 ≡ Some key_sheet
   pub message : first_of (message_argument its_task.kind) said.1 ≡ Some its_message
   pub day : HasDay said.1 its_task.day
+  pub results : HasResults said.1 its_task.results
   pub language : HasLanguage said.1 its_task.language
 
 -- The command's name and arguments in `said` mean the command `type`, with this machine file and this language.
@@ -361,6 +374,7 @@ pub record IsMadeOf (grammar : Grammar) (shape : Shape) : Type 0 where
 pub record IsMessageTask (rows : List Row) (kind : MessageKind) (task : MessageTask) : Type 0 where
   pub same : task.kind ≡ kind
   pub day : HasDay rows task.day
+  pub results : HasResults rows task.results
   pub language : HasLanguage rows task.language
 
 -- For an error of this kind from `clap`, the program may give this reason why there is no command.

@@ -3,7 +3,7 @@ ghost use Rattle.std.specs.Prelude.{◌≡◌, ◌≢◌, ℕ, List, Option, Non
 ghost use Rattle.clap.specs.Words.{app_of, found_of, kind_of, rows_of, subcommand_rows_of};
 ghost use Rattle.kd_curator_command.specs.CommandLine.{curator_grammar};
 ghost use Rattle.kd_table.specs.Options.{texts_of};
-ghost use Rattle.kd_curator_command.specs.CommandLine.{HasDay, HasDays, HasForm, HasLanguage, HasNoCommand, IsCommandLineOf};
+ghost use Rattle.kd_curator_command.specs.CommandLine.{HasDay, HasDays, HasForm, HasLanguage, HasNoCommand, HasResults, IsCommandLineOf};
 ghost use Rattle.kd_curator_command.specs.CommandLine.{IsCommandOf, IsFormNamed, IsMeant, IsMessageTask, IsMonthNamed, IsTaskOf};
 ghost use Rattle.kd_curator_command.specs.CommandLine.{IsToldAs, NamedCommand, are_blank, message_argument, message_name};
 ghost use Rattle.kd_curator_command.specs.CommandLine.{option_text, option_texts, output_of, output_said, unborrowed_command};
@@ -16,7 +16,7 @@ use crate::up_to_three::UpToThree;
 use clap::error::ErrorKind;
 use clap::{ArgMatches, Command as Grammar, Error};
 use kd_key_table::TableForm;
-use kd_pictures::Language;
+use kd_pictures::{Language, Results};
 use kd_state::day_of_text;
 use kd_table::TableOptions;
 use kd_tables::Model;
@@ -117,6 +117,8 @@ pub struct MessageTask {
     pub kind: MessageKind,
     /// The number of the day whose key is used.
     pub day: u8,
+    /// Whether the page shows the results; with the option `--blank`, they are left open.
+    pub results: Results,
     /// The language of the page; `None` if the option `--in` isn't used.
     pub language: Option<Language>,
 }
@@ -329,8 +331,19 @@ fn message_task(words: &ArgMatches<'_>, kind: MessageKind) -> Option<MessageTask
     Some(MessageTask {
         kind,
         day,
+        results: results_asked(words),
         language,
     })
+}
+
+/// Whether the page shows the results: with the option `--blank`, they are left open.
+fn results_asked(words: &ArgMatches<'_>) -> Results
+    ensures { HasResults (rows_of (found_of words.now)) result }
+{
+    match words.get_str("blank") {
+        Some(word) if word == "true" => Results::LeftOpen,
+        _ => Results::Shown,
+    }
 }
 
 /// The command `type` with the arguments in `words`. `None` if an argument has a wrong value.

@@ -73,6 +73,12 @@ const OUTPUT: Argument<'static> = Argument {
     help: "Writes the new file FILE, whole or not at all, and no standard output",
 };
 
+const BLANK: Argument<'static> = Argument {
+    name: "blank",
+    sort: Sort::Flag,
+    help: "Leaves open what the machine gives: worksheets, of which the page without --blank is the solution",
+};
+
 /// The commands, in the order in which help lists them.
 static COMMANDS: [CommandWords; 8] = [
     CommandWords {
@@ -107,6 +113,7 @@ static COMMANDS: [CommandWords; 8] = [
                 sort: Sort::Needed,
                 help: "The order, as desk send takes it",
             },
+            BLANK,
             LANGUAGE,
             OUTPUT,
         ],
@@ -123,6 +130,7 @@ static COMMANDS: [CommandWords; 8] = [
                 sort: Sort::Needed,
                 help: "The form, with ? for each lost letter",
             },
+            BLANK,
             LANGUAGE,
             OUTPUT,
         ],

@@ -21,6 +21,7 @@ use Rattle.kd_lost.proofs.CompletedParts.{read_somehow}
 use Rattle.kd_lost.specs.DamagedPart.{AreNumbersRead, IsDamagedHeading, IsDamagedTextAnswer, first_line}
 use Rattle.kd_pictures.specs.declared.language.Language.{Language}
 use Rattle.kd_part_sheet.specs.declared.part_sheet.PartName.{PartName}
+use Rattle.kd_pictures.specs.declared.results.Results.TheVariants.{Shown}
 use Rattle.kd_message.specs.declared.receiving.Section.TheVariants as sections
 use Rattle.kd_message.specs.Laws.{HasLettersOf, IsOn, NothingReadIsHidden, RepetitionsHaveTheLetters, WholeMessagesAreOnThePage}
 use Rattle.kd_message.specs.Laws.{WholeMessagesHaveOneTotal, clear_text, letters_of_part}
@@ -37,7 +38,7 @@ use Rattle.kd_lost.specs.ShownParts.{is_one_message, parts_or, shown_under, text
 use Rattle.kd_lost.specs.Texts.{letter_within, letters_within, lost_in, shown_text, text_or, text_within}
 unfoldable use Rattle.kd_message.specs.TextSheet.{counted_text, read_text}
 use Rattle.kd_message.specs.declared.texts.TheConstants.{TEXT_END}
-use Rattle.kd_message.specs.TextSheet.{ask_for_lost, came_text, text_begin, text_part_head, warnings_of}
+use Rattle.kd_message.specs.TextSheet.{ask_for_lost, came_text, text_begin, text_letters, text_part_head, warnings_of}
 use Rattle.kd_part_sheet.specs.declared.markup.TheConstants.{SECTION_END}
 use Rattle.kd_part_sheet.specs.PartSheet.{warnings_text}
 use Rattle.kd_message.proofs.ReceivePages.{better_holds, shown_holds}
@@ -85,7 +86,7 @@ at_range P from count (suc place) inside all =
     (subst (All P) (range_first from count (omega (arith, inside))) all)))
 
 page_has : (l : Language) (s : Day) (parts : List DamagedPart) (piece : List ℕ)
-    → IsOn (section_text sections.Texts l s parts) piece → IsOn (receive_text l s parts) piece
+    → IsOn (section_text (sections.Texts Shown) l s parts) piece → IsOn (receive_text Shown l s parts) piece
 unfolding receive_text
 page_has l s parts piece is = on_left _ _ piece (on_left _ _ piece (on_left _ _ piece (on_right _ _ piece is)))
 
@@ -419,22 +420,22 @@ text_on_cases l s name part shown (Err damage) (Some text) by is =
 
 text_on_part : (l : Language) (s : Day) (name : PartName) (times : ℕ) (part : DamagedPart) (shown : DamagedText)
     → shown_text part ≡ Some shown
-    → IsOn (part_in sections.Texts l s name times part) (read_text l (sheet_to_receive (day_model s)) s name shown)
+    → IsOn (part_in (sections.Texts Shown) l s name times part) (read_text l (sheet_to_receive (day_model s)) s name shown)
 text_on_part l s name times part shown is =
     on_left _ _ _ (on_right _ _ _ (text_on_cases l s name part shown part.text part.by_count refl is))
 
 came_there_cases : (l : Language) (s : Day) (place before : ℕ) (one : DamagedPart) (parts : List DamagedPart)
     (part : DamagedPart) (numbers : PartNumbers) → (one ≡ part) ⊎ Contains parts part → part.numbers ≡ Some numbers
     → (Contains parts part → (at : ℕ) × IsOn
-    (as_they_came sections.Texts l s (place + 1) (number_or before one.numbers) parts)
-    (part_in sections.Texts l s (name_at s at numbers) 1 part))
-    → (at : ℕ) × IsOn (as_they_came sections.Texts l s place before (one ∷ parts))
-    (part_in sections.Texts l s (name_at s at numbers) 1 part)
+    (as_they_came (sections.Texts Shown) l s (place + 1) (number_or before one.numbers) parts)
+    (part_in (sections.Texts Shown) l s (name_at Shown s at numbers) 1 part))
+    → (at : ℕ) × IsOn (as_they_came (sections.Texts Shown) l s place before (one ∷ parts))
+    (part_in (sections.Texts Shown) l s (name_at Shown s at numbers) 1 part)
 came_there_cases l s place before one parts part numbers (inl same) is rest =
-    let piece = part_in sections.Texts l s (name_at s place numbers) 1 part in
-    let here : part_at sections.Texts l s place before one.numbers one ≡ piece =
-    ap (λ (p : DamagedPart). part_at sections.Texts l s place before p.numbers p) same
-    ∙ ap (λ n. part_at sections.Texts l s place before n part) is in
+    let piece = part_in (sections.Texts Shown) l s (name_at Shown s place numbers) 1 part in
+    let here : part_at (sections.Texts Shown) l s place before one.numbers one ≡ piece =
+    ap (λ (p : DamagedPart). part_at (sections.Texts Shown) l s place before p.numbers p) same
+    ∙ ap (λ n. part_at (sections.Texts Shown) l s place before n part) is in
     (place, on_left _ _ piece (subst (λ t. IsOn t piece) (sym here) (on_itself piece)))
 came_there_cases l s place before one parts part numbers (inr later) is rest =
     let found = rest later in
@@ -442,8 +443,8 @@ came_there_cases l s place before one parts part numbers (inr later) is rest =
 
 came_there : (l : Language) (s : Day) (place before : ℕ) (parts : List DamagedPart) (part : DamagedPart)
     (numbers : PartNumbers) → Contains parts part → part.numbers ≡ Some numbers
-    → (at : ℕ) × IsOn (as_they_came sections.Texts l s place before parts)
-    (part_in sections.Texts l s (name_at s at numbers) 1 part)
+    → (at : ℕ) × IsOn (as_they_came (sections.Texts Shown) l s place before parts)
+    (part_in (sections.Texts Shown) l s (name_at Shown s at numbers) 1 part)
 came_there l s place before [] part numbers there is = absurd (contains_none part there)
 came_there l s place before (one ∷ parts) part numbers there is =
     came_there_cases l s place before one parts part numbers (first_or_later one parts part there) is
@@ -455,20 +456,20 @@ on_part whole middle piece (before, after, is) inner =
 
 number_on_page : (l : Language) (s : Day) (parts : List DamagedPart) (number : ℕ) (part : DamagedPart)
     → is_one_message parts ≡ true → 1 ≤ number → number ≤ total_of parts → shown_under parts number ≡ Some part
-    → IsOn (receive_text l s parts)
-    (part_in sections.Texts l s (part_name s number (total_of parts)) (times_of parts number) part)
+    → IsOn (receive_text Shown l s parts)
+    (part_in (sections.Texts Shown) l s (part_name Shown s number (total_of parts)) (times_of parts number) part)
 number_on_page l s parts number part agree first last is =
-    let name = part_name s number (total_of parts) in
+    let name = part_name Shown s number (total_of parts) in
     let times = times_of parts number in
-    let piece = part_in sections.Texts l s name times part in
+    let piece = part_in (sections.Texts Shown) l s name times part in
     let same : 1 + (number - 1) ≡ number = omega (arith, first) in
-    let shown : IsOn (number_in sections.Texts l s parts number) piece =
-    on_left _ _ piece (subst (λ o. IsOn (shown_in sections.Texts l s name times o) piece) (sym is) (on_itself piece)) in
-    let all : IsOn (by_number sections.Texts l s parts) piece =
-    on_right _ _ piece (on_range (number_in sections.Texts l s parts) 1 (total_of parts) (number - 1) piece
-    (omega (arith, first, last)) (subst (λ n. IsOn (number_in sections.Texts l s parts n) piece) (sym same) shown)) in
+    let shown : IsOn (number_in (sections.Texts Shown) l s parts number) piece =
+    on_left _ _ piece (subst (λ o. IsOn (shown_in (sections.Texts Shown) l s name times o) piece) (sym is) (on_itself piece)) in
+    let all : IsOn (by_number (sections.Texts Shown) l s parts) piece =
+    on_right _ _ piece (on_range (number_in (sections.Texts Shown) l s parts) 1 (total_of parts) (number - 1) piece
+    (omega (arith, first, last)) (subst (λ n. IsOn (number_in (sections.Texts Shown) l s parts n) piece) (sym same) shown)) in
     page_has l s parts piece
-    (subst (λ b. IsOn (if b then by_number sections.Texts l s parts else as_they_came sections.Texts l s 1 0 parts) piece)
+    (subst (λ b. IsOn (if b then by_number (sections.Texts Shown) l s parts else as_they_came (sections.Texts Shown) l s 1 0 parts) piece)
     (sym agree) all)
 
 its_number : (numbers : PartNumbers) → is_number numbers.part (Some numbers) ≡ true
@@ -480,7 +481,7 @@ IsNotHidden l s parts part shown =
     (name : PartName) × (best : DamagedPart) × (text : DamagedText) × IsTrue (is_number name.part part.numbers)
     × IsTrue (is_number name.part best.numbers) × Contains parts best × (shown_text best ≡ Some text)
     × HasLettersOf text shown × (lost_in text ≤ lost_in shown)
-    × IsOn (receive_text l s parts) (read_text l (sheet_to_receive (day_model s)) s name text)
+    × IsOn (receive_text Shown l s parts) (read_text l (sheet_to_receive (day_model s)) s name text)
 
 same_number : (one : Option PartNumbers) (numbers : PartNumbers) → is_same_part one (Some numbers) ≡ true
     → is_number numbers.part one ≡ true
@@ -496,7 +497,7 @@ hidden_by_none l s parts part kept shown numbers true one its there within numbe
     let told = best_told parts kept numbers within.text both.1 there number within.is in
     let all = within_further (shown_text told.best) within.text shown within.has within.no_more told.within in
     let total = total_is parts kept numbers both.0 there number in
-    let name = part_name s numbers.part (total_of parts) in (
+    let name = part_name Shown s numbers.part (total_of parts) in (
       name,
       told.best,
       all.text,
@@ -512,9 +513,9 @@ hidden_by_none l s parts part kept shown numbers true one its there within numbe
     )
 hidden_by_none l s parts part kept shown numbers false one its there within number first last =
     let (at, on) = came_there l s 1 0 parts kept numbers there number in
-    let name = name_at s at numbers in
+    let name = name_at Shown s at numbers in
     let piece = read_text l (sheet_to_receive (day_model s)) s name within.text in
-    let all : IsOn (as_they_came sections.Texts l s 1 0 parts) piece =
+    let all : IsOn (as_they_came (sections.Texts Shown) l s 1 0 parts) piece =
     on_part _ _ _ on (text_on_part l s name 1 kept within.text within.is) in (
       name,
       kept,
@@ -526,7 +527,7 @@ hidden_by_none l s parts part kept shown numbers false one its there within numb
       within.has,
       within.no_more,
       page_has l s parts piece
-          (subst (λ b. IsOn (if b then by_number sections.Texts l s parts else as_they_came sections.Texts l s 1 0 parts) piece)
+          (subst (λ b. IsOn (if b then by_number (sections.Texts Shown) l s parts else as_they_came (sections.Texts Shown) l s 1 0 parts) piece)
           (sym one) all),
     )
 
@@ -565,11 +566,13 @@ clear_joined : (h c b t e w a x : List ℕ)
 clear_joined h c b t e w a x = grind (arith, append_assoc)
 
 clear_on_part : (l : Language) (s : Day) (name : PartName) (times : ℕ) (part : DamagedPart) (shown : DamagedText)
-    (letters : List ℕ) → part.text ≡ Ok shown → shown.letters.items ≡ map Some letters
-    → IsOn (part_in sections.Texts l s name times part) (clear_text l s name times letters)
+    (letters : List ℕ) → name.results ≡ Shown → part.text ≡ Ok shown → shown.letters.items ≡ map Some letters
+    → IsOn (part_in (sections.Texts Shown) l s name times part) (clear_text l s name times letters)
 unfolding read_text
-clear_on_part l s name times part shown letters is known =
-    let bytes = ap (map (shown_byte (space_letter s))) known ∙ shown_known s letters in
+clear_on_part l s name times part shown letters shows is known =
+    let bytes : text_letters name.results s shown.letters.items ≡ plaintext_bytes s letters =
+    ap (λ r. text_letters r s shown.letters.items) shows ∙ ap (map (shown_byte (space_letter s))) known
+    ∙ shown_known s letters in
     let head = text_part_head l name in
     let came = came_text l times in
     let begin = text_begin name.model in
@@ -590,9 +593,9 @@ whole_on_page l s parts number whole first last =
     (at_range (IsNumberWhole parts) 1 (total_of parts) (number - 1) (omega (arith, first, last)) whole.each)) in
     let (shown, is, all) = read in
     let (letters, known) = known_letters shown.letters.items all in
-    let name = part_name s number (total_of parts) in (
+    let name = part_name Shown s number (total_of parts) in (
       letters,
       ap letters_of_part found ∙ ap letters_in is ∙ known,
       on_part _ _ _ (number_on_page l s parts number part whole.one_message first last found)
-          (clear_on_part l s name (times_of parts number) part shown letters is known),
+          (clear_on_part l s name (times_of parts number) part shown letters refl is known),
     )

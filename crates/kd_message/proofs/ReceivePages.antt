@@ -23,6 +23,7 @@ use Rattle.kd_lost.proofs.PartShown.{shown_there}
 use Rattle.kd_pictures.specs.declared.language.Language.{Language}
 use Rattle.kd_message.specs.ReceivedWork.{AreShowable}
 use Rattle.kd_lost.specs.Texts.{text_or}
+use Rattle.kd_pictures.specs.declared.results.Results.{Results}
 unfoldable use Rattle.kd_message.specs.ReceivePage.{receive_text}
 use Rattle.kd_message.specs.ReceivePage.{AreWorkable, HasShowableKeys}
 use Rattle.kd_lost.specs.ShownParts.{better, is_number, is_worse, shown_under}
@@ -118,10 +119,10 @@ are_workable_parts s form parts is =
 -- ---- The page.
 
 -- a page isn't empty
-pub page_begins : (l : Language) (s : Day) (parts : List DamagedPart)
-    → (first : ℕ) × ((rest : List ℕ) × (receive_text l s parts ≡ first ∷ rest))
+pub page_begins : (results : Results) (l : Language) (s : Day) (parts : List DamagedPart)
+    → (first : ℕ) × ((rest : List ℕ) × (receive_text results l s parts ≡ first ∷ rest))
 unfolding receive_text
-page_begins l s parts = begins _ _ _
+page_begins results l s parts = begins _ _ _
 
 pub five_joined : (a b c d e : List ℕ) → a ++ b ++ c ++ d ++ e ≡ (((a ++ b) ++ c) ++ d) ++ e
 five_joined a b c d e = grind (arith, append_assoc)

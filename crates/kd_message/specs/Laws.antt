@@ -16,6 +16,7 @@ use Rattle.kd_part_sheet.specs.declared.cells.Sign.TheVariants as signs
 use Rattle.kd_part_sheet.specs.Cells.{received_cells}
 use Rattle.kd_part_sheet.specs.LettersAfter.{letters_after}
 use Rattle.kd_part_sheet.specs.declared.part_sheet.PartName.{PartName}
+use Rattle.kd_pictures.specs.declared.results.Results.TheVariants.{Shown}
 use Rattle.kd_pictures.specs.declared.language.Language.{Language}
 use Rattle.kd_message.specs.declared.texts.TheConstants.{TEXT_END}
 use Rattle.kd_message.specs.ReceivePage.{receive_text, sheet_to_receive}
@@ -34,9 +35,10 @@ RowsAreEnciphered =
     → cipher_from s start (before ++ row)
     ≡ cipher_from s start before ++ cipher_from s (letters_after s start (length before)) row
 
--- the letter of a sign; `None` if the letter is lost, or the sign has none
+-- the letter of a sign; `None` if the letter is lost or left open, or the sign has none
 abbrev pub letter_of : Sign → Option ℕ
 letter_of signs.Nothing = None
+letter_of signs.Open = None
 letter_of signs.Lost = None
 letter_of (signs.Letter letter) = Some letter
 
@@ -95,7 +97,7 @@ NothingReadIsHidden =
     → (name : PartName) × (best : DamagedPart) × (text : DamagedText) × IsTrue (is_number name.part part.numbers)
     × IsTrue (is_number name.part best.numbers) × Contains parts best × (shown_text best ≡ Some text)
     × HasLettersOf text shown × (lost_in text ≤ lost_in shown)
-    × IsOn (receive_text l s parts) (read_text l (sheet_to_receive (day_model s)) s name text)
+    × IsOn (receive_text Shown l s parts) (read_text l (sheet_to_receive (day_model s)) s name text)
 
 -- the complete text of a part, below the part's head
 abbrev pub clear_text : Language → Day → PartName → ℕ → List ℕ → List ℕ
@@ -108,8 +110,8 @@ WholeMessagesAreOnThePage =
     (l : Language) (s : Day) (parts : List DamagedPart) (number : ℕ) → IsWhole parts → 1 ≤ number
     → number ≤ total_of parts
     → (letters : List ℕ) × (letters_of_part (shown_under parts number) ≡ map Some letters)
-    × IsOn (receive_text l s parts)
-    (clear_text l s (part_name s number (total_of parts)) (times_of parts number) letters)
+    × IsOn (receive_text Shown l s parts)
+    (clear_text l s (part_name Shown s number (total_of parts)) (times_of parts number) letters)
 
 -- All headings of a whole message give the same number of parts.
 abbrev pub WholeMessagesHaveOneTotal : Type 0

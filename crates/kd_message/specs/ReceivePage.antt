@@ -21,6 +21,8 @@ use Rattle.kd_pictures.specs.Template.{filled}
 use Rattle.kd_pictures.specs.Words.{is_converter}
 use Rattle.kd_part_sheet.specs.declared.markup.TheConstants.{SECTION_END}
 use Rattle.kd_part_sheet.specs.declared.part_sheet.PartName.{PartName}
+use Rattle.kd_pictures.specs.declared.results.Results.{Results}
+use Rattle.kd_pictures.specs.declared.results.Results.TheVariants.{Shown}
 use Rattle.kd_part_sheet.specs.declared.sheet.Sheet.{Sheet}
 use Rattle.kd_part_sheet.specs.declared.sheet.Sheet.TheVariants.{PinReceive, RotorReceive}
 use Rattle.kd_message.specs.declared.texts.TheConstants as texts
@@ -74,27 +76,42 @@ abbrev pub text_or_damage : Language → Day → PartName → DamagedPart → Re
 text_or_damage l s name part (Ok shown) = read_text l (sheet_to_receive (day_model s)) s name shown
 text_or_damage l s name part (Err damage) = counted_or_damage l s name part damage part.by_count
 
+-- whether the section shows the results, or leaves them open; the list of the sheets and the notes have none
+abbrev pub results_of : Section → Results
+results_of sections.Listed = Shown
+results_of (sections.Worked results) = results
+results_of (sections.Texts results) = results
+results_of sections.Noted = Shown
+
+-- the section on the text of a part that came `times` times
+abbrev pub part_text : Language → Day → PartName → ℕ → DamagedPart → List ℕ
+part_text l s name times part =
+    text_part_head l name ++ came_text l times ++ text_or_damage l s name part part.text ++ SECTION_END.now
+
 -- the words in `section` for a part that came `times` times
 abbrev pub part_in : Section → Language → Day → PartName → ℕ → DamagedPart → List ℕ
 part_in sections.Listed l s name times part = listed_text l name (shown_text part)
-part_in sections.Worked l s name times part = worked_text l s name (shown_text part)
+part_in (sections.Worked results) l s name times part = worked_text l s name (shown_text part)
 part_in sections.Noted l s name times part = part_note l name part
-part_in sections.Texts l s name times part =
-    text_part_head l name ++ came_text l times ++ text_or_damage l s name part part.text ++ SECTION_END.now
+part_in (sections.Texts results) l s name times part = part_text l s name times part
+
+-- the section on a part that didn't come
+abbrev pub missing_part_text : Language → PartName → List ℕ
+missing_part_text l name = text_part_head l name ++ missing_text l name ++ SECTION_END.now
 
 -- the words in `section` for a part that didn't come
 abbrev pub missing_in : Section → Language → PartName → List ℕ
 missing_in sections.Listed l name = listed_unread l name
-missing_in sections.Worked l name = []
+missing_in (sections.Worked results) l name = []
 missing_in sections.Noted l name = missing_note l name
-missing_in sections.Texts l name = text_part_head l name ++ missing_text l name ++ SECTION_END.now
+missing_in (sections.Texts results) l name = missing_part_text l name
 
 -- The words in `section` for a part without a number. `after` is the number of the last numbered part before this part.
 abbrev pub lone_in : Section → Language → Day → ℕ → DamagedPart → List ℕ
 lone_in sections.Listed l s after part = listed_lone l after
-lone_in sections.Worked l s after part = []
+lone_in (sections.Worked results) l s after part = []
 lone_in sections.Noted l s after part = lone_note l (day_model s) after part
-lone_in sections.Texts l s after part = lone_text l s after part
+lone_in (sections.Texts results) l s after part = lone_text l s after part
 
 -- ---- The parts of one message, by their numbers.
 
@@ -119,7 +136,8 @@ shown_in section l s name times None = missing_in section l name
 -- the words in `section` for the part with number `number`, then for the unnumbered parts after this part
 abbrev pub number_in : Section → Language → Day → List DamagedPart → ℕ → List ℕ
 number_in section l s parts number =
-    shown_in section l s (part_name s number (total_of parts)) (times_of parts number) (shown_under parts number)
+    shown_in section l s (part_name (results_of section) s number (total_of parts)) (times_of parts number)
+    (shown_under parts number)
     ++ lone_after section l s number 0 parts
 
 -- the words in `section` for the unnumbered parts at the beginning, then for each number: its part, and the unnumbered
@@ -130,14 +148,21 @@ by_number section l s parts =
 
 -- ---- Parts that aren't of one message, as they came. Each has the sheet with the number of its place.
 
-abbrev pub name_at : Day → ℕ → PartNumbers → PartName
-name_at s place numbers =
-    record { model = day_model s; day = day_number s; sheet = place; part = numbers.part; parts = numbers.parts }
+abbrev pub name_at : Results → Day → ℕ → PartNumbers → PartName
+name_at results s place numbers = record {
+  model = day_model s;
+  day = day_number s;
+  sheet = place;
+  part = numbers.part;
+  parts = numbers.parts;
+  results = results;
+}
 
 -- The words in `section` for the part that has the place `place` in the order of arrival. `before` is the last part
 -- number before this part.
 abbrev pub part_at : Section → Language → Day → ℕ → ℕ → Option PartNumbers → DamagedPart → List ℕ
-part_at section l s place before (Some numbers) part = part_in section l s (name_at s place numbers) 1 part
+part_at section l s place before (Some numbers) part =
+    part_in section l s (name_at (results_of section) s place numbers) 1 part
 part_at section l s place before None part = lone_in section l s before part
 
 -- The words in `section` for the parts `parts`, in the order of arrival. The first of them is at `place` of the form,
@@ -160,13 +185,14 @@ abbrev pub sheet_count : List DamagedPart → ℕ
 sheet_count parts = max (total_of parts) (length parts)
 
 -- The file. It has the list of the sheets, a sheet for each part that is read, and a last sheet with the texts of all
--- parts. The last sheet also says what to ask the other station for.
-unfoldable pub receive_text : Language → Day → List DamagedPart → List ℕ
-receive_text l s parts =
+-- parts. The last sheet also says what to ask the other station for. If `results` are left open, the file has neither
+-- the texts nor the windows that the machine shows.
+unfoldable pub receive_text : Results → Language → Day → List DamagedPart → List ℕ
+receive_text results l s parts =
     title_text l (text_in l texts.TITLE_TO_RECEIVE) s ++ list_head l (sheet_count parts)
     ++ section_text sections.Listed l s parts ++ text_in l texts.LIST_END_WITH_TEXT
-    ++ section_text sections.Worked l s parts ++ text_sheet_head l s ++ passed_text l parts ++ order_text l parts
-    ++ section_text sections.Texts l s parts
+    ++ section_text (sections.Worked results) l s parts ++ text_sheet_head l s ++ passed_text l parts ++ order_text l parts
+    ++ section_text (sections.Texts results) l s parts
     ++ text_if (is_any_read parts) (note l (sheet_to_receive (day_model s)) (day_model s))
     ++ texts.ARTICLE_END.now ++ FOOT.now
 
@@ -189,15 +215,16 @@ is_device_fault _ = false
 -- - `ReceivedPageWritten`: the page was written, and the answer says whether the parts are one whole message. Or the
 --   sink failed, and only a prefix of the page was written.
 -- - `FormNotRead`: nothing was written, since the form has too many parts, or memory is short.
-pub data IsReceivePageAnswer (l : Language) (s : Day) (form : List ℕ) (sink : Port)
+pub data IsReceivePageAnswer (results : Results) (l : Language) (s : Day) (form : List ℕ) (sink : Port)
     (answer : Result Bool ReceivePageFault) : Type 0 where
   ReceivedPageWritten : (parts : List DamagedPart) → AreFormParts s form parts
-      → length (damaged_parts_of form) ≤ 255 → Writes sink.had sink.has (receive_text l s parts) answer
+      → length (damaged_parts_of form) ≤ 255 → Writes sink.had sink.has (receive_text results l s parts) answer
       → MatchResult answer (λ whole. IsTrue whole ↔ IsWhole parts) (λ fault. fault ≡ faults.Device)
       → sink.has_failed ≡ (sink.had_failed || is_err answer)
-      → IsReceivePageAnswer l s form sink answer
+      → IsReceivePageAnswer results l s form sink answer
   FormNotRead : (fault : DamagedFormFault) → IsFormFault (damaged_parts_of form) fault
-      → answer ≡ Err (page_fault fault) → IsUntouched sink → IsReceivePageAnswer l s form sink answer
+      → answer ≡ Err (page_fault fault) → IsUntouched sink
+      → IsReceivePageAnswer results l s form sink answer
 
 -- The notes for standard error satisfy `Told`. If the form has too many parts, or memory is short, there may be no
 -- notes.

@@ -24,6 +24,7 @@ use Rattle.kd_pictures.specs.Words.{is_converter, model_name}
 use Rattle.kd_tables.specs.declared.model.Model.{Model}
 use Rattle.kd_part_sheet.specs.declared.part_sheet.PartName.{PartName}
 use Rattle.kd_part_sheet.specs.declared.part_sheet.Warnings.{Warnings}
+use Rattle.kd_pictures.specs.declared.results.Results.{Results}
 use Rattle.kd_part_sheet.specs.declared.sheet.Sheet.{Sheet}
 use Rattle.kd_part_sheet.specs.declared.sheet.Sheet.TheVariants.{PinSend, RotorSend}
 use Rattle.kd_message.specs.declared.texts.TheConstants as texts
@@ -57,8 +58,15 @@ unfoldable pub list_text : Language → ℕ → List ℕ
 list_text l parts =
     list_head l parts ++ flat_map (listed_text l parts) (range_with_len 1 parts) ++ text_in l texts.LIST_END_WITH_FORM
 
-abbrev pub part_name : Day → ℕ → ℕ → PartName
-part_name s part parts = record { model = day_model s; day = day_number s; sheet = part; part = part; parts = parts }
+abbrev pub part_name : Results → Day → ℕ → ℕ → PartName
+part_name results s part parts = record {
+  model = day_model s;
+  day = day_number s;
+  sheet = part;
+  part = part;
+  parts = parts;
+  results = results;
+}
 
 abbrev pub sheet_to_send : Model → Sheet
 sheet_to_send model = if is_converter model then PinSend else RotorSend
@@ -72,20 +80,20 @@ abbrev pub send_sheet : Language → Day → PartName → Work → List ℕ
 send_sheet l s name work = part_sheet l (sheet_to_send (day_model s)) s name no_warnings work
 
 -- the sheets of the parts from number `part` on
-abbrev pub part_sheets : Language → Day → ℕ → ℕ → List Work → List ℕ
-part_sheets l s part parts [] = []
-part_sheets l s part parts (work ∷ works) =
-    send_sheet l s (part_name s part parts) work ++ part_sheets l s (part + 1) parts works
+abbrev pub part_sheets : Results → Language → Day → ℕ → ℕ → List Work → List ℕ
+part_sheets results l s part parts [] = []
+part_sheets results l s part parts (work ∷ works) =
+    send_sheet l s (part_name results s part parts) work ++ part_sheets results l s (part + 1) parts works
 
 -- all parts of the form, as the sheet with the form shows them
-abbrev pub form_parts : Language → Day → List Part → List ℕ
-form_parts l s made = flat_map (form_part l (day_model s) (day_number s)) made
+abbrev pub form_parts : Results → Language → Day → List Part → List ℕ
+form_parts results l s made = flat_map (form_part results l (day_model s) (day_number s)) made
 
 -- the file: a sheet for each part, then the form
-unfoldable pub send_text : Language → Day → ℕ → List Work → List Part → List ℕ
-send_text l s parts works made =
-    title_text l (text_in l texts.TITLE_TO_SEND) s ++ list_text l parts ++ part_sheets l s 1 parts works
-    ++ form_head l s ++ form_parts l s made ++ texts.ARTICLE_END.now ++ page_texts.FOOT.now
+unfoldable pub send_text : Results → Language → Day → ℕ → List Work → List Part → List ℕ
+send_text results l s parts works made =
+    title_text l (text_in l texts.TITLE_TO_SEND) s ++ list_text l parts
+    ++ part_sheets results l s 1 parts works ++ form_head l s ++ form_parts results l s made ++ texts.ARTICLE_END.now ++ page_texts.FOOT.now
 
 -- ---- What is worked for an order, and its form.
 
@@ -113,8 +121,8 @@ abbrev pub text_pieces : Day → List ℕ → List (List ℕ)
 text_pieces s text = pieces (part_size s) (text_letters s text)
 
 -- `page` is the page for sending the order, in language `l`. It has a sheet for each part, and the parts of the order's
--- form.
-pub record IsSendPage (l : Language) (s : Day) (order form page : List ℕ) : Type 0 where
+-- form. If `results` are left open, the page has neither the ciphertext nor the windows after a row.
+pub record IsSendPage (results : Results) (l : Language) (s : Day) (order form page : List ℕ) : Type 0 where
   pub parts : OrderParts
   pub read : IsReadAnswer s order (Ok parts)
   pub works : List Work
@@ -122,7 +130,7 @@ pub record IsSendPage (l : Language) (s : Day) (order form page : List ℕ) : Ty
   pub made : List Part
   pub are_made : AreMade s 1 (length parts.keys) parts.keys (text_pieces s parts.text) made
   pub is_form : form ≡ flat_map part_text made
-  pub is_page : page ≡ send_text l s (length parts.keys) works made
+  pub is_page : page ≡ send_text results l s (length parts.keys) works made
 
 -- ---- What `write_send_page` answers.
 
@@ -141,14 +149,14 @@ is_device _ = false
 -- - `PageWritten`: the order has a form, and the page was written. Or the sink failed, and only a prefix of the page
 --   was written.
 -- - `Refused`: nothing was written. The answer is a fault that `send` can return for this order.
-pub data IsSendPageAnswer (l : Language) (m : Parts) (s : Day) (order : List ℕ) (sink : Port)
+pub data IsSendPageAnswer (results : Results) (l : Language) (m : Parts) (s : Day) (order : List ℕ) (sink : Port)
     (answer : Result (Unit {0}) SendPageFault) : Type 0 where
-  PageWritten : (form page : List ℕ) → IsReadyOnKey m s → IsFormOf s order form → IsSendPage l s order form page
+  PageWritten : (form page : List ℕ) → IsReadyOnKey m s → IsFormOf s order form → IsSendPage results l s order form page
       → Writes sink.had sink.has page answer → OnErr answer (answer ≡ Err Device)
       → sink.has_failed ≡ (sink.had_failed || is_err answer)
-      → IsSendPageAnswer l m s order sink answer
+      → IsSendPageAnswer results l m s order sink answer
   Refused : (fault : FormFault) → IsSendRefusal m s order fault → answer ≡ Err (Order fault) → IsUntouched sink
-      → IsSendPageAnswer l m s order sink answer
+      → IsSendPageAnswer results l m s order sink answer
 
 -- ---- What the code holds. No public contract cites these definitions.
 

@@ -22,6 +22,8 @@ use Rattle.kd_pictures.specs.Template.{filled}
 use Rattle.kd_pictures.specs.Words.{is_converter, model_name}
 use Rattle.kd_part_sheet.specs.declared.markup.TheConstants.{COMMA}
 use Rattle.kd_part_sheet.specs.declared.part_sheet.PartName.{PartName}
+use Rattle.kd_pictures.specs.declared.results.Results.{Results}
+use Rattle.kd_pictures.specs.declared.results.Results.TheVariants.{LeftOpen, Shown}
 use Rattle.kd_part_sheet.specs.declared.part_sheet.Warnings.{Warnings}
 use Rattle.kd_part_sheet.specs.declared.sheet.Sheet.{Sheet}
 use Rattle.kd_message.specs.declared.texts.TheConstants as texts
@@ -203,10 +205,20 @@ ask_for_lost l name letters =
     then ask_text l name.part (lost_groups l [] false (first_text_group name.model) (pieces 5 letters))
     else []
 
+-- a line to write on, `_`; for a lost letter, `?`
+abbrev pub open_byte : Option ℕ → ℕ
+open_byte (Some letter) = 95
+open_byte None = 63
+
+-- the letters of a text or, if they are left open, a line to write on for each letter; `?` for each lost letter
+abbrev pub text_letters : Results → Day → List (Option ℕ) → List ℕ
+text_letters Shown s letters = map (shown_byte (space_letter s)) letters
+text_letters LeftOpen s letters = map open_byte letters
+
 -- the text of a part, with `?` for each lost letter; then the warnings, and the groups to ask for
 unfoldable pub read_text : Language → Sheet → Day → PartName → DamagedText → List ℕ
 read_text l sheet s name shown =
-    text_begin name.model ++ map (shown_byte (space_letter s)) shown.letters.items ++ texts.TEXT_END.now
+    text_begin name.model ++ text_letters name.results s shown.letters.items ++ texts.TEXT_END.now
     ++ warnings_text l sheet (warnings_of shown) ++ ask_for_lost l name shown.letters.items
 
 -- ---- A part that isn't read.

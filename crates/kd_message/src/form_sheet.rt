@@ -4,17 +4,17 @@ ghost use Rattle.kd_form.specs.PartMaking.{part_of};
 ghost use Rattle.kd_pictures.specs.Drawing.{Draws};
 ghost use Rattle.kd_part_sheet.specs.Rows.{pieces};
 ghost use Rattle.kd_message.specs.FormSheet.{form_group, form_head, form_part, indicator_text, keys_text};
-ghost use Rattle.kd_message.specs.FormSheet.{part_head, part_note};
+ghost use Rattle.kd_message.specs.FormSheet.{letters_with, part_head, part_note};
 
 use crate::texts::{
     FORM, FORM_GROUND, FORM_GROUP, FORM_GROUP_END, FORM_GROUPS, FORM_KEY, FORM_KEY_END, FORM_PART,
-    FORM_PIN_NOTE, FORM_ROTOR_NOTE,
+    FORM_PIN_NOTE, FORM_ROTOR_NOTE, OPEN_LETTER,
 };
 use kd_form::heading::Indicator;
 use kd_part_sheet::cutting::first_piece;
 use kd_part_sheet::part_sheet::PartName;
 use kd_pictures::template::{Value, draw_letters, fill_in};
-use kd_pictures::{Language, draw, draw_in};
+use kd_pictures::{Language, Results, draw, draw_in};
 use kd_state::SheetDay;
 use kd_tables::{Letter, Sink};
 
@@ -43,13 +43,13 @@ pub(crate) fn draw_form_part<W: Sink>(
 )
     requires { length letters.now ≤ 520 }
     ensures { Draws W.taken W.has_failed sink.old sink.new
-        (form_part language name.model name.day
+        (form_part name.results language name.model name.day
         (part_of name.part name.parts indicator.now letters.now)) }
 {
     draw_part_head(sink, language, name, letters.len());
-    draw_indicator(sink, language, indicator);
+    draw_indicator(sink, language, name.results, indicator);
     draw(sink, FORM_GROUPS);
-    draw_form_groups(sink, letters);
+    draw_form_groups(sink, name.results, letters);
     draw(sink, part_note(language, indicator));
 }
 
@@ -75,44 +75,70 @@ fn draw_part_head<W: Sink>(sink: &mut W, language: Language, name: PartName, let
 }
 
 /// Writes the ground setting and the enciphered message key of a rotor machine's part.
-fn draw_indicator<W: Sink>(sink: &mut W, language: Language, indicator: &Option<Indicator>)
+fn draw_indicator<W: Sink>(
+    sink: &mut W,
+    language: Language,
+    results: Results,
+    indicator: &Option<Indicator>,
+)
     ensures { Draws W.taken W.has_failed sink.old sink.new
-        (indicator_text language indicator.now) }
+        (indicator_text results language indicator.now) }
 {
     match indicator {
-        Some(indicator) => draw_keys(sink, language, indicator),
+        Some(indicator) => draw_keys(sink, language, results, indicator),
         None => draw(sink, ""),
     }
 }
 
-fn draw_keys<W: Sink>(sink: &mut W, language: Language, indicator: &Indicator)
+fn draw_keys<W: Sink>(sink: &mut W, language: Language, results: Results, indicator: &Indicator)
     ensures { Draws W.taken W.has_failed sink.old sink.new
-        (keys_text language indicator.now) }
+        (keys_text results language indicator.now) }
 {
     draw_in(sink, language, FORM_GROUND);
     draw_letters(sink, indicator.ground_setting.as_slice());
     draw_in(sink, language, FORM_KEY);
-    draw_letters(sink, indicator.enciphered_key.as_slice());
+    draw_letters_with(sink, results, indicator.enciphered_key.as_slice());
     draw(sink, FORM_KEY_END);
 }
 
-/// Writes letters in groups of five.
-fn draw_form_groups<W: Sink>(sink: &mut W, letters: &[Letter])
-    ensures { Draws W.taken W.has_failed sink.old sink.new
-        (flat_map form_group (pieces 5 letters.now)) }
+/// Writes letters or, if `results` are left open, a line to write on for each letter.
+fn draw_letters_with<W: Sink>(sink: &mut W, results: Results, letters: &[Letter])
+    ensures { Draws W.taken W.has_failed sink.old sink.new (letters_with results letters.now) }
 {
-    if !letters.is_empty() {
-        let (group, rest) = first_piece(letters, 5);
-        draw_form_group(sink, group);
-        draw_form_groups(sink, rest);
+    match results {
+        Results::Shown => draw_letters(sink, letters),
+        Results::LeftOpen => draw_open_letters(sink, letters),
     }
 }
 
-fn draw_form_group<W: Sink>(sink: &mut W, letters: &[Letter])
-    ensures { Draws W.taken W.has_failed sink.old sink.new (form_group letters.now) }
+/// Writes a line to write on for each letter.
+fn draw_open_letters<W: Sink>(sink: &mut W, letters: &[Letter])
+    ensures { Draws W.taken W.has_failed sink.old sink.new
+        (letters_with Results.LeftOpen letters.now) }
+{
+    if let [_, rest @ ..] = letters {
+        draw(sink, OPEN_LETTER);
+        draw_open_letters(sink, rest);
+    }
+}
+
+/// Writes letters in groups of five.
+fn draw_form_groups<W: Sink>(sink: &mut W, results: Results, letters: &[Letter])
+    ensures { Draws W.taken W.has_failed sink.old sink.new
+        (flat_map (form_group results) (pieces 5 letters.now)) }
+{
+    if !letters.is_empty() {
+        let (group, rest) = first_piece(letters, 5);
+        draw_form_group(sink, results, group);
+        draw_form_groups(sink, results, rest);
+    }
+}
+
+fn draw_form_group<W: Sink>(sink: &mut W, results: Results, letters: &[Letter])
+    ensures { Draws W.taken W.has_failed sink.old sink.new (form_group results letters.now) }
 {
     draw(sink, FORM_GROUP);
-    draw_letters(sink, letters);
+    draw_letters_with(sink, results, letters);
     draw(sink, FORM_GROUP_END);
 }
 

@@ -7,7 +7,8 @@ ghost use Rattle.kd_pictures.specs.Drawing.{Draws};
 ghost use Rattle.kd_message.specs.ReceivedWork.{AreShowable};
 ghost use Rattle.kd_message.specs.ReceivePage.{AreWorkable, HasShowableKeys, IsReceivePageAnswer, as_they_came, by_number};
 ghost use Rattle.kd_message.specs.ReceivePage.{is_device_fault, listed_text, listed_unread, lone_after, lone_in};
-ghost use Rattle.kd_message.specs.ReceivePage.{missing_in, name_at, number_in, number_or, page_fault, part_at, part_in};
+ghost use Rattle.kd_message.specs.ReceivePage.{missing_in, missing_part_text, name_at, number_in, number_or, page_fault};
+ghost use Rattle.kd_message.specs.ReceivePage.{part_at, part_in, part_text, results_of};
 ghost use Rattle.kd_message.specs.ReceivePage.{IsFormNoted, receive_notes, receive_text, section_text, sheet_count};
 ghost use Rattle.kd_message.specs.ReceivePage.{sheet_of_text, sheet_to_receive, shown_in, text_or_damage, worked_text};
 ghost use Rattle.kd_message.specs.SendPage.{part_name};
@@ -35,7 +36,7 @@ use kd_part_sheet::sheet::Sheet;
 use kd_pictures::template::{Value, fill_in};
 use kd_pictures::texts::FOOT;
 use kd_pictures::words::is_converter;
-use kd_pictures::{Language, draw, draw_in};
+use kd_pictures::{Language, Results, draw, draw_in};
 use kd_state::SheetDay;
 use kd_tables::{Model, Sink};
 use std::alloc::Global;
@@ -52,7 +53,7 @@ pub enum ReceivePageFault {
 }
 
 /// Writes the page in `language` that has the text of `form`, and shows how to decipher `form` by hand. The machine is
-/// on the day's key.
+/// on the day's key. If `results` are left open, the page has worksheets, and not the text.
 ///
 /// Writes to `notes` what is wrong with the form, and what to ask for. Returns whether the form is one whole message of
 /// the day, with no letter of its text lost. For `Device`, a prefix of the page is written. For the other faults,
@@ -60,12 +61,13 @@ pub enum ReceivePageFault {
 pub fn write_receive_page<W: Sink, E: Sink>(
     alloc: Global,
     language: Language,
+    results: Results,
     day: &SheetDay,
     form: &[u8],
     sink: &mut W,
     notes: &mut E,
 ) -> Result<bool, ReceivePageFault>
-    ensures page { IsReceivePageAnswer language day.now form.now
+    ensures page { IsReceivePageAnswer results language day.now form.now
         (port W.taken W.has_failed sink.old sink.new) result }
     ensures untouched { IsErr result → is_device_fault result ≡ false → sink.new ≡ sink.old }
     ensures failed { W.has_failed sink.new ≡ (W.has_failed sink.old || is_device_fault result) }
@@ -77,7 +79,7 @@ pub fn write_receive_page<W: Sink, E: Sink>(
         Ok(parts) => parts,
         Err(fault) => return Err(page_fault(fault)),
     };
-    draw_page(sink, language, day, parts.as_slice());
+    draw_page(sink, language, results, day, parts.as_slice());
     draw_notes(notes, language, day, parts.as_slice());
     if sink.failed() {
         Err(ReceivePageFault::Device)
@@ -101,29 +103,47 @@ pub(crate) enum Section {
     /// The list of the sheets.
     Listed,
     /// The sheets of the parts that are read.
-    Worked,
+    Worked(Results),
     /// The texts of the parts.
-    Texts,
+    Texts(Results),
     /// The notes for standard error.
     Noted,
 }
 
+impl Section {
+    /// Whether the section shows the results, or leaves them open. The list of the sheets and the notes have none.
+    fn results(self) -> Results
+        ensures { result ≡ results_of self }
+    {
+        match self {
+            Section::Worked(results) | Section::Texts(results) => results,
+            Section::Listed | Section::Noted => Results::Shown,
+        }
+    }
+}
+
 /// Writes the page of a form with the parts `parts`.
-fn draw_page<W: Sink>(sink: &mut W, language: Language, day: &SheetDay, parts: &[DamagedPart])
+fn draw_page<W: Sink>(
+    sink: &mut W,
+    language: Language,
+    results: Results,
+    day: &SheetDay,
+    parts: &[DamagedPart],
+)
     requires few { length parts.now ≤ 255 }
     requires workable { AreWorkable day.now parts.now }
     ensures { Draws W.taken W.has_failed sink.old sink.new
-        (receive_text language day.now parts.now) }
+        (receive_text results language day.now parts.now) }
 {
     draw_title(sink, language, TITLE_TO_RECEIVE, day);
     draw(sink, list_head(language, sheet_count(parts)));
     draw_section(sink, Section::Listed, language, day, parts);
     draw_in(sink, language, LIST_END_WITH_TEXT);
-    draw_section(sink, Section::Worked, language, day, parts);
+    draw_section(sink, Section::Worked(results), language, day, parts);
     draw_text_sheet_head(sink, language, day);
     draw_passed(sink, language, parts);
     draw_order(sink, language, parts);
-    draw_section(sink, Section::Texts, language, day, parts);
+    draw_section(sink, Section::Texts(results), language, day, parts);
     draw_if(
         sink,
         is_any_read(parts),
@@ -250,10 +270,11 @@ fn draw_shown<W: Sink>(
     requires workable { AreWorkable day.now parts.now }
     requires number { number ≤ 255 }
     ensures { Draws W.taken W.has_failed sink.old sink.new
-        (shown_in section language day.now (part_name day.now number (total_of parts.now))
+        (shown_in section language day.now
+        (part_name (results_of section) day.now number (total_of parts.now))
         (times_of parts.now number) (shown_under parts.now number)) }
 {
-    let name = part_name(day, number as u8, total_of(parts));
+    let name = part_name(section.results(), day, number as u8, total_of(parts));
     match shown_under(parts, number) {
         Some(part) => {
             let times = times_of(parts, number);
@@ -344,8 +365,8 @@ fn draw_lone<W: Sink>(
 {
     match section {
         Section::Listed => draw_listed_lone(sink, language, after),
-        Section::Worked => draw(sink, ""),
-        Section::Texts => draw_lone_text(sink, language, day, after, part),
+        Section::Worked(_) => draw(sink, ""),
+        Section::Texts(_) => draw_lone_text(sink, language, day, after, part),
         Section::Noted => draw_lone_note(sink, language, day.model(), after, part),
     }
 }
@@ -392,15 +413,15 @@ fn draw_part_at<W: Sink>(
 {
     match &part.numbers {
         Some(numbers) => {
-            let name = name_at(day, place as u8, numbers);
+            let name = name_at(section.results(), day, place as u8, numbers);
             draw_part(sink, section, language, day, name, 1, part)
         }
         None => draw_lone(sink, section, language, day, before, part),
     }
 }
 
-fn name_at(day: &SheetDay, place: u8, numbers: &PartNumbers) -> PartName
-    ensures { result ≡ name_at day.now place numbers.now }
+fn name_at(results: Results, day: &SheetDay, place: u8, numbers: &PartNumbers) -> PartName
+    ensures { result ≡ name_at results day.now place numbers.now }
 {
     PartName {
         model: day.model(),
@@ -408,6 +429,7 @@ fn name_at(day: &SheetDay, place: u8, numbers: &PartNumbers) -> PartName
         sheet: place,
         part: numbers.part,
         parts: numbers.parts,
+        results,
     }
 }
 
@@ -427,8 +449,8 @@ fn draw_part<W: Sink>(
 {
     match section {
         Section::Listed => draw_listed(sink, language, name, part),
-        Section::Worked => draw_worked(sink, language, day, name, part),
-        Section::Texts => draw_part_text(sink, language, day, name, times, part),
+        Section::Worked(_) => draw_worked(sink, language, day, name, part),
+        Section::Texts(_) => draw_part_text(sink, language, day, name, times, part),
         Section::Noted => draw_part_note(sink, language, name, part),
     }
 }
@@ -521,7 +543,7 @@ fn draw_part_text<W: Sink>(
     part: &DamagedPart,
 )
     ensures { Draws W.taken W.has_failed sink.old sink.new
-        (part_in Section.Texts language day.now name times part.now) }
+        (part_text language day.now name times part.now) }
 {
     draw_text_part_head(sink, language, name);
     draw_came(sink, language, times);
@@ -555,15 +577,15 @@ fn draw_missing_in<W: Sink>(sink: &mut W, section: Section, language: Language, 
 {
     match section {
         Section::Listed => draw_listed_unread(sink, language, name),
-        Section::Worked => draw(sink, ""),
-        Section::Texts => draw_missing_text(sink, language, name),
+        Section::Worked(_) => draw(sink, ""),
+        Section::Texts(_) => draw_missing_text(sink, language, name),
         Section::Noted => draw_missing_note(sink, language, name),
     }
 }
 
 fn draw_missing_text<W: Sink>(sink: &mut W, language: Language, name: PartName)
     ensures { Draws W.taken W.has_failed sink.old sink.new
-        (missing_in Section.Texts language name) }
+        (missing_part_text language name) }
 {
     draw_text_part_head(sink, language, name);
     draw_missing(sink, language, name);

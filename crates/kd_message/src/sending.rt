@@ -32,7 +32,7 @@ use kd_pictures::file_head::draw_file_head;
 use kd_pictures::template::{Value, fill_in};
 use kd_pictures::texts::{BODY, FOOT, MORE_STYLE, STYLE, Text};
 use kd_pictures::words::is_converter;
-use kd_pictures::{Language, draw, draw_in};
+use kd_pictures::{Language, Results, draw, draw_in};
 use kd_state::{Machine, SheetDay};
 use kd_tables::{Letter, Model, Sink};
 use std::alloc::Global;
@@ -58,24 +58,25 @@ impl From<FormFault> for SendPageFault {
 }
 
 /// Writes the page in `language` that shows how to encipher `order` by hand on `machine`. The machine must be on the
-/// day's key.
+/// day's key. If `results` are left open, the page has worksheets.
 ///
 /// If the fault is `Order`, nothing is written. If it is `Device`, a prefix of the page is written.
 pub fn write_send_page<W: Sink>(
     alloc: Global,
     language: Language,
+    results: Results,
     machine: &Machine,
     day: &SheetDay,
     order: &[u8],
     sink: &mut W,
 ) -> Result<(), SendPageFault>
-    ensures page { IsSendPageAnswer language machine.now day.now order.now
+    ensures page { IsSendPageAnswer results language machine.now day.now order.now
         (port W.taken W.has_failed sink.old sink.new) result }
     ensures untouched { IsErr result → is_device result ≡ false → sink.new ≡ sink.old }
     ensures failed { W.has_failed sink.new ≡ (W.has_failed sink.old || is_device result) }
 {
     send(alloc, machine, day, order)?;
-    draw_page(sink, language, day, order);
+    draw_page(sink, language, results, day, order);
     if sink.failed() {
         Err(SendPageFault::Device)
     } else {
@@ -84,32 +85,45 @@ pub fn write_send_page<W: Sink>(
 }
 
 /// Writes the page of an order that `send` accepts.
-fn draw_page<W: Sink>(sink: &mut W, language: Language, day: &SheetDay, order: &[u8])
+fn draw_page<W: Sink>(
+    sink: &mut W,
+    language: Language,
+    results: Results,
+    day: &SheetDay,
+    order: &[u8],
+)
     requires { HasForm day.now order.now }
     ensures { (form : List ℕ) → IsFormOf day.now order.now form
-        → (page : List ℕ) × IsSendPage language day.now order.now form page
+        → (page : List ℕ) × IsSendPage results language day.now order.now form page
         × Draws W.taken W.has_failed sink.old sink.new page }
 {
     let mut reader = HeadReader::new();
     let text = read_head(&mut reader, day, order);
-    draw_file(sink, language, day, reader.keys(), text);
+    draw_file(sink, language, results, day, reader.keys(), text);
 }
 
 /// Writes the page of an order that has the keys `keys` and the text `text`.
-fn draw_file<W: Sink>(sink: &mut W, language: Language, day: &SheetDay, keys: &[Keys], text: &[u8])
+fn draw_file<W: Sink>(
+    sink: &mut W,
+    language: Language,
+    results: Results,
+    day: &SheetDay,
+    keys: &[Keys],
+    text: &[u8],
+)
     requires { AreKeysOfText day.now 1 (length keys.now) keys.now text.now }
     ensures { (works : List Work) × (made : List Part)
         × AreWorks day.now keys.now (text_pieces day.now text.now) works
         × AreMade day.now 1 (length keys.now) keys.now (text_pieces day.now text.now) made
         × Draws W.taken W.has_failed sink.old sink.new
-        (send_text language day.now (length keys.now) works made) }
+        (send_text results language day.now (length keys.now) works made) }
 {
     let parts = keys.len() as u8;
     draw_title(sink, language, TITLE_TO_SEND, day);
     draw_list(sink, language, parts);
-    draw_part_sheets(sink, language, day, 1, parts, keys, text);
+    draw_part_sheets(sink, language, results, day, 1, parts, keys, text);
     draw_form_head(sink, language, day);
-    draw_form_parts(sink, language, day, 1, parts, keys, text);
+    draw_form_parts(sink, language, results, day, 1, parts, keys, text);
     draw(sink, ARTICLE_END);
     draw(sink, FOOT);
 }
@@ -194,6 +208,7 @@ pub(crate) fn draw_listed_part<W: Sink>(
 fn draw_part_sheets<W: Sink>(
     sink: &mut W,
     language: Language,
+    results: Results,
     day: &SheetDay,
     part: u8,
     parts: u8,
@@ -203,7 +218,7 @@ fn draw_part_sheets<W: Sink>(
     requires { AreKeysOfText day.now part parts keys.now text.now }
     ensures { (works : List Work) × AreWorks day.now keys.now (text_pieces day.now text.now) works
         × Draws W.taken W.has_failed sink.old sink.new
-        (part_sheets language day.now part parts works) }
+        (part_sheets results language day.now part parts works) }
 {
     if let [first, rest @ ..] = keys {
         let (piece, later) = take_piece(day, text);
@@ -213,11 +228,11 @@ fn draw_part_sheets<W: Sink>(
             language,
             sheet_to_send(day.model()),
             day,
-            part_name(day, part, parts),
+            part_name(results, day, part, parts),
             NO_WARNINGS,
             &work,
         );
-        draw_part_sheets(sink, language, day, part + 1, parts, rest, later);
+        draw_part_sheets(sink, language, results, day, part + 1, parts, rest, later);
     }
 }
 
@@ -239,8 +254,8 @@ fn sheet_to_send(model: Model) -> Sheet
     }
 }
 
-pub(crate) fn part_name(day: &SheetDay, part: u8, parts: u8) -> PartName
-    ensures { result ≡ part_name day.now part parts }
+pub(crate) fn part_name(results: Results, day: &SheetDay, part: u8, parts: u8) -> PartName
+    ensures { result ≡ part_name results day.now part parts }
 {
     PartName {
         model: day.model(),
@@ -248,6 +263,7 @@ pub(crate) fn part_name(day: &SheetDay, part: u8, parts: u8) -> PartName
         sheet: part,
         part,
         parts,
+        results,
     }
 }
 
@@ -255,6 +271,7 @@ pub(crate) fn part_name(day: &SheetDay, part: u8, parts: u8) -> PartName
 fn draw_form_parts<W: Sink>(
     sink: &mut W,
     language: Language,
+    results: Results,
     day: &SheetDay,
     part: u8,
     parts: u8,
@@ -264,7 +281,7 @@ fn draw_form_parts<W: Sink>(
     requires { AreKeysOfText day.now part parts keys.now text.now }
     ensures { (made : List Part)
         × AreMade day.now part parts keys.now (text_pieces day.now text.now) made
-        × Draws W.taken W.has_failed sink.old sink.new (form_parts language day.now made) }
+        × Draws W.taken W.has_failed sink.old sink.new (form_parts results language day.now made) }
 {
     if let [first, rest @ ..] = keys {
         let (piece, later) = take_piece(day, text);
@@ -272,11 +289,11 @@ fn draw_form_parts<W: Sink>(
             sink,
             language,
             day,
-            part_name(day, part, parts),
+            part_name(results, day, part, parts),
             first,
             piece.as_slice(),
         );
-        draw_form_parts(sink, language, day, part + 1, parts, rest, later);
+        draw_form_parts(sink, language, results, day, part + 1, parts, rest, later);
     }
 }
 
@@ -294,7 +311,7 @@ fn draw_made_part<W: Sink>(
     requires few { length text.now ≤ part_size day.now }
     ensures { (one : Part) × IsPartMade day.now name.part name.parts keys.now text.now one
         × Draws W.taken W.has_failed sink.old sink.new
-        (form_part language name.model name.day one) }
+        (form_part name.results language name.model name.day one) }
 {
     let mut machine = DayMachine::new(day);
     match keys {

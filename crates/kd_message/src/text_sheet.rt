@@ -9,12 +9,12 @@ ghost use Rattle.kd_message.specs.TextSheet.{ask_for_lost, ask_text, begins_late
 ghost use Rattle.kd_message.specs.TextSheet.{first_text_group, heading_words, headings_after, is_any_smoothed};
 ghost use Rattle.kd_message.specs.TextSheet.{is_copy_lost, is_not_tested, lost_groups, numbers_after, unread_warnings};
 ghost use Rattle.kd_message.specs.TextSheet.{order_text, order_words, passed_text, read_text, several_words};
-ghost use Rattle.kd_message.specs.TextSheet.{text_begin, text_part_head, text_sheet_head, warnings_of};
+ghost use Rattle.kd_message.specs.TextSheet.{open_byte, text_begin, text_letters, text_part_head, text_sheet_head, warnings_of};
 
 use crate::groups::{draw_lost_groups, has_lost};
 use crate::texts::{
-    ASK, ASK_END, CAME, CAME_END, OF_PARTS, ORDER, ORDER_END, PASSED_OVER, SEVERAL, SEVERAL_END,
-    TEXT_END, TEXT_LETTERS, TEXT_PART, TEXT_SHEET, TEXT_WORDS,
+    ASK, ASK_END, CAME, CAME_END, OF_PARTS, OPEN_LETTER, ORDER, ORDER_END, PASSED_OVER, SEVERAL,
+    SEVERAL_END, TEXT_END, TEXT_LETTERS, TEXT_PART, TEXT_SHEET, TEXT_WORDS,
 };
 use itoa::Buffer;
 use kd_form::text_bytes::space_letter;
@@ -27,7 +27,7 @@ use kd_part_sheet::part_sheet::{PartName, Warnings, draw_warnings};
 use kd_part_sheet::sheet::Sheet;
 use kd_pictures::template::{Value, draw_letter, fill_in};
 use kd_pictures::words::is_converter;
-use kd_pictures::{Language, draw, draw_in};
+use kd_pictures::{Language, Results, draw, draw_in};
 use kd_state::SheetDay;
 use kd_tables::{Letter, Model, Sink};
 
@@ -206,7 +206,7 @@ pub(crate) fn draw_read_text<W: Sink>(
         (read_text language sheet day.now name shown.now) }
 {
     draw(sink, text_begin(name.model));
-    draw_letters_shown(sink, &space_letter(day), shown.letters.as_slice());
+    draw_text_letters(sink, name.results, day, shown.letters.as_slice());
     draw(sink, TEXT_END);
     draw_warnings(sink, language, sheet, warnings_of(shown));
     draw_ask_for_lost(sink, language, name, shown.letters.as_slice());
@@ -220,6 +220,43 @@ fn text_begin(model: Model) -> &'static str
         TEXT_WORDS
     } else {
         TEXT_LETTERS
+    }
+}
+
+/// Writes the letters of a text or, if `results` are left open, a line to write on for each letter. Each lost letter is
+/// written as `?`.
+fn draw_text_letters<W: Sink>(
+    sink: &mut W,
+    results: Results,
+    day: &SheetDay,
+    letters: &[Option<Letter>],
+)
+    ensures { Draws W.taken W.has_failed sink.old sink.new
+        (text_letters results day.now letters.now) }
+{
+    match results {
+        Results::Shown => draw_letters_shown(sink, &space_letter(day), letters),
+        Results::LeftOpen => draw_open_letters(sink, letters),
+    }
+}
+
+/// Writes a line to write on for each letter, and `?` for each lost letter.
+fn draw_open_letters<W: Sink>(sink: &mut W, letters: &[Option<Letter>])
+    ensures { Draws W.taken W.has_failed sink.old sink.new (map open_byte letters.now) }
+{
+    if let [letter, rest @ ..] = letters {
+        draw(sink, open_sign(letter));
+        draw_open_letters(sink, rest);
+    }
+}
+
+/// A line to write on; `?` for a lost letter.
+fn open_sign(letter: &Option<Letter>) -> &'static str
+    ensures { result.now ≡ open_byte letter.now ∷ [] }
+{
+    match letter {
+        Some(_) => OPEN_LETTER,
+        None => LOST_LETTER,
     }
 }
 

@@ -96,6 +96,9 @@ pub const TEXT_WORDS: &str = "<p class=\"text words\">";
 
 pub const TEXT_END: &str = "</p>\n";
 
+/// The sign for a letter that is left open: a line to write on.
+pub const OPEN_LETTER: &str = "_";
+
 /// The sentence that not all of the form was read as it stands. Some lines or blanks were passed over, or tabs or small
 /// letters were read as spaces or capitals.
 pub const PASSED_OVER: Text = (

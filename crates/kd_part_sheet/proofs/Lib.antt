@@ -1,3 +1,4 @@
 pub mod Pieces
 pub mod Sheets
 pub mod Works
+pub mod Worksheets

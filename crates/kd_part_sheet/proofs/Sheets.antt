@@ -15,6 +15,6 @@ use Rattle.kd_part_sheet.specs.Rows.{pieces, rows_after}
 pub next_sheet_some : (l : Language) (sheet : Sheet) (s : Day) (name : PartName) (start : List ℕ) (progress : Progress)
     (cells : List Cell) → 0 < length cells
     → next_sheet l sheet s name start progress cells
-    ≡ filled (sheet_text l sheet NEXT_STEP) (name_values name) ++ rows_after s start progress (pieces 50 cells)
+    ≡ filled (sheet_text l sheet NEXT_STEP) (name_values name) ++ rows_after name.results s start progress (pieces 50 cells)
 next_sheet_some l sheet s name start progress [] some = absurd (omega arith)
 next_sheet_some l sheet s name start progress (cell ∷ cells) some = refl

@@ -1,5 +1,5 @@
 -- The cells of a row, one for each letter. A cell has a sign above the line to write on, and a sign below the line.
-use Rattle.std.specs.Prelude.{decimal, ℕ, ◌+◌, ◌==◌, true, false, is_some, if◌then◌else◌, List, [], ◌∷◌, Option, None, Some}
+use Rattle.std.specs.Prelude.{decimal, ℕ, ◌+◌, ◌==◌, true, false, is_some, if◌then◌else◌, List, [], ◌∷◌, map, Option, None, Some}
 use Rattle.kd_tables.specs.Rings.{place_on, ring_of}
 use Rattle.kd_pictures.specs.Template.{letter_text}
 use Rattle.kd_part_sheet.specs.declared.cells.Cell.{Cell}
@@ -9,10 +9,13 @@ use Rattle.kd_part_sheet.specs.declared.cells.Mark.{Mark}
 use Rattle.kd_part_sheet.specs.declared.cells.Mark.TheVariants as marks
 use Rattle.kd_part_sheet.specs.declared.cells.Line.{Line}
 use Rattle.kd_part_sheet.specs.declared.cells.Line.TheVariants as lines
+use Rattle.kd_pictures.specs.declared.results.Results.{Results}
+use Rattle.kd_pictures.specs.declared.results.Results.TheVariants.{LeftOpen, Shown}
 use Rattle.kd_part_sheet.specs.Markup.{lost_letter, no_letter, struck_out}
 
 abbrev pub sign_text : Sign → List ℕ
 sign_text signs.Nothing = no_letter
+sign_text signs.Open = no_letter
 sign_text signs.Lost = lost_letter
 sign_text (signs.Letter letter) = letter_text letter
 
@@ -83,6 +86,23 @@ choice_cells taken chosen [] = []
 choice_cells taken chosen (letter ∷ printed) =
     record { above = signs.Letter chosen; below = signs.Letter letter; is_pressed = true; mark = mark_of taken letter }
     ∷ choice_cells (taken_after taken (mark_of taken letter)) chosen printed
+
+-- ---- Worksheets.
+
+-- The cell on a worksheet. If its letter is pressed, its sign below the line is left open, and it has no mark.
+abbrev pub open_cell : Cell → Cell
+open_cell cell = if cell.is_pressed then record cell { below = signs.Open; mark = marks.NoMark } else cell
+
+-- the cell with its result, or as a worksheet has it
+abbrev pub cell_with : Results → Cell → Cell
+cell_with Shown cell = cell
+cell_with LeftOpen cell = open_cell cell
+
+-- the cells with their results, or as a worksheet has them
+abbrev pub cells_with : Results → List Cell → List Cell
+cells_with results cells = map (cell_with results) cells
+
+-- ---- The texts of a cell.
 
 abbrev pub mark_text : Mark → List ℕ
 mark_text marks.NoMark = []

@@ -8,3 +8,4 @@ pub mod Windows
 pub mod Rows
 pub mod PartWork
 pub mod PartSheet
+pub mod Worksheets

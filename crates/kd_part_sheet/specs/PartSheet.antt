@@ -1,23 +1,27 @@
 -- The sheet with which an operator enciphers or deciphers one part of a message.
-use Rattle.std.specs.Prelude.{decimal, ℕ, Bool, if◌then◌else◌, List, [], ◌∷◌, ◌++◌, length, map, take, drop}
+use Rattle.std.specs.Prelude.{decimal, ℕ, ◌&&◌, Bool, not, if◌then◌else◌, List, [], ◌∷◌, ◌++◌, length, map, take, drop}
 use Rattle.kd_tables.specs.declared.model.Model.{Model}
 use Rattle.kd_tables.specs.declared.model.Model.TheVariants.{EnigmaI, M3, M4, M209}
 use Rattle.kd_tables.specs.Tables.{reflector_text}
 use Rattle.kd_state.specs.SheetDay.{Day, Pin, Rotor, RotorDay}
 use Rattle.kd_pictures.specs.declared.language.Language.{Language}
 use Rattle.kd_pictures.specs.Language.{text_in}
+use Rattle.kd_pictures.specs.Results.{are_open}
 use Rattle.kd_pictures.specs.Template.{filled, letter_text}
 use Rattle.kd_pictures.specs.Words.{is_converter, model_name}
 use Rattle.kd_part_sheet.specs.declared.cells.Cell.{Cell}
 use Rattle.kd_part_sheet.specs.declared.markup.TheConstants.{KEY_END, SHEET_END}
 use Rattle.kd_part_sheet.specs.declared.part_sheet.PartName.{PartName}
 use Rattle.kd_part_sheet.specs.declared.part_sheet.Warnings.{Warnings}
+use Rattle.kd_pictures.specs.declared.results.Results.{Results}
+use Rattle.kd_pictures.specs.declared.results.Results.TheVariants.{LeftOpen, Shown}
 use Rattle.kd_part_sheet.specs.declared.rows.Progress.{Progress}
 use Rattle.kd_part_sheet.specs.declared.sheet.Sheet.{Sheet}
 use Rattle.kd_part_sheet.specs.declared.texts.TheConstants as texts
+use Rattle.kd_part_sheet.specs.Cells.{cells_with}
 use Rattle.kd_part_sheet.specs.PartWork.{Work}
 use Rattle.kd_part_sheet.specs.Rows.{pieces, progress_after, rows_after}
-use Rattle.kd_part_sheet.specs.Sheet.{sheet_text}
+use Rattle.kd_part_sheet.specs.Sheet.{has_given_start, sheet_text}
 use Rattle.kd_part_sheet.specs.Windows.{windows_text}
 use Rattle.kd_part_sheet.specs.Words.{cables_text, rings_after, wheels_after}
 
@@ -53,7 +57,8 @@ unfoldable pub key_step : Language → Sheet → Day → PartName → Work → L
 key_step l sheet s name work =
     filled (sheet_text l sheet texts.KEY_STEP) (name_values name)
     ++ windows_text l (is_converter name.model) work.ground ++ sheet_text l sheet texts.KEY_WORDS
-    ++ rows_after s work.ground beginning (pieces 50 work.key) ++ sheet_text l sheet texts.KEY_STEP_END
+    ++ rows_after name.results s work.ground beginning (pieces 50 (cells_with name.results work.key))
+    ++ sheet_text l sheet texts.KEY_STEP_END
 
 -- the head of the second step, with the number of the body's letters
 abbrev pub text_head : Language → Sheet → PartName → ℕ → List ℕ
@@ -68,12 +73,12 @@ abbrev pub next_sheet : Language → Sheet → Day → PartName → List ℕ →
 next_sheet l sheet s name start progress [] = []
 next_sheet l sheet s name start progress (cell ∷ cells) =
     filled (sheet_text l sheet texts.NEXT_STEP) (name_values name)
-    ++ rows_after s start progress (pieces 50 (cell ∷ cells))
+    ++ rows_after name.results s start progress (pieces 50 (cell ∷ cells))
 
 abbrev pub text_rows : Language → Sheet → Day → PartName → List ℕ → List Cell → List ℕ
 text_rows l sheet s name start body =
     let first = take (first_sheet name.model) body in
-    rows_after s start beginning (pieces 50 first)
+    rows_after name.results s start beginning (pieces 50 first)
     ++ next_sheet l sheet s name start (progress_after beginning first) (drop (first_sheet name.model) body)
 
 -- the warnings that copies of the indicators lost letters, and that the day is wrong or can't be tested
@@ -83,11 +88,16 @@ warnings_text l sheet warnings =
     ++ text_if warnings.wrong_day (sheet_text l sheet texts.WRONG_DAY)
     ++ text_if warnings.not_tested (sheet_text l sheet texts.NOT_TESTED)
 
+-- the picture of the windows that are set before the text; on a worksheet, nothing if the first step finds them
+abbrev pub start_text : Language → Sheet → PartName → List ℕ → List ℕ
+start_text l sheet name letters =
+    if are_open name.results && not (has_given_start sheet) then [] else windows_text l (is_converter name.model) letters
+
 -- the second step, in which the text is enciphered or deciphered
 unfoldable pub text_step : Language → Sheet → Day → PartName → Warnings → Work → List ℕ
 text_step l sheet s name warnings work =
-    text_head l sheet name (length work.body) ++ windows_text l (is_converter name.model) work.start
-    ++ warnings_text l sheet warnings ++ text_rows l sheet s name work.start work.body
+    text_head l sheet name (length work.body) ++ start_text l sheet name work.start
+    ++ warnings_text l sheet warnings ++ text_rows l sheet s name work.start (cells_with name.results work.body)
 
 -- the note that says which letters stand for spaces and punctuation
 abbrev pub note : Language → Sheet → Model → List ℕ
@@ -96,10 +106,15 @@ note l sheet M3 = sheet_text l sheet texts.NOTE
 note l sheet M4 = text_in l texts.NAVAL_NOTE
 note l sheet M209 = sheet_text l sheet texts.NOTE
 
+-- the legend, which says what to do with the letters of a row
+abbrev pub legend : Language → Sheet → Results → List ℕ
+legend l sheet Shown = sheet_text l sheet texts.LEGEND
+legend l sheet LeftOpen = sheet_text l sheet texts.OPEN_LEGEND
+
 -- the sheet of a part
 unfoldable pub part_sheet : Language → Sheet → Day → PartName → Warnings → Work → List ℕ
 part_sheet l sheet s name warnings work =
-    head_text l sheet name ++ day_key_text l s ++ sheet_text l sheet texts.LEGEND
+    head_text l sheet name ++ day_key_text l s ++ legend l sheet name.results
     ++ text_if warnings.letters_lost (sheet_text l sheet texts.LOST_LETTER)
     ++ key_step l sheet s name work ++ text_step l sheet s name warnings work
     ++ note l sheet name.model ++ SHEET_END.now

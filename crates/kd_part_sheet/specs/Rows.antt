@@ -1,11 +1,12 @@
 -- The rows of letters in a step of a part's sheet. A row has up to ten groups of five letters, and the number of
 -- letters so far. If letters of the row are pressed, the row also has the letters that the machine shows after it.
-use Rattle.std.specs.Prelude.{decimal, ℕ, ◌+◌, ◌==◌, Bool, true, false, not, if◌then◌else◌}
+use Rattle.std.specs.Prelude.{decimal, ℕ, ◌+◌, ◌==◌, ◌||◌, Bool, true, false, not, if◌then◌else◌}
 use Rattle.std.specs.Prelude.{List, [], ◌∷◌, ◌++◌, flat_map, length}
 use Rattle.std.specs.Int.{div_ceil}
 use Rattle.std.specs.List.{count_by}
 use Rattle.std.specs.Simd.{first_chunks}
 use Rattle.kd_state.specs.SheetDay.{Day, day_model}
+use Rattle.kd_pictures.specs.Results.{are_open}
 use Rattle.kd_pictures.specs.Template.{filled}
 use Rattle.kd_pictures.specs.Words.{is_converter}
 use Rattle.kd_part_sheet.specs.declared.cells.Cell.{Cell}
@@ -17,6 +18,7 @@ use Rattle.kd_part_sheet.specs.declared.cells.Sign.{Sign}
 use Rattle.kd_part_sheet.specs.declared.cells.Sign.TheVariants as signs
 use Rattle.kd_part_sheet.specs.declared.markup.TheConstants as markup
 use Rattle.kd_part_sheet.specs.declared.rows.Progress.{Progress}
+use Rattle.kd_pictures.specs.declared.results.Results.{Results}
 use Rattle.kd_part_sheet.specs.Cells.{place_text}
 use Rattle.kd_part_sheet.specs.LettersAfter.{letters_after}
 use Rattle.kd_part_sheet.specs.Markup.{above_end, cell_marks, group_end, group_start, marks_end, small, small_end}
@@ -31,6 +33,7 @@ pieces size items = first_chunks size (div_ceil (length items) size) items
 
 abbrev pub is_nothing : Sign → Bool
 is_nothing signs.Nothing = true
+is_nothing signs.Open = false
 is_nothing signs.Lost = false
 is_nothing (signs.Letter letter) = false
 
@@ -91,27 +94,28 @@ shown_after is_converter letters =
     else letter_words false markup.ROW_LETTERS.now two_spaces letters
     ++ letter_words true markup.ROW_NUMBERS.now space letters
 
--- the letters that the machine shows after a row; nothing if the last argument is `true`, as then no letter of the row
--- is pressed
+-- the letters that the machine shows after a row; nothing if the last argument is `true`
 abbrev pub windows_after : Day → List ℕ → ℕ → Bool → List ℕ
-windows_after s start presses is_idle =
-    if is_idle then [] else shown_after (is_converter (day_model s)) (letters_after s start presses)
+windows_after s start presses is_hidden =
+    if is_hidden then [] else shown_after (is_converter (day_model s)) (letters_after s start presses)
 
 -- The number at the end of a row. On a Converter, it is what the machine's counter shows: how many letters were pressed
 -- in this step. On a rotor machine, it is how many letters the rows have so far.
 abbrev pub row_number : Bool → Progress → ℕ
 row_number is_converter progress = if is_converter then progress.presses else progress.letters
 
--- a row: its groups, a checkbox, the row's number, and the windows after the row
-unfoldable pub row_text : Day → List ℕ → Progress → List Cell → List ℕ
-row_text s start progress row =
+-- A row: its groups, a checkbox, the row's number, and the windows after the row. A worksheet doesn't show the windows.
+-- A row of which no letter is pressed doesn't show them either.
+unfoldable pub row_text : Results → Day → List ℕ → Progress → List Cell → List ℕ
+row_text results s start progress row =
     markup.ROW.now ++ flat_map group_text (pieces 5 row)
     ++ filled markup.ROW_BOX.now (decimal (row_number (is_converter (day_model s)) progress) ∷ [])
-    ++ windows_after s start progress.presses (pressed_count row == 0) ++ markup.ROW_END.now
+    ++ windows_after s start progress.presses (are_open results || pressed_count row == 0) ++ markup.ROW_END.now
 
 -- The next rows of a step. The progress counts the letters of the earlier rows. The first list has the letters that the
 -- machine shows at the start of the step.
-abbrev pub rows_after : Day → List ℕ → Progress → List (List Cell) → List ℕ
-rows_after s start progress [] = []
-rows_after s start progress (row ∷ rows) =
-    row_text s start (progress_after progress row) row ++ rows_after s start (progress_after progress row) rows
+abbrev pub rows_after : Results → Day → List ℕ → Progress → List (List Cell) → List ℕ
+rows_after results s start progress [] = []
+rows_after results s start progress (row ∷ rows) =
+    row_text results s start (progress_after progress row) row
+    ++ rows_after results s start (progress_after progress row) rows

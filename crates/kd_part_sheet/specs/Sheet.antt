@@ -1,5 +1,5 @@
 -- The texts of a part's sheet. Each text has a version for each of the four sheets, in English and in German.
-use Rattle.std.specs.Prelude.{ℕ, List}
+use Rattle.std.specs.Prelude.{ℕ, Bool, true, false, List}
 use Rattle.kd_pictures.specs.declared.language.Language.{Language}
 use Rattle.kd_pictures.specs.Language.{text_in}
 use Rattle.kd_part_sheet.specs.declared.sheet.Sheet.{Sheet}
@@ -19,6 +19,14 @@ for_sheet RotorSend one two three four = one
 for_sheet PinSend one two three four = two
 for_sheet RotorReceive one two three four = three
 for_sheet PinReceive one two three four = four
+
+-- Whether the order has the windows that are set before the text: the message key, to send on a rotor machine.
+-- Otherwise, the first step finds these windows.
+abbrev pub has_given_start : Sheet → Bool
+has_given_start RotorSend = true
+has_given_start PinSend = false
+has_given_start RotorReceive = false
+has_given_start PinReceive = false
 
 -- the version of this text for this sheet, in this language
 abbrev pub sheet_text : Language → Sheet → SheetText → List ℕ

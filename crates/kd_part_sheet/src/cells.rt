@@ -3,18 +3,21 @@ ghost use Rattle.std.specs.Prelude.{◌≡◌, ◌+◌, ◌≤◌, ◌++◌, len
 ghost use Rattle.kd_pictures.specs.Drawing.{Draws};
 ghost use Rattle.kd_part_sheet.specs.Cells.{choice_cells, copied, mark_of, mark_text, place_text, pressed_cells};
 ghost use Rattle.kd_part_sheet.specs.Cells.{received_cells, sign_of, sign_text, skipped, taken_after, text_sign};
+ghost use Rattle.kd_part_sheet.specs.Cells.{cell_with, cells_with};
 
 use crate::markup::{LOST_LETTER, NO_LETTER, STRUCK_OUT};
 use arrayvec::ArrayVec;
 use itoa::Buffer;
-use kd_pictures::draw;
 use kd_pictures::template::draw_letter;
+use kd_pictures::{Results, draw};
 use kd_tables::{Letter, Sink, place_on_wheel};
 
 /// What stands above or below the line for a letter.
 #[derive(Clone, Copy)]
 pub enum Sign {
     Nothing,
+    /// A letter that a worksheet leaves open.
+    Open,
     Lost,
     Letter(Letter),
 }
@@ -206,6 +209,36 @@ fn taken_after(taken: u8, mark: Mark) -> u8
     }
 }
 
+/// The cells with their results or, if `results` are left open, as a worksheet has them.
+pub(crate) fn cells_with<const N: usize>(
+    results: Results,
+    cells: &ArrayVec<Cell, N>,
+) -> ArrayVec<Cell, N>
+    ensures { result.items ≡ cells_with results cells.now.items }
+{
+    let mut shown = ArrayVec::new();
+    for cell in cells.as_slice() {
+        shown.push(cell_with(results, *cell));
+    }
+    shown
+}
+
+/// The cell with its result. If `results` are left open and its letter is pressed, its sign below the line is left open,
+/// and it has no mark.
+fn cell_with(results: Results, cell: Cell) -> Cell
+    ensures { result ≡ cell_with results cell }
+{
+    if results.are_open() && cell.is_pressed {
+        Cell {
+            below: Sign::Open,
+            mark: Mark::NoMark,
+            ..cell
+        }
+    } else {
+        cell
+    }
+}
+
 /// A line of a group: the signs above the line to write on, the signs below it, or the marks.
 #[derive(Clone, Copy)]
 pub(crate) enum Line {
@@ -229,7 +262,7 @@ fn draw_sign<W: Sink>(sink: &mut W, sign: Sign)
     ensures { Draws W.taken W.has_failed sink.old sink.new (sign_text sign) }
 {
     match sign {
-        Sign::Nothing => draw(sink, NO_LETTER),
+        Sign::Nothing | Sign::Open => draw(sink, NO_LETTER),
         Sign::Lost => draw(sink, LOST_LETTER),
         Sign::Letter(letter) => draw_letter(sink, letter),
     }

@@ -5,29 +5,31 @@ ghost use Rattle.kd_state.specs.OwnKeys.{sheet_key};
 ghost use Rattle.kd_pictures.specs.Drawing.{Draws};
 ghost use Rattle.kd_pictures.specs.Template.{filled};
 ghost use Rattle.kd_state.specs.Entry.{rotor_values, values_of};
-ghost use Rattle.kd_part_sheet.specs.PartSheet.{day_key_text, first_sheet, head_text, key_step, name_values, next_sheet};
-ghost use Rattle.kd_part_sheet.specs.PartSheet.{note, part_sheet, rotor_key_text, text_head, text_if, text_rows};
+ghost use Rattle.kd_part_sheet.specs.PartSheet.{day_key_text, first_sheet, head_text, key_step, legend, name_values, next_sheet};
+ghost use Rattle.kd_part_sheet.specs.PartSheet.{note, part_sheet, rotor_key_text, start_text, text_head, text_if, text_rows};
 ghost use Rattle.kd_part_sheet.specs.PartSheet.{text_step, warnings_text};
 ghost use Rattle.kd_part_sheet.specs.PartWork.{IsWorkable};
+ghost use Rattle.kd_part_sheet.specs.Sheet.{has_given_start};
 
-use crate::cells::Cell;
+use crate::cells::{Cell, cells_with};
 use crate::markup::{KEY_END, SHEET_END};
 use crate::part_work::PartWork;
 use crate::rows::{Progress, draw_rows, progress_after};
 use crate::sheet::Sheet;
 use crate::texts::{
     CABLES, COPIES_LOST, HEAD, KEY_STEP, KEY_STEP_END, KEY_WORDS, LEGEND, LIST, LOST_LETTER,
-    NAVAL_NOTE, NEXT_STEP, NOT_TESTED, NOTE, REFLECTOR, RINGS, TEXT_STEP, WRONG_DAY,
+    NAVAL_NOTE, NEXT_STEP, NOT_TESTED, NOTE, OPEN_LEGEND, REFLECTOR, RINGS, TEXT_STEP, WRONG_DAY,
 };
 use crate::windows::draw_windows;
 use crate::words::{draw_cables, draw_rings, draw_wheels};
 use kd_pictures::template::{Value, fill, fill_in};
 use kd_pictures::words::is_converter;
-use kd_pictures::{Language, draw, draw_in};
+use kd_pictures::{Language, Results, draw, draw_in};
 use kd_state::{Entry, RotorEntry, SheetDay};
 use kd_tables::{Letter, Model, Sink};
 
-/// The values in the head of each step. They are repeated, since sheets of paper come apart.
+/// The values in the head of each step, and whether the sheet shows results. The values are repeated, since sheets of
+/// paper come apart.
 #[derive(Clone, Copy)]
 pub struct PartName {
     /// The machine's model.
@@ -41,6 +43,8 @@ pub struct PartName {
     pub part: u8,
     /// How many parts the message has.
     pub parts: u8,
+    /// Whether the sheet shows the results.
+    pub results: Results,
 }
 
 /// Writes the sheet of a part.
@@ -59,7 +63,7 @@ pub fn draw_part_sheet<W: Sink>(
 {
     draw_head(sink, language, sheet, name);
     draw_day_key(sink, language, day.entry());
-    draw(sink, sheet.text(language, LEGEND));
+    draw(sink, legend(language, sheet, name.results));
     draw_if(
         sink,
         warnings.letters_lost,
@@ -69,6 +73,16 @@ pub fn draw_part_sheet<W: Sink>(
     draw_text_step(sink, language, sheet, day, name, warnings, work);
     draw(sink, note(language, sheet, name.model));
     draw(sink, SHEET_END);
+}
+
+/// The legend, which says what to do with the letters of a row.
+fn legend(language: Language, sheet: Sheet, results: Results) -> &'static str
+    ensures { result.now ≡ legend language sheet results }
+{
+    match results {
+        Results::Shown => sheet.text(language, LEGEND),
+        Results::LeftOpen => sheet.text(language, OPEN_LEGEND),
+    }
 }
 
 /// Writes `text` if `is_there` is true; otherwise writes nothing.
@@ -175,10 +189,19 @@ fn draw_key_step<W: Sink>(
         (key_step language sheet day.now name work.now) }
 {
     let ground = work.ground.as_slice();
+    let key = cells_with(name.results, &work.key);
     fill_name(sink, language, sheet.text(language, KEY_STEP), name);
     draw_windows(sink, language, is_converter(name.model), ground);
     draw(sink, sheet.text(language, KEY_WORDS));
-    draw_rows(sink, language, day, ground, BEGINNING, work.key.as_slice());
+    draw_rows(
+        sink,
+        language,
+        name.results,
+        day,
+        ground,
+        BEGINNING,
+        key.as_slice(),
+    );
     draw(sink, sheet.text(language, KEY_STEP_END));
 }
 
@@ -221,11 +244,41 @@ fn draw_text_step<W: Sink>(
         (text_step language sheet day.now name warnings work.now) }
 {
     let start = work.start.as_slice();
-    let body = work.body.as_slice();
+    let body = cells_with(name.results, &work.body);
     draw_text_head(sink, language, sheet, name, body.len());
-    draw_windows(sink, language, is_converter(name.model), start);
+    draw_start(sink, language, sheet, name, start);
     draw_warnings(sink, language, sheet, warnings);
-    draw_text_rows(sink, language, sheet, day, name, start, body);
+    draw_text_rows(sink, language, sheet, day, name, start, body.as_slice());
+}
+
+/// Writes the picture of the windows that are set before the text. On a worksheet, writes nothing if the first step
+/// finds these windows.
+fn draw_start<W: Sink>(
+    sink: &mut W,
+    language: Language,
+    sheet: Sheet,
+    name: PartName,
+    start: &[Letter],
+)
+    requires { length start.now ≤ 6 }
+    ensures { Draws W.taken W.has_failed sink.old sink.new
+        (start_text language sheet name start.now) }
+{
+    if name.results.are_open() && !has_given_start(sheet) {
+        draw(sink, "");
+    } else {
+        draw_windows(sink, language, is_converter(name.model), start);
+    }
+}
+
+/// Whether the order has the windows that are set before the text. Otherwise, the first step finds them.
+fn has_given_start(sheet: Sheet) -> bool
+    ensures { result ≡ has_given_start sheet }
+{
+    match sheet {
+        Sheet::RotorSend => true,
+        Sheet::PinSend | Sheet::RotorReceive | Sheet::PinReceive => false,
+    }
 }
 
 fn draw_text_head<W: Sink>(
@@ -269,7 +322,7 @@ fn draw_text_rows<W: Sink>(
         (text_rows language sheet day.now name start.now body.now) }
 {
     let (first, rest) = body.split_at(body.len().min(first_sheet(name.model)));
-    draw_rows(sink, language, day, start, BEGINNING, first);
+    draw_rows(sink, language, name.results, day, start, BEGINNING, first);
     draw_next_sheet(
         sink,
         language,
@@ -310,7 +363,7 @@ fn draw_next_sheet<W: Sink>(
         draw(sink, "");
     } else {
         fill_name(sink, language, sheet.text(language, NEXT_STEP), name);
-        draw_rows(sink, language, day, start, progress, cells);
+        draw_rows(sink, language, name.results, day, start, progress, cells);
     }
 }
 

@@ -6,6 +6,7 @@ ghost use Rattle.kd_state.specs.OwnKeys.{sheet_key};
 ghost use Rattle.kd_pictures.specs.Drawing.{Draws};
 ghost use Rattle.kd_part_sheet.specs.Cells.{place_text};
 ghost use Rattle.kd_part_sheet.specs.Rows.{above_text, group_text, has_below, has_marks, is_skipped, line_if, pieces, pressed_count};
+ghost use Rattle.kd_pictures.specs.Results.{are_open};
 ghost use Rattle.kd_part_sheet.specs.Rows.{progress_after, row_number, row_text, rows_after, shown_after, windows_after};
 
 use crate::cells::{Cell, Line, Mark, Sign, draw_place};
@@ -18,7 +19,7 @@ use crate::markup::{
 use crate::words::draw_shown;
 use kd_pictures::template::{Value, fill};
 use kd_pictures::words::is_converter;
-use kd_pictures::{Language, draw};
+use kd_pictures::{Language, Results, draw};
 use kd_state::SheetDay;
 use kd_tables::{Letter, Sink};
 
@@ -34,6 +35,7 @@ pub(crate) struct Progress {
 pub(crate) fn draw_rows<W: Sink>(
     sink: &mut W,
     language: Language,
+    results: Results,
     day: &SheetDay,
     start: &[Letter],
     progress: Progress,
@@ -43,13 +45,13 @@ pub(crate) fn draw_rows<W: Sink>(
     requires presses { progress.presses ≤ progress.letters }
     requires few { progress.letters + length cells.now ≤ 520 }
     ensures { Draws W.taken W.has_failed sink.old sink.new
-        (rows_after day.now start.now progress (pieces 50 cells.now)) }
+        (rows_after results day.now start.now progress (pieces 50 cells.now)) }
 {
     if !cells.is_empty() {
         let (row, rest) = first_piece(cells, 50);
         let progress = progress_after(progress, row);
-        draw_row(sink, language, day, start, progress, row);
-        draw_rows(sink, language, day, start, progress, rest);
+        draw_row(sink, language, results, day, start, progress, row);
+        draw_rows(sink, language, results, day, start, progress, rest);
     }
 }
 
@@ -77,6 +79,7 @@ fn pressed_count(row: &[Cell]) -> usize
 fn draw_row<W: Sink>(
     sink: &mut W,
     language: Language,
+    results: Results,
     day: &SheetDay,
     start: &[Letter],
     progress: Progress,
@@ -86,13 +89,14 @@ fn draw_row<W: Sink>(
     requires presses { progress.presses ≤ progress.letters }
     requires few { progress.letters ≤ 520 }
     ensures { Draws W.taken W.has_failed sink.old sink.new
-        (row_text day.now start.now progress row.now) }
+        (row_text results day.now start.now progress row.now) }
 {
     draw(sink, ROW);
     draw_groups(sink, row);
     let number = row_number(is_converter(day.model()), progress);
     fill(sink, language, ROW_BOX, &[Value::Number(number)]);
-    draw_windows_after(sink, day, start, progress.presses, pressed_count(row) == 0);
+    let is_hidden = results.are_open() || pressed_count(row) == 0;
+    draw_windows_after(sink, day, start, progress.presses, is_hidden);
     draw(sink, ROW_END);
 }
 
@@ -110,20 +114,20 @@ fn row_number(is_converter: bool, progress: Progress) -> u16
     }
 }
 
-/// Writes the windows after `presses` key presses; nothing if no letter of the row is pressed.
+/// Writes the windows after `presses` key presses; nothing if `is_hidden`.
 fn draw_windows_after<W: Sink>(
     sink: &mut W,
     day: &SheetDay,
     start: &[Letter],
     presses: usize,
-    is_idle: bool,
+    is_hidden: bool,
 )
     requires window { IsWindow (sheet_key day.now) start.now }
     requires few { presses ≤ 520 }
     ensures { Draws W.taken W.has_failed sink.old sink.new
-        (windows_after day.now start.now presses is_idle) }
+        (windows_after day.now start.now presses is_hidden) }
 {
-    if is_idle {
+    if is_hidden {
         draw(sink, "");
     } else {
         let letters = letters_after(day, start, presses);

@@ -44,6 +44,30 @@ pub const LEGEND: SheetText = (
     ),
 );
 
+/// The legend of a worksheet, on which the results are left open.
+pub const OPEN_LEGEND: SheetText = (
+    (
+        (
+            "</p>\n<p>Worksheet. Above the line: press. On it: write the lamp’s letter. Where nothing stands above, copy from below.<br>A row ends with the letters so far: write the letters in the windows beside them.",
+            "</p>\n<p>Arbeitsblatt. Über der Linie: tippen. Auf die Linie: den Buchstaben der Lampe schreiben. Wo darüber nichts steht: von darunter abschreiben.<br>Am Ende der Zeile: Buchstaben bis hier. Daneben die Buchstaben in den Fenstern schreiben.",
+        ),
+        (
+            "</p>\n<p>Worksheet. Above the line: enter. On it: write what the machine prints. Where nothing stands above, copy from below.<br>At the start of a step, set the counter to 0. A row ends with the counter: write the letters of the wheels beside it.",
+            "</p>\n<p>Arbeitsblatt. Über der Linie: eingeben. Auf die Linie: schreiben, was die Maschine druckt. Wo darüber nichts steht: von darunter abschreiben.<br>Am Anfang eines Schritts das Zählwerk auf 0 stellen. Am Ende der Zeile: Zählwerk. Daneben die Buchstaben der Räder schreiben.",
+        ),
+    ),
+    (
+        (
+            "</p>\n<p>Worksheet. Above the line: press. On it: write the lamp’s letter. Skip letters in small print.<br>A row ends with the letters so far: write the letters in the windows beside them.",
+            "</p>\n<p>Arbeitsblatt. Über der Linie: tippen. Auf die Linie: den Buchstaben der Lampe schreiben. Kleingedruckte Buchstaben auslassen.<br>Am Ende der Zeile: Buchstaben bis hier. Daneben die Buchstaben in den Fenstern schreiben.",
+        ),
+        (
+            "</p>\n<p>Worksheet. Above the line: enter. On it: write what the machine prints. Skip letters in small print.<br>At the start of a step, set the counter to 0. A row ends with the counter: write the letters of the wheels beside it.",
+            "</p>\n<p>Arbeitsblatt. Über der Linie: eingeben. Auf die Linie: schreiben, was die Maschine druckt. Kleingedruckte Buchstaben auslassen.<br>Am Anfang eines Schritts das Zählwerk auf 0 stellen. Am Ende der Zeile: Zählwerk. Daneben die Buchstaben der Räder schreiben.",
+        ),
+    ),
+);
+
 /// The first step, in which the key is found, up to the picture of the windows. The values are the model, the day, the
 /// part, and the number of parts.
 pub const KEY_STEP: SheetText = (

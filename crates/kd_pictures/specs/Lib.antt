@@ -9,4 +9,5 @@ pub mod Wheels
 pub mod Board
 pub mod Plain
 pub mod SheetName
+pub mod Results
 pub mod Checked

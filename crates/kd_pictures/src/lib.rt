@@ -8,6 +8,7 @@ pub mod fives;
 pub mod language;
 pub mod laws;
 pub mod numbers;
+mod results;
 pub mod sheet_name;
 mod sockets;
 pub mod template;
@@ -17,3 +18,4 @@ pub mod words;
 
 pub use drawing::{draw, draw_in};
 pub use language::Language;
+pub use results::Results;

@@ -8,5 +8,5 @@ pub returns : goal.returns
 unfolding keys_text
 returns g c =
     joined (both (both (both c.draw_in.ensures c.draw_letters.ensures) c.draw_in-2.ensures)
-    c.draw_letters-2.ensures) c.draw.ensures
+    c.draw_letters_with.ensures) c.draw.ensures
     (grind (arith, common_steps))

@@ -28,7 +28,7 @@ returns-in-len1-up g t c =
     (later_keys c.args.keys.now) c.args.text.now c.take_piece-piece.result.0.items c.take_piece-piece.result.1.now
     split c.take_piece-piece.ensures.piece
     c.take_piece-piece.ensures.rest c.requires in
-    parts_next _ _ _ _ split next.cut
+    parts_next _ _ _ _ _ split next.cut
     (rw (c.part_name.ensures, c.as_slice.ensures.value) at c.draw_made_part.ensures) c.draw_form_parts.ensures
 
 pub returns-in_default : goal.returns-in_default

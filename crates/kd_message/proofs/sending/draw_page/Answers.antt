@@ -11,4 +11,4 @@ pub returns : goal.returns
 returns g c = λ form is.
     let (head, read) = c.read_head-text.ensures in
     let (works, made, worked, are, draws) = rw c.keys.ensures at c.draw_file.ensures in
-    (_, page_made _ _ _ form head _ _ works made is read worked are, draws)
+    (_, page_made _ _ _ _ form head _ _ works made is read worked are, draws)

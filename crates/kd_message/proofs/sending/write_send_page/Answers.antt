@@ -19,7 +19,7 @@ pub returns-then-failed-clause-page : goal.returns-then-failed-clause-page
 returns-then-failed-clause-page g c =
     let (ready, is) = sent _ _ _ _ _ c.in_ok-send.ensures in
     let (page, shown, draws) = c.draw_page.ensures _ is in
-    PageWritten _ page ready is shown (writes_part _ (shown_begins _ _ _ _ _ shown).1.1 draws (search rules))
+    PageWritten _ page ready is shown (writes_part _ (shown_begins _ _ _ _ _ _ shown).1.1 draws (search rules))
     (search rules) (search rules)
 
 pub returns-else-failed-clause-page : goal.returns-else-failed-clause-page

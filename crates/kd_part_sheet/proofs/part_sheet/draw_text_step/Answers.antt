@@ -7,5 +7,5 @@ use Rattle.kd_part_sheet.proofs.part_sheet.draw_text_step.Goals as goal
 pub returns : goal.returns
 unfolding text_step
 returns g c =
-    joined (both (both c.draw_text_head.ensures c.draw_windows.ensures) c.draw_warnings.ensures) c.draw_text_rows.ensures
+    joined (both (both c.draw_text_head.ensures c.draw_start.ensures) c.draw_warnings.ensures) c.draw_text_rows.ensures
     (grind (arith, common_steps))

@@ -1,0 +1,25 @@
+//! `Results`: whether a page shows what the machine gives.
+ghost use Rattle.std.specs.Prelude.{◌≡◌};
+ghost use Rattle.kd_pictures.specs.Results.{are_open};
+
+/// Whether a page for a message shows the results: the letters that the machine gives, and the letters that it shows
+/// after a row.
+#[derive(Clone, Copy, Debug, PartialEq, Eq)]
+pub enum Results {
+    /// The page shows the results.
+    Shown,
+    /// The results are left open: the page has worksheets.
+    LeftOpen,
+}
+
+impl Results {
+    /// Whether the results are left open.
+    pub fn are_open(self) -> bool
+        ensures { result ≡ are_open self }
+    {
+        match self {
+            Results::Shown => false,
+            Results::LeftOpen => true,
+        }
+    }
+}
