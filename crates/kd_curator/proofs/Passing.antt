@@ -28,7 +28,6 @@ use Rattle.kd_curator.specs.Sheets.{MakesSheet, Sheet, Faulty, NoMemory as NoShe
 use Rattle.kd_table.specs.Options.{OptionTexts}
 use Rattle.kd_pictures.specs.declared.language.Language.{Language}
 use Rattle.kd_curator_command.specs.CommandLine.{NamedCommand}
-use Rattle.kd_curator_command.specs.UpToThree.{list_of_three}
 use Rattle.kd_curator_command.specs.declared.command.Command.TheVariants as commands
 use Rattle.kd_curator.specs.RunList.{WritesList, NoList, Settings}
 use Rattle.std.specs.Prelude.{unwrap_or}
@@ -40,8 +39,8 @@ use Rattle.kd_curator.specs.RunSend.{WritesSendPage}
 use Rattle.kd_curator.specs.RunSend as sends
 use Rattle.kd_curator.specs.RunType.{WritesTypingPage}
 use Rattle.kd_curator.specs.RunType as types
-use Rattle.kd_curator_command.specs.declared.command.MessageKind.{MessageKind}
-use Rattle.kd_curator_command.specs.declared.command.MessageKind.TheVariants as kinds
+use Rattle.kd_tables.specs.declared.direction.Direction.{Direction}
+use Rattle.kd_tables.specs.declared.direction.Direction.TheVariants as directions
 use Rattle.kd_curator_command.specs.declared.command.Task.{Task}
 use Rattle.kd_curator_command.specs.declared.command.Task.TheVariants as tasks
 use Rattle.kd_curator.specs.declared.fault.Refused.{Refused}
@@ -144,11 +143,11 @@ module _ (one other : Port) (before : one.had ≡ other.had) (after : Keeps one.
   receive_kept l month m number form told (receives.Cut s found parts read front is) =
       receives.Cut s found parts read (front.0, front.1, appends_kept _ front.2) is
 
-  message_kept : (kind : MessageKind) (l : Language) (month : List (Option Day)) (m : Parts) (number : ℕ)
-      (message : List ℕ) (told : Result (Unit {0}) Refused) → WritesMessage kind l month m number message one told
-      → WritesMessage kind l month m number message other told
-  message_kept kinds.Order l month m number order told writes = send_kept l month m number order told writes
-  message_kept kinds.Form l month m number form told writes = receive_kept l month m number form told writes
+  message_kept : (direction : Direction) (l : Language) (month : List (Option Day)) (m : Parts) (number : ℕ)
+      (message : List ℕ) (told : Result (Unit {0}) Refused) → WritesMessage direction l month m number message one told
+      → WritesMessage direction l month m number message other told
+  message_kept directions.Send l month m number order told writes = send_kept l month m number order told writes
+  message_kept directions.Receive l month m number form told writes = receive_kept l month m number form told writes
 
   typing_page_kept : (l : Language) (m : Parts) (told : Result (Unit {0}) Refused) → WritesTypingPage l m one told
       → WritesTypingPage l m other told
@@ -162,14 +161,14 @@ module _ (one other : Port) (before : one.had ≡ other.had) (after : Keeps one.
       task_kept l task sheet (text_at texts 0) (text_at texts 1) told does
   command_kept l (commands.Message machine sheet message task) texts told does =
       on_kept (machine_and_month (text_at texts 0) (text_at texts 1)) _ _ told
-      (λ both. message_kept task.kind (unwrap_or task.language l) both.1 both.0 task.day (text_at texts 2) told) does
+      (λ both. message_kept task.direction (unwrap_or task.language l) both.1 both.0 task.day (text_at texts 2) told) does
   command_kept l (commands.TypingPage machine chosen) texts told does =
       on_kept (machine_in (text_at texts 0)) _ _ told (λ m. typing_page_kept (unwrap_or chosen l) m told) does
   command_kept l (commands.Table sheet form chosen) texts told does =
       on_kept (month_in 0 (text_at texts 0)) _ _ told (λ month. text_kept refused_device _ told) does
   command_kept l (commands.Sheet table options) texts told does = sheet_kept options (text_at texts 0) told does
   command_kept l (commands.Look files) texts told does =
-      look_kept (named_texts (list_of_three files) texts) told does
+      look_kept (named_texts files.items texts) told does
   command_kept l (commands.EmptySheet model days) texts told does = text_kept refused_device _ told does
 
 -- ---- the program's answer

@@ -24,7 +24,6 @@ use Rattle.kd_curator.specs.Ending.{EndsAs, blame_of, memory_stop, stop_after}
 use Rattle.kd_curator.specs.Files.{contents_of, names_of, text_at}
 use Rattle.kd_curator.specs.MachineAndSheet.{IsAnswerOn, IsAnswerOnSheet, machine_in}
 use Rattle.kd_curator.specs.Looks.{Looks, named_texts}
-use Rattle.kd_curator_command.specs.UpToThree.{list_of_three}
 use Rattle.kd_curator.specs.Refusals.{comes_after_writing, is_after_all, is_device_fault, refused_device, refused_unread}
 use Rattle.kd_pictures.specs.declared.language.Language.{Language}
 use Rattle.kd_curator.specs.RunList.{WritesList}
@@ -34,8 +33,8 @@ use Rattle.kd_curator.specs.RunSend.{WritesSendPage}
 use Rattle.kd_curator.specs.RunType.{WritesTypingPage}
 use Rattle.kd_state.specs.SheetDay.{Day}
 use Rattle.kd_state.specs.declared.machine.parts.Parts.{Parts}
-use Rattle.kd_curator_command.specs.declared.command.MessageKind.{MessageKind}
-use Rattle.kd_curator_command.specs.declared.command.MessageKind.TheVariants as kinds
+use Rattle.kd_tables.specs.declared.direction.Direction.{Direction}
+use Rattle.kd_tables.specs.declared.direction.Direction.TheVariants.{Receive, Send}
 use Rattle.kd_curator_command.specs.declared.command.MessageTask.{MessageTask}
 use Rattle.kd_curator.specs.Sheets.{MakesSheet}
 use Rattle.kd_curator.specs.Tables.{WritesTables}
@@ -54,17 +53,17 @@ DoesTask l (tasks.Page days chosen) name machine sheet sink answer = IsAnswerOnS
 DoesTask l (tasks.List day) name machine sheet sink answer = IsAnswerOnSheet machine sheet
     (λ m month. WritesList month m day sink answer) answer
 
--- The output for a message of this kind is written, and `answer` is the command's answer.
-abbrev pub WritesMessage : MessageKind → Language → List (Option Day) → Parts → ℕ → List ℕ → Port
+-- The output for a message in this direction is written, and `answer` is the command's answer.
+abbrev pub WritesMessage : Direction → Language → List (Option Day) → Parts → ℕ → List ℕ → Port
     → Result (Unit {0}) Refused → Type 0
-WritesMessage kinds.Order l month m number order sink answer = WritesSendPage l month m number order sink answer
-WritesMessage kinds.Form l month m number form sink answer = WritesReceivePage l month m number form sink answer
+WritesMessage Send l month m number order sink answer = WritesSendPage l month m number order sink answer
+WritesMessage Receive l month m number form sink answer = WritesReceivePage l month m number form sink answer
 
 -- The task writes its output and gives this answer, if the machine file, the key sheet and the message have these
 -- bytes. Words are in language `l`, unless the task asks for another language.
 abbrev pub WorksMessage : Language → MessageTask → List ℕ → List ℕ → List ℕ → Port → Result (Unit {0}) Refused → Type 0
 WorksMessage l task machine sheet message sink answer = IsAnswerOnSheet machine sheet
-    (λ m month. WritesMessage task.kind (unwrap_or task.language l) month m task.day message sink answer) answer
+    (λ m month. WritesMessage task.direction (unwrap_or task.language l) month m task.day message sink answer) answer
 
 -- The command writes its output and gives this answer, if its files have the bytes `texts`, in the order of the files.
 -- Words are in language `l`, unless the command asks for another language.
@@ -79,7 +78,7 @@ DoesCommand l (commands.Table sheet form chosen) texts sink answer =
     WritesTables (unwrap_or chosen l) form (text_at texts 0) sink answer
 DoesCommand l (commands.Sheet table options) texts sink answer = MakesSheet options (text_at texts 0) sink answer
 DoesCommand l (commands.Look files) texts sink answer =
-    Looks (named_texts (list_of_three files) texts) sink answer
+    Looks (named_texts files.items texts) sink answer
 DoesCommand l (commands.EmptySheet model days) texts sink answer =
     WritesText refused_device (empty_month_text model days) sink answer
 
@@ -176,7 +175,7 @@ pub data HasNotes (words : List (List ℕ)) (asked : List AskedName) (errors : P
   TableNotes : (table : List ℕ) (options : OptionTexts) → IsCommandLineOf words (commands.Sheet table options)
       → AreAskedFor (table ∷ []) [] asked true → Tells errors → HasNotes words asked errors
   FormNotes : (machine sheet message : List ℕ) (task : MessageTask)
-      → IsCommandLineOf words (commands.Message machine sheet message task) → task.kind ≡ kinds.Form
+      → IsCommandLineOf words (commands.Message machine sheet message task) → task.direction ≡ Receive
       → AreAskedFor (machine ∷ sheet ∷ message ∷ []) [] asked true → Tells errors → HasNotes words asked errors
 
 -- The program's answer to a command line.
@@ -237,13 +236,13 @@ HasMonth _ = Unit {0}
 
 -- What a command for a message wrote to standard error. For a form, it may have written notes; for an order, it wrote
 -- nothing.
-abbrev pub TellsOfMessage : MessageKind → Port → Type 0
-TellsOfMessage kinds.Order errors = IsLeftAlone errors
-TellsOfMessage kinds.Form errors = Tells errors
+abbrev pub TellsOfMessage : Direction → Port → Type 0
+TellsOfMessage Send errors = IsLeftAlone errors
+TellsOfMessage Receive errors = Tells errors
 
 -- What was written to standard error before a refusal's text. The command `sheet` may have written notes on a table.
 -- The command `receive` may have written notes on a form. Any other command has written nothing.
 abbrev pub HasTold : NamedCommand → Port → Type 0
 HasTold (commands.Sheet table options) errors = Tells errors
-HasTold (commands.Message machine sheet message task) errors = TellsOfMessage task.kind errors
+HasTold (commands.Message machine sheet message task) errors = TellsOfMessage task.direction errors
 HasTold _ errors = IsLeftAlone errors

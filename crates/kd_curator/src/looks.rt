@@ -2,7 +2,7 @@
 ghost use Rattle.std.specs.Prelude.{◌≡◌, ◌++◌, ◌||◌, false, map, Err, IsErr, OnOk};
 ghost use Rattle.kd_tables.specs.Ports.{port};
 ghost use Rattle.kd_look.specs.Look.{IsLookAnswer, is_device as is_look_device, named_text};
-ghost use Rattle.kd_curator.specs.Files.{unborrowed_names};
+ghost use Rattle.kd_curator_command.specs.CommandLine.{unborrowed_names};
 ghost use Rattle.kd_curator.specs.Looks.{Looks, look_answer, named_texts};
 ghost use Rattle.kd_curator.specs.Refusals.{has_written, is_device};
 

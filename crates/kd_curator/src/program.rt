@@ -20,7 +20,7 @@ ghost use Rattle.kd_new_file.specs.declared.why_unread.WhyUnread.{WhyUnread};
 use crate::blame::Remark;
 use crate::buffered_sink::BufferedSink;
 use crate::fault::{PageFault, Refused};
-use crate::files::{Contents, FileBytes, listed, name_at, names_of, read_contents, text_at};
+use crate::files::{Contents, FileBytes, name_at, names_of, read_contents, text_at};
 use crate::looks::look_at_files;
 use crate::output_file::end_unwritten;
 use crate::run_list::run_list;
@@ -32,12 +32,12 @@ use crate::sheets::{make_sheet, write_empty_sheet};
 use crate::stop::{Stop, end_program};
 use crate::tables::run_table;
 use kd_curator_command::{
-    Command, CommandLine, MessageKind, MessageTask, NamedCommand, NoCommand, Task, parse_words,
+    Command, CommandLine, MessageTask, NamedCommand, NoCommand, Task, parse_words,
 };
 use kd_host::{FileFault, Files};
 use kd_new_file::{NewFileFault, NewFiles, begin, publish};
 use kd_page::Language;
-use kd_tables::{Failed, Sink, put_all};
+use kd_tables::{Direction, Failed, Sink, put_all};
 use std::alloc::Global;
 use std::convert::AsStr;
 
@@ -302,10 +302,7 @@ fn carry_out<W: Sink, E: Sink>(
         Command::Sheet { options, .. } => {
             make_sheet(alloc, text_at(contents, 0), &options, sink, errors)
         }
-        Command::Look { files, .. } => {
-            let names = listed(files.first, files.second, files.third);
-            look_at_files(alloc, names.as_slice(), contents, sink)
-        }
+        Command::Look { files } => look_at_files(alloc, files.as_slice(), contents, sink),
         Command::EmptySheet { model, days } => write_empty_sheet(model, days, sink),
     }
 }
@@ -353,13 +350,13 @@ fn work_message<W: Sink, E: Sink>(
         (port W.taken W.has_failed sink.old sink.new) result }
     ensures untouched { IsErr result → has_written result ≡ false → sink.new ≡ sink.old }
     ensures failed { W.has_failed sink.new ≡ (W.has_failed sink.old || is_device result) }
-    ensures told { TellsOfMessage task.kind (port E.taken E.has_failed errors.old errors.new) }
+    ensures told { TellsOfMessage task.direction (port E.taken E.has_failed errors.old errors.new) }
 {
     let language = task.language.unwrap_or(language);
     let day = task.day;
-    match task.kind {
-        MessageKind::Order => run_send(alloc, language, machine, sheet, day, message, sink),
-        MessageKind::Form => {
+    match task.direction {
+        Direction::Send => run_send(alloc, language, machine, sheet, day, message, sink),
+        Direction::Receive => {
             run_receive(alloc, language, machine, sheet, day, message, sink, errors)
         }
     }

@@ -5,7 +5,7 @@ ghost use Rattle.kd_tables.specs.Ports.{port};
 ghost use Rattle.std.specs.IoError.{error_kind};
 ghost use Rattle.kd_host.specs.Ending.{EndsWithLine};
 ghost use Rattle.kd_curator.specs.Ending.{EndsAs, IsWordsStop, day_prefix, refusal_line, refusal_text, stop_after};
-ghost use Rattle.kd_curator.specs.Files.{unborrowed_names};
+ghost use Rattle.kd_curator_command.specs.CommandLine.{unborrowed_names};
 
 use crate::blame::remark_words;
 use crate::error_line::{end_named, end_refused};

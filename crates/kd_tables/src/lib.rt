@@ -1,6 +1,7 @@
 //! Tables and ports: letters, wheels, reflectors, models, refusals, and the traits for reading and writing bytes.
 #![tactic(auto)]
 
+mod direction;
 pub mod laws;
 mod letter;
 mod lug;
@@ -17,6 +18,7 @@ mod standing;
 mod variant_names;
 mod wheel;
 
+pub use direction::Direction;
 pub use letter::Letter;
 pub use lug::Lug;
 pub use model::{Model, allowed, allowed_reflector, in_box};
