@@ -21,7 +21,8 @@ use Rattle.kd_curator.specs.Refusals.{comes_after_writing, is_after_all, refused
 use Rattle.kd_curator.specs.declared.fault.PageFault.{PageFault}
 use Rattle.kd_curator.specs.declared.fault.PageFault.TheVariants as faults
 use Rattle.kd_look.specs.Look.{IsLookAnswer, NamedText}
-use Rattle.kd_look.specs.declared.looking.LookFault.{LookFault}
+use Rattle.std.specs.declared.alloc.AllocError.{AllocError}
+use Rattle.kd_tables.specs.declared.ports.write_fault.WriteFault.{WriteFault}
 use Rattle.kd_look.specs.declared.outcome.Outcome.{Outcome}
 use Rattle.kd_tables.specs.Writing.{Writes}
 use Rattle.kd_curator.specs.Sheets.{MakesSheet, Sheet, Faulty, NoMemory as NoSheetMemory}
@@ -107,7 +108,7 @@ module _ (one other : Port) (before : one.had ≡ other.had) (after : Keeps one.
   writes_kept text (Err made) writes =
       let front = writes.front in record { whole = tt; front = (front.0, front.1, appends_kept _ front.2) }
 
-  report_kept : (files : List NamedText) (told : Result Outcome LookFault) → IsLookAnswer files one told
+  report_kept : (files : List NamedText) (told : Result Outcome (WriteFault AllocError)) → IsLookAnswer files one told
       → IsLookAnswer files other told
   report_kept files told (inl writes) = inl (record {
     text = writes.text;

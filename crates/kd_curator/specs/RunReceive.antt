@@ -12,9 +12,9 @@ use Rattle.kd_lost.specs.DamagedForm.{AreFormParts, IsFormFault, damaged_parts_o
 use Rattle.kd_lost.specs.declared.form.DamagedFormFault.{DamagedFormFault}
 use Rattle.kd_lost.specs.declared.part.DamagedPart.{DamagedPart}
 use Rattle.kd_pictures.specs.declared.language.Language.{Language}
-use Rattle.kd_message.specs.ReceivePage.{page_fault, receive_notes, receive_text}
+use Rattle.kd_message.specs.ReceivePage.{receive_notes, receive_text}
 use Rattle.kd_lost.specs.ShownParts.{IsWhole}
-use Rattle.kd_curator.specs.Refusals.{has_written, refused_device, refused_message, refused_receive, refused_whole}
+use Rattle.kd_curator.specs.Refusals.{has_written, refused_device, refused_form, refused_message, refused_whole}
 use Rattle.kd_curator.specs.declared.fault.PageFault.TheVariants.{NotWhole, NoSuchDay}
 use Rattle.kd_curator.specs.declared.fault.Refused.{Refused}
 
@@ -43,7 +43,7 @@ pub data WritesReceivePage (l : Language) (month : List (Option Day)) (m : Parts
   OffKey : (s : Day) → day_of month number ≡ Some s → (fault : FormFault) → IsKeyFault m s fault
       → answer ≡ Err (refused_message fault) → WritesReceivePage l month m number form sink answer
   NotRead : (s : Day) → day_of month number ≡ Some s → IsReadyOnKey m s → (fault : DamagedFormFault)
-      → IsFormFault (damaged_parts_of form) fault → answer ≡ Err (refused_receive (page_fault fault))
+      → IsFormFault (damaged_parts_of form) fault → answer ≡ Err (refused_form fault)
       → WritesReceivePage l month m number form sink answer
   Page : (s : Day) → day_of month number ≡ Some s → (parts : List DamagedPart)
       → IsFormRead m s form parts → Appends sink.had sink.has (receive_text l s parts)

@@ -80,6 +80,6 @@ fn write_form<W: Sink, E: Sink>(
     match write_receive_page(alloc, language, day, form, sink, errors) {
         Ok(true) => Ok(()),
         Ok(false) => Err(Refused::from(PageFault::NotWhole)),
-        Err(fault) => Err(Refused::from(fault)),
+        Err(fault) => Err(Refused::of_receive(fault)),
     }
 }

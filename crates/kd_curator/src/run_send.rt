@@ -59,6 +59,6 @@ fn write_order<W: Sink>(
     };
     match write_send_page(alloc, language, machine, day, order, sink) {
         Ok(()) => Ok(()),
-        Err(fault) => Err(Refused::from(fault)),
+        Err(fault) => Err(Refused::of_send(fault)),
     }
 }

@@ -25,7 +25,8 @@ pub use model::{Model, allowed, allowed_reflector, in_box};
 pub use pairs::{have_no_letter_twice, is_apart};
 pub use place::Place;
 pub use ports::{
-    Device, Failed, MemorySink, MemorySource, READ_LIMIT, Sink, Source, is_at_end, put_all,
+    Device, Failed, MemorySink, MemorySource, READ_LIMIT, Sink, Source, WriteFault, is_at_end,
+    put_all,
 };
 pub use reading::Reading;
 pub use reflector::{Reflector, reflecting};
