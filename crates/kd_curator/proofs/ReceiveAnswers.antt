@@ -70,7 +70,7 @@ kept_whole None has kept = tt
 kept_whole (Some x) None kept = absurd kept
 kept_whole (Some x) (Some y) kept = kept ∙ sym (append-nil x)
 
-same_whole : (had : Option (List ℕ)) → Appends had had []
+pub same_whole : (had : Option (List ℕ)) → Appends had had []
 same_whole None = tt
 same_whole (Some x) = sym (append-nil x)
 
