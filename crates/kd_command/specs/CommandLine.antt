@@ -12,8 +12,9 @@ use Rattle.kd_command.specs.declared.command.Action.{Action}
 use Rattle.kd_command.specs.declared.command.Action.TheVariants as actions
 use Rattle.kd_command.specs.declared.command.Task.{Task}
 use Rattle.kd_command.specs.declared.command.Task.TheVariants as tasks
-use Rattle.kd_command.specs.declared.command.Direction.{Direction}
-use Rattle.kd_command.specs.declared.command.Direction.TheVariants.{Send, Receive}
+use Rattle.kd_tables.specs.Direction.{direction_name, direction_word}
+use Rattle.kd_tables.specs.declared.direction.Direction.{Direction}
+use Rattle.kd_tables.specs.declared.direction.Direction.TheVariants.{Send, Receive}
 
 -- the command `name` with an argument for each of `words`, without options or help
 abbrev pub command_shape : List ℕ → List (List ℕ) → Shape
@@ -25,16 +26,6 @@ command_shape name words = record (new_shape name) {
 -- the names of three arguments: a machine file, a sheet and a day
 abbrev pub day_words : List (List ℕ)
 day_words = codes "MACHINE" ∷ codes "SHEET" ∷ codes "DAY" ∷ []
-
--- the name of the command: `send` or `receive`
-abbrev pub direction_name : Direction → List ℕ
-direction_name Send = codes "send"
-direction_name Receive = codes "receive"
-
--- the name of the command's last argument: `ORDER` or `FORM`
-abbrev pub direction_word : Direction → List ℕ
-direction_word Send = codes "ORDER"
-direction_word Receive = codes "FORM"
 
 abbrev pub type_shape : Shape
 type_shape = command_shape (codes "type") (codes "MACHINE" ∷ [])

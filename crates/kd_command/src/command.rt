@@ -1,7 +1,8 @@
 //! The desk's commands, and the parser of the desk's command line.
 ghost use Rattle.std.specs.Prelude.{◌≡◌, ◌≢◌, [], ◌∷◌, ℕ, List, false, codes, map, Err, IfSome, IfOk};
 ghost use Rattle.clap.specs.Words.{App, app_of, found_of, kind_of, rows_of};
-ghost use Rattle.kd_command.specs.CommandLine.{direction_name, direction_word, desk_grammar};
+ghost use Rattle.kd_tables.specs.Direction.{direction_name};
+ghost use Rattle.kd_command.specs.CommandLine.{desk_grammar};
 ghost use Rattle.kd_command.specs.Inner.{IsMadeOf, IsNoCommand, unborrowed_action, with_commands};
 ghost use Rattle.kd_command.specs.CommandLine.{unborrowed_command, HaveSheetAndDay, IsActionOf};
 ghost use Rattle.kd_command.specs.CommandLine.{IsCommandOf, IsCommandLineOf, IsNoCommandLine};
@@ -9,6 +10,7 @@ ghost use Rattle.kd_command.specs.CommandLine.{IsCommandOf, IsCommandLineOf, IsN
 use clap::error::ErrorKind;
 use clap::{Arg, ArgMatches, Command as Grammar, Error};
 use kd_state::day_of_text;
+use kd_tables::Direction;
 use std::alloc::{AllocError, Global};
 use std::convert::AsStr;
 
@@ -51,27 +53,6 @@ pub enum Task<F, O> {
     Check(F),
     /// Sends the order in the file, or receives the form in the file, part by part.
     Message(Direction, O),
-}
-
-/// Whether a message is sent or received.
-#[derive(Clone, Copy)]
-pub enum Direction {
-    /// The message is an order; its form is printed.
-    Send,
-    /// The message is a form; its text is printed.
-    Receive,
-}
-
-impl Direction {
-    /// The name of the argument for the message's file: ORDER or FORM.
-    fn file_word(self) -> &'static str
-        ensures { result.now ≡ direction_word self }
-    {
-        match self {
-            Direction::Send => "ORDER",
-            Direction::Receive => "FORM",
-        }
-    }
 }
 
 /// A command with the names of its files, before any file is read or opened.

@@ -3,6 +3,5 @@
 
 mod command;
 
-pub use command::{
-    Action, Command, Direction, NamedAction, NamedCommand, NoCommand, Task, parse_words,
-};
+pub use command::{Action, Command, NamedAction, NamedCommand, NoCommand, Task, parse_words};
+pub use kd_tables::Direction;

@@ -13,22 +13,22 @@ use Rattle.kd_state.specs.SheetDay.{Day}
 use Rattle.kd_curator.specs.Ending.{stop_after}
 use Rattle.kd_curator.specs.Files.{text_at}
 use Rattle.kd_curator.specs.MachineAndSheet.{IsAnswerOn, machine_and_month, machine_in, month_in}
-use Rattle.kd_curator.specs.Program.{CarriesOut, DoesCommand, DoesTask, IsTold, IsAnswerAfterFlush, is_stopped_before_writing}
-use Rattle.kd_curator.specs.Program.{AnswersAfter, IsFlushed, is_whole}
+use Rattle.kd_curator.specs.Program.{CarriesOut, DoesCommand, IsTold, IsAnswerAfterFlush, is_stopped_before_writing}
+use Rattle.kd_curator.specs.Program.{AnswersAfter, IsFlushed, WritesTask, is_whole}
 use Rattle.kd_curator.specs.Program.{Carried, FileUnread, Shown, OtherWords, NoMemory, is_stopped_by_device, is_usage}
 use Rattle.kd_curator.specs.Looks.{Looks, named_texts}
 use Rattle.kd_curator.specs.Refusals.{comes_after_writing, is_after_all, refused_device}
 use Rattle.kd_curator.specs.declared.fault.PageFault.{PageFault}
 use Rattle.kd_curator.specs.declared.fault.PageFault.TheVariants as faults
 use Rattle.kd_look.specs.Look.{IsLookAnswer, NamedText}
-use Rattle.kd_look.specs.declared.looking.LookFault.{LookFault}
+use Rattle.std.specs.declared.alloc.AllocError.{AllocError}
+use Rattle.kd_tables.specs.declared.ports.write_fault.WriteFault.{WriteFault}
 use Rattle.kd_look.specs.declared.outcome.Outcome.{Outcome}
 use Rattle.kd_tables.specs.Writing.{Writes}
 use Rattle.kd_curator.specs.Sheets.{MakesSheet, Sheet, Faulty, NoMemory as NoSheetMemory}
 use Rattle.kd_table.specs.Options.{OptionTexts}
 use Rattle.kd_pictures.specs.declared.language.Language.{Language}
 use Rattle.kd_curator_command.specs.CommandLine.{NamedCommand}
-use Rattle.kd_curator_command.specs.UpToThree.{list_of_three}
 use Rattle.kd_curator_command.specs.declared.command.Command.TheVariants as commands
 use Rattle.kd_curator.specs.RunList.{WritesList, NoList, Settings}
 use Rattle.std.specs.Prelude.{unwrap_or}
@@ -40,8 +40,8 @@ use Rattle.kd_curator.specs.RunSend.{WritesSendPage}
 use Rattle.kd_curator.specs.RunSend as sends
 use Rattle.kd_curator.specs.RunType.{WritesTypingPage}
 use Rattle.kd_curator.specs.RunType as types
-use Rattle.kd_curator_command.specs.declared.command.MessageKind.{MessageKind}
-use Rattle.kd_curator_command.specs.declared.command.MessageKind.TheVariants as kinds
+use Rattle.kd_tables.specs.declared.direction.Direction.{Direction}
+use Rattle.kd_tables.specs.declared.direction.Direction.TheVariants as directions
 use Rattle.kd_curator_command.specs.declared.command.Task.{Task}
 use Rattle.kd_curator_command.specs.declared.command.Task.TheVariants as tasks
 use Rattle.kd_curator.specs.declared.fault.Refused.{Refused}
@@ -87,13 +87,12 @@ module _ (one other : Port) (before : one.had ≡ other.had) (after : Keeps one.
   on_kept (Err refused) Holds Other answer more (inl is) = inl is
   on_kept found Holds Other answer more (inr lacks) = inr lacks
 
-  task_kept : (l : Language) (task : Task) (name machine sheet : List ℕ) (told : Result (Unit {0}) Refused)
-      → DoesTask l task name machine sheet one told → DoesTask l task name machine sheet other told
-  task_kept l (tasks.Page days chosen) name machine sheet told does =
-      on_kept (machine_and_month machine sheet) _ _ told
-      (λ both. pages_kept (unwrap_or chosen l) name both.1 both.0 _ told) does
-  task_kept l (tasks.List day) name machine sheet told does =
-      on_kept (machine_and_month machine sheet) _ _ told (λ both. list_kept both.1 both.0 day told) does
+  task_kept : (l : Language) (task : Task) (name : List ℕ) (month : List (Option Day)) (m : Parts)
+      (told : Result (Unit {0}) Refused)
+      → WritesTask l task name month m one told → WritesTask l task name month m other told
+  task_kept l (tasks.Page days chosen) name month m told writes =
+      pages_kept (unwrap_or chosen l) name month m _ told writes
+  task_kept l (tasks.List day) name month m told writes = list_kept month m day told writes
 
   sheet_kept : (options : OptionTexts) (table : List ℕ) (told : Result (Unit {0}) Refused)
       → MakesSheet options table one told → MakesSheet options table other told
@@ -108,7 +107,7 @@ module _ (one other : Port) (before : one.had ≡ other.had) (after : Keeps one.
   writes_kept text (Err made) writes =
       let front = writes.front in record { whole = tt; front = (front.0, front.1, appends_kept _ front.2) }
 
-  report_kept : (files : List NamedText) (told : Result Outcome LookFault) → IsLookAnswer files one told
+  report_kept : (files : List NamedText) (told : Result Outcome (WriteFault AllocError)) → IsLookAnswer files one told
       → IsLookAnswer files other told
   report_kept files told (inl writes) = inl (record {
     text = writes.text;
@@ -144,11 +143,11 @@ module _ (one other : Port) (before : one.had ≡ other.had) (after : Keeps one.
   receive_kept l month m number form told (receives.Cut s found parts read front is) =
       receives.Cut s found parts read (front.0, front.1, appends_kept _ front.2) is
 
-  message_kept : (kind : MessageKind) (l : Language) (month : List (Option Day)) (m : Parts) (number : ℕ)
-      (message : List ℕ) (told : Result (Unit {0}) Refused) → WritesMessage kind l month m number message one told
-      → WritesMessage kind l month m number message other told
-  message_kept kinds.Order l month m number order told writes = send_kept l month m number order told writes
-  message_kept kinds.Form l month m number form told writes = receive_kept l month m number form told writes
+  message_kept : (direction : Direction) (l : Language) (month : List (Option Day)) (m : Parts) (number : ℕ)
+      (message : List ℕ) (told : Result (Unit {0}) Refused) → WritesMessage direction l month m number message one told
+      → WritesMessage direction l month m number message other told
+  message_kept directions.Send l month m number order told writes = send_kept l month m number order told writes
+  message_kept directions.Receive l month m number form told writes = receive_kept l month m number form told writes
 
   typing_page_kept : (l : Language) (m : Parts) (told : Result (Unit {0}) Refused) → WritesTypingPage l m one told
       → WritesTypingPage l m other told
@@ -159,17 +158,19 @@ module _ (one other : Port) (before : one.had ≡ other.had) (after : Keeps one.
   command_kept : (l : Language) (command : NamedCommand) (texts : List (List ℕ)) (told : Result (Unit {0}) Refused)
       → DoesCommand l command texts one told → DoesCommand l command texts other told
   command_kept l (commands.OnMachine machine sheet task) texts told does =
-      task_kept l task sheet (text_at texts 0) (text_at texts 1) told does
+      on_kept (machine_and_month (text_at texts 0) (text_at texts 1)) _ _ told
+      (λ both. task_kept l task sheet both.1 both.0 told) does
   command_kept l (commands.Message machine sheet message task) texts told does =
       on_kept (machine_and_month (text_at texts 0) (text_at texts 1)) _ _ told
-      (λ both. message_kept task.kind (unwrap_or task.language l) both.1 both.0 task.day (text_at texts 2) told) does
+      (λ both. message_kept task.direction (unwrap_or task.language l) both.1 both.0 task.day (text_at texts 2) told)
+      does
   command_kept l (commands.TypingPage machine chosen) texts told does =
       on_kept (machine_in (text_at texts 0)) _ _ told (λ m. typing_page_kept (unwrap_or chosen l) m told) does
   command_kept l (commands.Table sheet form chosen) texts told does =
       on_kept (month_in 0 (text_at texts 0)) _ _ told (λ month. text_kept refused_device _ told) does
   command_kept l (commands.Sheet table options) texts told does = sheet_kept options (text_at texts 0) told does
   command_kept l (commands.Look files) texts told does =
-      look_kept (named_texts (list_of_three files) texts) told does
+      look_kept (named_texts files.items texts) told does
   command_kept l (commands.EmptySheet model days) texts told does = text_kept refused_device _ told does
 
 -- ---- the program's answer

@@ -8,7 +8,8 @@ use Rattle.kd_host.proofs.FileNames.{all_on, misses_first as no_first, misses_on
 use Rattle.kd_host.specs.Files.{AreAskedFor, AskedName, asked_and_had, asked_and_missed, content_of}
 use Rattle.kd_host.specs.declared.file_fault.FileFault.{FileFault}
 use Rattle.kd_host.specs.declared.file_fault.FileFault.TheVariants.{NoMemory}
-use Rattle.kd_curator.specs.Files.{behind, contents_of, unborrowed_names}
+use Rattle.kd_curator_command.specs.CommandLine.{unborrowed_names}
+use Rattle.kd_curator.specs.Files.{behind, contents_of}
 
 -- the files that are known, if they are
 abbrev pub Known : Type 0

@@ -11,24 +11,27 @@ use Rattle.kd_sheet.specs.Sheet.{day_of}
 use Rattle.kd_form.specs.OnTheKey.{IsReadyOnKey}
 use Rattle.kd_pictures.specs.declared.language.Language.{Language}
 use Rattle.kd_lost.specs.declared.form.DamagedFormFault.{DamagedFormFault}
-use Rattle.kd_lost.specs.declared.form.DamagedFormFault.TheVariants as form_faults
-use Rattle.kd_message.specs.ReceivePage.{FormNotRead, IsFormNoted, IsReceivePageAnswer, NotNoted, Noted, ReceivedPageWritten, page_fault, receive_notes}
-use Rattle.kd_message.specs.ReceivePage.{is_device_fault as is_page_device}
-use Rattle.kd_message.specs.declared.receiving.ReceivePageFault.{ReceivePageFault}
-use Rattle.kd_message.specs.declared.receiving.ReceivePageFault.TheVariants.{NoMemory, TooManyParts, Device}
-use Rattle.kd_curator.specs.Refusals.{has_written, is_device, refused_receive, refused_whole}
+use Rattle.kd_lost.specs.declared.form.DamagedFormFault.TheVariants.{NoMemory, TooManyParts}
+use Rattle.kd_message.specs.ReceivePage.{FormNotRead, IsFormNoted, IsReceivePageAnswer, NotNoted, Noted, ReceivedPageWritten, receive_notes}
+use Rattle.kd_tables.specs.WriteFault.{is_device}
+use Rattle.kd_tables.specs.declared.ports.write_fault.WriteFault.{WriteFault}
+use Rattle.kd_curator.specs.Refusals.{has_written, refused_by, refused_form, refused_whole}
 use Rattle.kd_curator.specs.RunReceive.{Cut, NotRead, OfNothing, OfParts, Page, TellsOfForm, WritesReceivePage}
 use Rattle.kd_curator.specs.declared.fault.PageFault.TheVariants.{NotWhole}
 use Rattle.kd_curator.specs.declared.fault.Refused.{Refused}
 
-abbrev pub receive_answer : Result Bool ReceivePageFault → Result (Unit {0}) Refused
+-- what `write_receive_page` returns
+abbrev pub Told : Type 0
+Told = Result Bool (WriteFault DamagedFormFault)
+
+abbrev pub receive_answer : Told → Result (Unit {0}) Refused
 receive_answer (Ok true) = Ok tt
 receive_answer (Ok false) = Err (refused_whole NotWhole)
-receive_answer (Err fault) = Err (refused_receive fault)
+receive_answer (Err fault) = Err (refused_by refused_form fault)
 
 pub page_told : (l : Language) (month : List (Option Day)) (m : Parts) (number : ℕ) (form : List ℕ) (sink : Port)
     (s : Day) → day_of month number ≡ Some s → IsReadyOnKey m s
-    → (told : Result Bool ReceivePageFault) → IsReceivePageAnswer l s form sink told
+    → (told : Told) → IsReceivePageAnswer l s form sink told
     → WritesReceivePage l month m number form sink (receive_answer told)
 page_told l month m number form sink s found ready (Ok true)
     (ReceivedPageWritten parts read few writes whole failed) =
@@ -41,40 +44,24 @@ page_told l month m number form sink s found ready (Ok false)
 page_told l month m number form sink s found ready (Err fault)
     (ReceivedPageWritten parts read few writes is failed) =
     Cut s found parts (record { ready = ready; read = read; few = few }) writes.front
-    (ap (λ f. Err (refused_receive f)) is)
+    (ap (λ f. receive_answer (Err f)) is)
 page_told l month m number form sink s found ready told (FormNotRead fault why is untouched) =
     NotRead s found ready fault why (ap receive_answer is)
 
-pub device_told : (fault : ReceivePageFault)
-    → is_page_device (Err fault) ≡ is_device (Err (refused_receive fault))
-device_told NoMemory = refl
-device_told TooManyParts = refl
-device_told Device = refl
-
--- a sink that is untouched but for a failed device
-pub untouched_told : {X : Type 0} (fault : ReceivePageFault) → (is_page_device (Err fault) ≡ false → X)
-    → has_written (Err (refused_receive fault)) ≡ false → X
-untouched_told NoMemory holds other = holds refl
-untouched_told TooManyParts holds other = holds refl
-untouched_told Device holds other = absurd (cc)
-
-page_quiet : (fault : DamagedFormFault) → is_page_device (Err (page_fault fault)) ≡ false
-page_quiet form_faults.NoMemory = refl
-page_quiet form_faults.TooManyParts = refl
-
-not_written : (fault : DamagedFormFault) → has_written (Err (refused_receive (page_fault fault))) ≡ false
-not_written form_faults.NoMemory = refl
-not_written form_faults.TooManyParts = refl
+not_written : (fault : DamagedFormFault) → has_written (Err (refused_form fault)) ≡ false
+not_written NoMemory = refl
+not_written TooManyParts = refl
 
 -- what the page's call tells of the form
 pub notes_told : (l : Language) (month : List (Option Day)) (m : Parts) (number : ℕ) (form : List ℕ) (s : Day)
-    (Told : List ℕ → Type 0) → day_of month number ≡ Some s → IsReadyOnKey m s
-    → (told : Result Bool ReceivePageFault) → IsFormNoted l s form Told told
-    → TellsOfForm l month m number form Told (receive_answer told)
-notes_told l month m number form s Told found ready told (Noted parts read tells) =
+    (Holds : List ℕ → Type 0) → day_of month number ≡ Some s → IsReadyOnKey m s
+    → (told : Told) → IsFormNoted l s form Holds told
+    → TellsOfForm l month m number form Holds (receive_answer told)
+notes_told l month m number form s Holds found ready told (Noted parts read tells) =
     OfParts s found ready parts read tells
-notes_told l month m number form s Told found ready told (NotNoted fault is) =
-    subst (λ a. TellsOfForm l month m number form Told (receive_answer a)) (sym is) (OfNothing refl (not_written fault))
+notes_told l month m number form s Holds found ready told (NotNoted fault is) =
+    subst (λ a. TellsOfForm l month m number form Holds (receive_answer a)) (sym is)
+    (OfNothing refl (not_written fault))
 
 -- -------- what standard error has taken
 
@@ -83,7 +70,7 @@ kept_whole None has kept = tt
 kept_whole (Some x) None kept = absurd kept
 kept_whole (Some x) (Some y) kept = kept ∙ sym (append-nil x)
 
-same_whole : (had : Option (List ℕ)) → Appends had had []
+pub same_whole : (had : Option (List ℕ)) → Appends had had []
 same_whole None = tt
 same_whole (Some x) = sym (append-nil x)
 
@@ -115,10 +102,10 @@ module _ {E : Type 0} (taken : E → Option (List ℕ)) (failed : E → Bool) wh
   }
 
   -- the page's call told something
-  pub form_tells : (l : Language) (s : Day) (form : List ℕ) (old new : E) (told : Result Bool ReceivePageFault)
+  pub form_tells : (l : Language) (s : Day) (form : List ℕ) (old new : E) (told : Told)
       → IsFormNoted l s form (λ text. Draws taken failed old new text) told
-      → (IsErr told → is_page_device told ≡ false → new ≡ old) → Tells (port taken failed old new)
+      → (IsErr told → is_device told ≡ false → new ≡ old) → Tells (port taken failed old new)
   form_tells l s form old new told (Noted parts read drawn) quiet =
       drawn_tells old new (receive_notes l s parts) (failed old) (failed new) refl refl drawn
   form_tells l s form old new told (NotNoted fault is) quiet =
-      silent_tells old new (quiet (subst IsErr (sym is) refl) (ap is_page_device is ∙ page_quiet fault))
+      silent_tells old new (quiet (subst IsErr (sym is) refl) (ap is_device is))

@@ -7,8 +7,8 @@ use Rattle.kd_tables.specs.Ports.{Port}
 use Rattle.kd_tables.specs.declared.model.Model.{Model}
 use Rattle.kd_curator_command.specs.CommandLine.{IsCommandLineOf, IsMeant, NamedCommand, curator_grammar}
 use Rattle.kd_curator_command.specs.declared.command.Command.TheVariants as commands
-use Rattle.kd_curator_command.specs.declared.command.MessageKind.{MessageKind}
-use Rattle.kd_curator_command.specs.declared.command.MessageKind.TheVariants as kinds
+use Rattle.kd_tables.specs.declared.direction.Direction.{Direction}
+use Rattle.kd_tables.specs.declared.direction.Direction.TheVariants as directions
 use Rattle.kd_curator_command.specs.declared.command.MessageTask.{MessageTask}
 use Rattle.kd_host.specs.Files.{AreAskedFor, AskedName}
 use Rattle.kd_curator.specs.Files.{names_of}
@@ -22,6 +22,7 @@ use Rattle.kd_curator.specs.declared.fault.PageFault.TheVariants as faults
 use Rattle.kd_curator.specs.Program.{AnswersAfter, FormNotes, TellsOfMessage, is_whole}
 use Rattle.kd_curator.specs.declared.fault.Refused.{Refused}
 use Rattle.kd_curator.specs.declared.stop.Stop.{Stop}
+use Rattle.kd_curator.proofs.ReceiveAnswers.{same_whole}
 
 nothing_left : (whole : Bool) (answer : Result (Unit {0}) Stop) → AnswersAfter whole [] answer answer
 nothing_left true answer = inl (refl, refl)
@@ -77,12 +78,19 @@ pub left_alone : (had : Option (List ℕ)) (failed : Bool)
     → IsLeftAlone (record { had = had; has = had; had_failed = failed; has_failed = failed })
 left_alone had failed = record { same = refl; failed = refl }
 
+-- without notes, each command for a message has told what it may tell
+pub nothing_told : (direction : Direction) (had : Option (List ℕ)) (failed : Bool)
+    → TellsOfMessage direction (record { had = had; has = had; had_failed = failed; has_failed = failed })
+nothing_told directions.Send had failed = left_alone had failed
+nothing_told directions.Receive had failed = record { text = []; written = same_whole had; failed = λ is. is }
+
 message_notes_so : (words : List (List ℕ)) (asked : List AskedName) (errors : Port) (machine sheet message : List ℕ)
-    (task : MessageTask) (kind : MessageKind) → IsCommandLineOf words (commands.Message machine sheet message task)
-    → task.kind ≡ kind → AreAskedFor (machine ∷ sheet ∷ message ∷ []) [] asked true → TellsOfMessage kind errors
+    (task : MessageTask) (direction : Direction) → IsCommandLineOf words (commands.Message machine sheet message task)
+    → task.direction ≡ direction → AreAskedFor (machine ∷ sheet ∷ message ∷ []) [] asked true
+    → TellsOfMessage direction errors
     → HasNotes words asked errors
-message_notes_so words asked errors machine sheet message task kinds.Order says is read told = NoNotes told
-message_notes_so words asked errors machine sheet message task kinds.Form says is read told =
+message_notes_so words asked errors machine sheet message task directions.Send says is read told = NoNotes told
+message_notes_so words asked errors machine sheet message task directions.Receive says is read told =
     FormNotes machine sheet message task says is read told
 
 -- what the command tells, the words allow
@@ -91,7 +99,7 @@ pub notes_so : (words : List (List ℕ)) (asked : List AskedName) (errors : Port
     → HasNotes words asked errors
 notes_so words asked errors (commands.OnMachine a b c) says read told = NoNotes told
 notes_so words asked errors (commands.Message a b c d) says read told =
-    message_notes_so words asked errors a b c d d.kind says refl read told
+    message_notes_so words asked errors a b c d d.direction says refl read told
 notes_so words asked errors (commands.TypingPage a b) says read told = NoNotes told
 notes_so words asked errors (commands.Table a b c) says read told = NoNotes told
 notes_so words asked errors (commands.EmptySheet a b) says read told = NoNotes told

@@ -1,24 +1,26 @@
 -- The answer of the page for sending, as a refusal.
 use Rattle.std.proofs.Common.{◌≡◌, ℕ, List, Option, Some, false, Err, Ok, Result, ap, refl}
 use Rattle.kd_tables.specs.Ports.{Port}
+use Rattle.kd_tables.specs.WriteFault.{is_device as is_page_device}
+use Rattle.kd_tables.specs.declared.ports.write_fault.WriteFault.{WriteFault}
+use Rattle.kd_tables.specs.declared.ports.write_fault.WriteFault.TheVariants.{Device, Unwritten}
 use Rattle.kd_state.specs.declared.machine.parts.Parts.{Parts}
 use Rattle.kd_state.specs.SheetDay.{Day}
 use Rattle.kd_sheet.specs.Sheet.{day_of}
 use Rattle.kd_pictures.specs.declared.language.Language.{Language}
-use Rattle.kd_message.specs.SendPage.{IsSendPageAnswer, PageWritten, Refused as PageRefused, is_device as is_page_device}
-use Rattle.kd_message.specs.declared.sending.SendPageFault.{SendPageFault}
-use Rattle.kd_message.specs.declared.sending.SendPageFault.TheVariants.{Order, Device}
-use Rattle.kd_curator.specs.Refusals.{is_device, refused_send}
+use Rattle.kd_form.specs.declared.fault.FormFault.{FormFault}
+use Rattle.kd_message.specs.SendPage.{IsSendPageAnswer, PageWritten, Refused as PageRefused}
+use Rattle.kd_curator.specs.Refusals.{is_device, refused_by, refused_message}
 use Rattle.kd_curator.specs.RunSend.{NoPage, Page, WritesSendPage}
 use Rattle.kd_curator.specs.declared.fault.Refused.{Refused}
 
-abbrev pub send_answer : Result (Unit {0}) SendPageFault → Result (Unit {0}) Refused
+abbrev pub send_answer : Result (Unit {0}) (WriteFault FormFault) → Result (Unit {0}) Refused
 send_answer (Ok done) = Ok done
-send_answer (Err fault) = Err (refused_send fault)
+send_answer (Err fault) = Err (refused_by refused_message fault)
 
 pub page_told : (l : Language) (month : List (Option Day)) (m : Parts) (number : ℕ) (order : List ℕ) (sink : Port)
     (s : Day) → day_of month number ≡ Some s
-    → (told : Result (Unit {0}) SendPageFault) → IsSendPageAnswer l m s order sink told
+    → (told : Result (Unit {0}) (WriteFault FormFault)) → IsSendPageAnswer l m s order sink told
     → WritesSendPage l month m number order sink (send_answer told)
 page_told l month m number order sink s found (Ok done) (PageWritten form page ready is shown writes device failed) =
     Page s found form page ready is shown
@@ -29,13 +31,14 @@ page_told l month m number order sink s found (Err fault) (PageWritten form page
 page_told l month m number order sink s found told (PageRefused fault why is untouched) =
     NoPage s found fault why (ap send_answer is)
 
-pub device_told : (fault : SendPageFault)
-    → is_page_device (Err fault) ≡ is_device (Err (refused_send fault))
-device_told (Order fault) = refl
+pub device_told : (fault : WriteFault FormFault)
+    → is_page_device {T = Unit {0}} (Err fault) ≡ is_device (Err (refused_by refused_message fault))
+device_told (Unwritten fault) = refl
 device_told Device = refl
 
 -- a sink that is untouched but for a failed device
-pub untouched_told : {X : Type 0} (fault : SendPageFault) → (is_page_device (Err fault) ≡ false → X)
-    → is_device (Err (refused_send fault)) ≡ false → X
-untouched_told (Order fault) holds other = holds refl
+pub untouched_told : {X : Type 0} (fault : WriteFault FormFault)
+    → (is_page_device {T = Unit {0}} (Err fault) ≡ false → X)
+    → is_device (Err (refused_by refused_message fault)) ≡ false → X
+untouched_told (Unwritten fault) holds other = holds refl
 untouched_told Device holds other = absurd (cc)

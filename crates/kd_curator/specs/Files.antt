@@ -1,14 +1,12 @@
 -- The files of a command: their names, and their bytes.
 -- Code: `read_contents` reads one file after another.
 -- Test: tests/cases/curator-pages.toml
-use Rattle.std.specs.Prelude.{ℕ, List, [], ◌∷◌, ◌++◌, Option, Result, Ok, get_or, map}
-use Rattle.std.specs.Borrow.{Bor}
+use Rattle.std.specs.Prelude.{ℕ, List, [], ◌∷◌, ◌++◌, Option, Result, Ok, get_or}
 use Rattle.std.specs.Result.{result_map_both}
 use Rattle.kd_sheet.specs.Document.{◌>>=◌}
 use Rattle.kd_host.specs.Files.{content_of}
 use Rattle.kd_host.specs.declared.file_fault.FileFault.{FileFault}
 use Rattle.kd_curator_command.specs.CommandLine.{NamedCommand}
-use Rattle.kd_curator_command.specs.UpToThree.{list_of_three}
 use Rattle.kd_curator_command.specs.declared.command.Command.TheVariants as commands
 
 -- the names of a command's files, in the order in which they are read
@@ -18,7 +16,7 @@ names_of (commands.Message machine sheet message task) = machine ∷ sheet ∷ m
 names_of (commands.TypingPage machine language) = machine ∷ []
 names_of (commands.Table sheet form language) = sheet ∷ []
 names_of (commands.Sheet table options) = table ∷ []
-names_of (commands.Look files) = list_of_three files
+names_of (commands.Look files) = files.items
 names_of (commands.EmptySheet model days) = []
 
 -- the bytes of the files with these names, or the fault of the first file that can't be read
@@ -33,10 +31,6 @@ contents_of held (name ∷ names) = do
 -- files, or the names of files.
 abbrev pub text_at : List (List ℕ) → ℕ → List ℕ
 text_at texts place = get_or texts place []
-
--- the names, with plain texts in place of borrowed texts
-abbrev pub unborrowed_names : List (Bor (List ℕ)) → List (List ℕ)
-unborrowed_names names = map (λ name. name.now) names
 
 -- ---- What inner functions read. No public contract cites these definitions.
 

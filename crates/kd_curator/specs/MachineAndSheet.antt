@@ -6,7 +6,6 @@ use Rattle.toml.specs.Data.{Members}
 use Rattle.kd_state.specs.declared.machine.parts.Parts.{Parts}
 use Rattle.kd_state.specs.SheetDay.{Day}
 use Rattle.kd_sheet.specs.declared.fault.SheetFault.{SheetFault}
-use Rattle.kd_sheet.specs.declared.fault.SheetFault.TheVariants.{NoMemory}
 use Rattle.kd_sheet.specs.Document.{◌>>=◌, document_of}
 use Rattle.kd_sheet.specs.MachineFile.{machine_of}
 use Rattle.kd_sheet.specs.SheetFile.{sheet_of}
@@ -17,10 +16,7 @@ use Rattle.kd_curator.specs.declared.fault.PageFault.TheVariants.{File}
 use Rattle.kd_curator.specs.declared.fault.Refused.{Refused}
 use Rattle.kd_curator.specs.declared.machine_and_sheet.Needed.{Needed}
 use Rattle.kd_curator.specs.declared.machine_and_sheet.Needed.TheVariants as needs
-use Rattle.kd_curator.specs.Refusals.{refused_in, refused_whole}
-
-abbrev pub refused_memory : Refused
-refused_memory = refused_whole (File NoMemory)
+use Rattle.kd_curator.specs.Refusals.{refused_in, refused_memory}
 
 -- The answer is that memory ran out. This answer is always allowed.
 abbrev pub LacksMemory : {A : Type 0} → Result A Refused → Type 0

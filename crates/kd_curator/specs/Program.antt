@@ -24,7 +24,6 @@ use Rattle.kd_curator.specs.Ending.{EndsAs, blame_of, memory_stop, stop_after}
 use Rattle.kd_curator.specs.Files.{contents_of, names_of, text_at}
 use Rattle.kd_curator.specs.MachineAndSheet.{IsAnswerOn, IsAnswerOnSheet, machine_in}
 use Rattle.kd_curator.specs.Looks.{Looks, named_texts}
-use Rattle.kd_curator_command.specs.UpToThree.{list_of_three}
 use Rattle.kd_curator.specs.Refusals.{comes_after_writing, is_after_all, is_device_fault, refused_device, refused_unread}
 use Rattle.kd_pictures.specs.declared.language.Language.{Language}
 use Rattle.kd_pictures.specs.declared.results.Results.{Results}
@@ -35,8 +34,8 @@ use Rattle.kd_curator.specs.RunSend.{WritesSendPage}
 use Rattle.kd_curator.specs.RunType.{WritesTypingPage}
 use Rattle.kd_state.specs.SheetDay.{Day}
 use Rattle.kd_state.specs.declared.machine.parts.Parts.{Parts}
-use Rattle.kd_curator_command.specs.declared.command.MessageKind.{MessageKind}
-use Rattle.kd_curator_command.specs.declared.command.MessageKind.TheVariants as kinds
+use Rattle.kd_tables.specs.declared.direction.Direction.{Direction}
+use Rattle.kd_tables.specs.declared.direction.Direction.TheVariants.{Receive, Send}
 use Rattle.kd_curator_command.specs.declared.command.MessageTask.{MessageTask}
 use Rattle.kd_curator.specs.Sheets.{MakesSheet}
 use Rattle.kd_curator.specs.Tables.{WritesTables}
@@ -47,27 +46,32 @@ use Rattle.kd_curator.specs.declared.fault.Refused.{Refused}
 use Rattle.kd_curator.specs.declared.stop.Stop.{Stop}
 use Rattle.kd_curator.specs.declared.stop.Stop.TheVariants as stops
 
--- The task writes its output and gives this answer, if the machine file and the key sheet have these bytes. `name` is
--- the name of the key sheet's file. Words are in language `l`, unless the task asks for another language.
-abbrev pub DoesTask : Language → Task → List ℕ → List ℕ → List ℕ → Port → Result (Unit {0}) Refused → Type 0
-DoesTask l (tasks.Page days chosen) name machine sheet sink answer = IsAnswerOnSheet machine sheet
-    (λ m month. WritesPages (unwrap_or chosen l) name month m (wanted_days days (model_of m) month) sink answer) answer
-DoesTask l (tasks.List day) name machine sheet sink answer = IsAnswerOnSheet machine sheet
-    (λ m month. WritesList month m day sink answer) answer
+-- The output of this task is written, and `answer` is the command's answer. `name` is the name of the key sheet's file.
+-- Words are in language `l`, unless the task asks for another language.
+abbrev pub WritesTask : Language → Task → List ℕ → List (Option Day) → Parts → Port → Result (Unit {0}) Refused → Type 0
+WritesTask l (tasks.Page days chosen) name month m sink answer =
+    WritesPages (unwrap_or chosen l) name month m (wanted_days days (model_of m) month) sink answer
+WritesTask l (tasks.List day) name month m sink answer = WritesList month m day sink answer
 
--- The output for a message of this kind is written, and `answer` is the command's answer.
-abbrev pub WritesMessage : MessageKind → Results → Language → List (Option Day) → Parts → ℕ → List ℕ → Port
+-- The task writes its output and gives this answer, if the machine file and the key sheet have these bytes.
+abbrev pub DoesTask : Language → Task → List ℕ → List ℕ → List ℕ → Port → Result (Unit {0}) Refused → Type 0
+DoesTask l task name machine sheet sink answer =
+    IsAnswerOnSheet machine sheet (λ m month. WritesTask l task name month m sink answer) answer
+
+-- The output for a message in this direction is written, and `answer` is the command's answer.
+abbrev pub WritesMessage : Direction → Results → Language → List (Option Day) → Parts → ℕ → List ℕ → Port
     → Result (Unit {0}) Refused → Type 0
-WritesMessage kinds.Order results l month m number order sink answer =
+WritesMessage Send results l month m number order sink answer =
     WritesSendPage results l month m number order sink answer
-WritesMessage kinds.Form results l month m number form sink answer =
+WritesMessage Receive results l month m number form sink answer =
     WritesReceivePage results l month m number form sink answer
 
 -- The task writes its output and gives this answer, if the machine file, the key sheet and the message have these
 -- bytes. Words are in language `l`, unless the task asks for another language.
 abbrev pub WorksMessage : Language → MessageTask → List ℕ → List ℕ → List ℕ → Port → Result (Unit {0}) Refused → Type 0
 WorksMessage l task machine sheet message sink answer = IsAnswerOnSheet machine sheet
-    (λ m month. WritesMessage task.kind task.results (unwrap_or task.language l) month m task.day message sink answer) answer
+    (λ m month. WritesMessage task.direction task.results (unwrap_or task.language l) month m task.day message sink answer)
+    answer
 
 -- The command writes its output and gives this answer, if its files have the bytes `texts`, in the order of the files.
 -- Words are in language `l`, unless the command asks for another language.
@@ -82,7 +86,7 @@ DoesCommand l (commands.Table sheet form chosen) texts sink answer =
     WritesTables (unwrap_or chosen l) form (text_at texts 0) sink answer
 DoesCommand l (commands.Sheet table options) texts sink answer = MakesSheet options (text_at texts 0) sink answer
 DoesCommand l (commands.Look files) texts sink answer =
-    Looks (named_texts (list_of_three files) texts) sink answer
+    Looks (named_texts files.items texts) sink answer
 DoesCommand l (commands.EmptySheet model days) texts sink answer =
     WritesText refused_device (empty_month_text model days) sink answer
 
@@ -179,7 +183,7 @@ pub data HasNotes (words : List (List ℕ)) (asked : List AskedName) (errors : P
   TableNotes : (table : List ℕ) (options : OptionTexts) → IsCommandLineOf words (commands.Sheet table options)
       → AreAskedFor (table ∷ []) [] asked true → Tells errors → HasNotes words asked errors
   FormNotes : (machine sheet message : List ℕ) (task : MessageTask)
-      → IsCommandLineOf words (commands.Message machine sheet message task) → task.kind ≡ kinds.Form
+      → IsCommandLineOf words (commands.Message machine sheet message task) → task.direction ≡ Receive
       → AreAskedFor (machine ∷ sheet ∷ message ∷ []) [] asked true → Tells errors → HasNotes words asked errors
 
 -- The program's answer to a command line.
@@ -240,13 +244,13 @@ HasMonth _ = Unit {0}
 
 -- What a command for a message wrote to standard error. For a form, it may have written notes; for an order, it wrote
 -- nothing.
-abbrev pub TellsOfMessage : MessageKind → Port → Type 0
-TellsOfMessage kinds.Order errors = IsLeftAlone errors
-TellsOfMessage kinds.Form errors = Tells errors
+abbrev pub TellsOfMessage : Direction → Port → Type 0
+TellsOfMessage Send errors = IsLeftAlone errors
+TellsOfMessage Receive errors = Tells errors
 
 -- What was written to standard error before a refusal's text. The command `sheet` may have written notes on a table.
 -- The command `receive` may have written notes on a form. Any other command has written nothing.
 abbrev pub HasTold : NamedCommand → Port → Type 0
 HasTold (commands.Sheet table options) errors = Tells errors
-HasTold (commands.Message machine sheet message task) errors = TellsOfMessage task.kind errors
+HasTold (commands.Message machine sheet message task) errors = TellsOfMessage task.direction errors
 HasTold _ errors = IsLeftAlone errors

@@ -3,6 +3,8 @@
 use Rattle.std.specs.Prelude.{codes, ℕ, Bool, true, false, List, Option, Some, None, Result, Ok, Err, if◌then◌else◌}
 use Rattle.kd_tables.specs.declared.refusal.Refusal.TheVariants as refusals
 use Rattle.kd_tables.specs.Refusals.{refusal_name}
+use Rattle.kd_tables.specs.declared.ports.write_fault.WriteFault.{WriteFault}
+use Rattle.kd_tables.specs.declared.ports.write_fault.WriteFault.TheVariants.{Device, Unwritten}
 use Rattle.kd_booklet.specs.declared.fault.DayFault.{DayFault}
 use Rattle.kd_booklet.specs.declared.fault.NoPlan.{NoPlan}
 use Rattle.kd_booklet.specs.declared.fault.NoPlan.TheVariants as plans
@@ -14,10 +16,8 @@ use Rattle.kd_form.specs.declared.fault.FormFault.TheVariants as forms
 use Rattle.kd_host.specs.FileFault.{file_fault_text}
 use Rattle.kd_host.specs.declared.file_fault.FileFault.{FileFault}
 use Rattle.kd_new_file.specs.declared.why_unread.WhyUnread.{WhyUnread}
-use Rattle.kd_message.specs.declared.receiving.ReceivePageFault.{ReceivePageFault}
-use Rattle.kd_message.specs.declared.receiving.ReceivePageFault.TheVariants as receives
-use Rattle.kd_message.specs.declared.sending.SendPageFault.{SendPageFault}
-use Rattle.kd_message.specs.declared.sending.SendPageFault.TheVariants as sends
+use Rattle.kd_lost.specs.declared.form.DamagedFormFault.{DamagedFormFault}
+use Rattle.kd_lost.specs.declared.form.DamagedFormFault.TheVariants as damages
 use Rattle.kd_table.specs.declared.fault.SpreadsheetFault.{SpreadsheetFault}
 use Rattle.kd_table.specs.declared.fault.SpreadsheetFault.TheVariants as spreadsheets
 use Rattle.kd_curator.specs.Blame.{blame_on, unread_blame}
@@ -27,8 +27,6 @@ use Rattle.kd_curator.specs.declared.blame.Remark.TheVariants.{MachineFile, Name
 use Rattle.kd_curator.specs.declared.fault.PageFault.{PageFault}
 use Rattle.kd_curator.specs.declared.fault.PageFault.TheVariants as faults
 use Rattle.kd_curator.specs.declared.fault.Refused.{Refused}
-use Rattle.kd_look.specs.declared.looking.LookFault.{LookFault}
-use Rattle.kd_look.specs.declared.looking.LookFault.TheVariants as looks
 
 abbrev pub page_fault_text : PageFault → List ℕ
 page_fault_text (faults.Unread fault) = file_fault_text fault
@@ -45,6 +43,10 @@ page_fault_text faults.Device = refusal_name refusals.Device
 -- a refusal that names no day, and has no remark on a file
 abbrev pub refused_whole : PageFault → Refused
 refused_whole fault = record { day = None; blame = None; fault = fault }
+
+-- the refusal if memory ran out while a file was read that isn't a message
+abbrev pub refused_memory : Refused
+refused_memory = refused_whole (faults.File NoMemory)
 
 -- a refusal for this fault, with a remark on the file at this place among the command's files
 abbrev pub refused_in : ℕ → Remark → PageFault → Refused
@@ -105,27 +107,10 @@ abbrev pub is_device : Result (Unit {0}) Refused → Bool
 is_device (Ok done) = false
 is_device (Err refused) = is_device_fault refused.fault
 
--- the refusal of the command `send` that names this fault
-abbrev pub refused_send : SendPageFault → Refused
-refused_send (sends.Order fault) = refused_message fault
-refused_send sends.Device = refused_device
-
--- the refusal of the command `receive` that names this fault
-abbrev pub refused_receive : ReceivePageFault → Refused
-refused_receive receives.NoMemory = refused_whole (faults.File NoMemory)
-refused_receive receives.TooManyParts = refused_in 2 Named faults.TooManyParts
-refused_receive receives.Device = refused_device
-
--- the refusal of the command `sheet` that names this fault
-abbrev pub refused_spreadsheet : SpreadsheetFault → Refused
-refused_spreadsheet spreadsheets.Refused = refused_in 0 Named faults.FaultyTable
-refused_spreadsheet spreadsheets.Device = refused_device
-refused_spreadsheet spreadsheets.NoMemory = refused_whole (faults.File NoMemory)
-
--- the refusal of the command `look` that names this fault
-abbrev pub refused_look : LookFault → Refused
-refused_look looks.Device = refused_device
-refused_look looks.NoMemory = refused_whole (faults.File NoMemory)
+-- the refusal of a form that isn't read
+abbrev pub refused_form : DamagedFormFault → Refused
+refused_form damages.NoMemory = refused_memory
+refused_form damages.TooManyParts = refused_in 2 Named faults.TooManyParts
 
 -- ---- Whether something was written before a refusal.
 
@@ -133,3 +118,15 @@ refused_look looks.NoMemory = refused_whole (faults.File NoMemory)
 abbrev pub has_written : Result (Unit {0}) Refused → Bool
 has_written (Ok done) = false
 has_written (Err refused) = comes_after_writing refused.fault
+
+-- ---- What inner functions answer. No public contract cites these definitions.
+
+-- the refusal for a fault of a call that writes; the function gives the refusal if nothing was written
+abbrev pub refused_by : {F : Type 0} → (F → Refused) → WriteFault F → Refused
+refused_by refused (Unwritten fault) = refused fault
+refused_by refused Device = refused_device
+
+-- the refusal of a spreadsheet's table
+abbrev pub refused_table : SpreadsheetFault → Refused
+refused_table spreadsheets.Refused = refused_in 0 Named faults.FaultyTable
+refused_table spreadsheets.NoMemory = refused_memory

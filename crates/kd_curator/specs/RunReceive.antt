@@ -1,4 +1,4 @@
--- What `run_receive` writes, and when `run_receive` refuses.
+-- What `write_form` writes, and when `write_form` refuses.
 use Rattle.std.specs.Prelude.{◌≡◌, ◌⊎◌, ◌≤◌, false, ℕ, List, None, Option, Some, Result, Ok, Err, IsErr, length}
 use Rattle.std.specs.Io.KnownBytes.{Appends}
 use Rattle.kd_tables.specs.Ports.{Port}
@@ -13,9 +13,9 @@ use Rattle.kd_lost.specs.declared.form.DamagedFormFault.{DamagedFormFault}
 use Rattle.kd_lost.specs.declared.part.DamagedPart.{DamagedPart}
 use Rattle.kd_pictures.specs.declared.language.Language.{Language}
 use Rattle.kd_pictures.specs.declared.results.Results.{Results}
-use Rattle.kd_message.specs.ReceivePage.{page_fault, receive_notes, receive_text}
+use Rattle.kd_message.specs.ReceivePage.{receive_notes, receive_text}
 use Rattle.kd_lost.specs.ShownParts.{IsWhole}
-use Rattle.kd_curator.specs.Refusals.{has_written, refused_device, refused_message, refused_receive, refused_whole}
+use Rattle.kd_curator.specs.Refusals.{has_written, refused_device, refused_form, refused_message, refused_whole}
 use Rattle.kd_curator.specs.declared.fault.PageFault.TheVariants.{NotWhole, NoSuchDay}
 use Rattle.kd_curator.specs.declared.fault.Refused.{Refused}
 
@@ -31,20 +31,20 @@ abbrev pub IsReceivedAs : List DamagedPart → Result (Unit {0}) Refused → Typ
 IsReceivedAs parts answer =
     (IsWhole parts × (answer ≡ Ok tt)) ⊎ (¬ (IsWhole parts) × (answer ≡ Err (refused_whole NotWhole)))
 
--- The cases of `run_receive`, for the day `number`:
+-- The cases of `write_form`, for the day `number`:
 -- - `NoDay`: the sheet doesn't have the day.
 -- - `OffKey`: the machine isn't ready, or isn't on the day's key.
 -- - `NotRead`: the form has too many parts, or memory ran out.
 -- - `Page`: the page of the form's parts was written.
 -- - `Cut`: only a prefix of the page was written, since the sink failed.
-pub data WritesReceivePage (results : Results) (l : Language) (month : List (Option Day)) (m : Parts) (number : ℕ) (form : List ℕ)
-    (sink : Port) (answer : Result (Unit {0}) Refused) : Type 0 where
+pub data WritesReceivePage (results : Results) (l : Language) (month : List (Option Day)) (m : Parts) (number : ℕ)
+    (form : List ℕ) (sink : Port) (answer : Result (Unit {0}) Refused) : Type 0 where
   NoDay : day_of month number ≡ None → answer ≡ Err (refused_whole NoSuchDay)
       → WritesReceivePage results l month m number form sink answer
   OffKey : (s : Day) → day_of month number ≡ Some s → (fault : FormFault) → IsKeyFault m s fault
       → answer ≡ Err (refused_message fault) → WritesReceivePage results l month m number form sink answer
   NotRead : (s : Day) → day_of month number ≡ Some s → IsReadyOnKey m s → (fault : DamagedFormFault)
-      → IsFormFault (damaged_parts_of form) fault → answer ≡ Err (refused_receive (page_fault fault))
+      → IsFormFault (damaged_parts_of form) fault → answer ≡ Err (refused_form fault)
       → WritesReceivePage results l month m number form sink answer
   Page : (s : Day) → day_of month number ≡ Some s → (parts : List DamagedPart)
       → IsFormRead m s form parts → Appends sink.had sink.has (receive_text results l s parts)

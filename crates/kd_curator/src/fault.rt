@@ -1,16 +1,16 @@
 //! `Refused`: why a command is refused.
 ghost use Rattle.std.specs.Prelude.{◌≡◌, ◌≤◌, length};
-ghost use Rattle.kd_curator.specs.Refusals.{day_refusal, message_blame, page_fault_text, refused_in, refused_message};
+ghost use Rattle.kd_curator.specs.Refusals.{day_refusal, message_blame, page_fault_text, refused_by, refused_form};
+ghost use Rattle.kd_curator.specs.Refusals.{refused_in, refused_message, refused_table};
 
 use crate::blame::{Blame, Remark};
 use kd_booklet::{DayFault, NoPlan};
 use kd_form::FormFault;
 use kd_host::FileFault;
-use kd_look::LookFault;
-use kd_message::{ReceivePageFault, SendPageFault};
+use kd_lost::DamagedFormFault;
 use kd_sheet::SheetFault;
 use kd_table::SpreadsheetFault;
-use kd_tables::{Device, Refusal, Text};
+use kd_tables::{Device, Refusal, Text, WriteFault};
 
 /// Why a command is refused. A part of the command's output may be written nevertheless.
 #[derive(Clone, Copy, Debug, PartialEq, Eq)]
@@ -115,6 +115,46 @@ impl Refused {
             fault: PageFault::Message(fault),
         }
     }
+
+    /// The refusal of the command `send` that names this fault.
+    pub(crate) fn of_send(fault: WriteFault<FormFault>) -> Refused
+        ensures { result ≡ refused_by refused_message fault }
+    {
+        match fault {
+            WriteFault::Unwritten(fault) => Refused::of_message(fault),
+            WriteFault::Device => Refused::from(PageFault::Device),
+        }
+    }
+
+    /// The refusal of the command `receive` that names this fault.
+    pub(crate) fn of_receive(fault: WriteFault<DamagedFormFault>) -> Refused
+        ensures { result ≡ refused_by refused_form fault }
+    {
+        match fault {
+            WriteFault::Unwritten(DamagedFormFault::NoMemory) => {
+                Refused::from(SheetFault::NoMemory)
+            }
+            WriteFault::Unwritten(DamagedFormFault::TooManyParts) => {
+                Refused::of_file(PageFault::TooManyParts, 2, Remark::Named)
+            }
+            WriteFault::Device => Refused::from(PageFault::Device),
+        }
+    }
+
+    /// The refusal of the command `sheet` that names this fault.
+    pub(crate) fn of_sheet(fault: WriteFault<SpreadsheetFault>) -> Refused
+        ensures { result ≡ refused_by refused_table fault }
+    {
+        match fault {
+            WriteFault::Unwritten(SpreadsheetFault::Refused) => {
+                Refused::of_file(PageFault::FaultyTable, 0, Remark::Named)
+            }
+            WriteFault::Unwritten(SpreadsheetFault::NoMemory) => {
+                Refused::from(SheetFault::NoMemory)
+            }
+            WriteFault::Device => Refused::from(PageFault::Device),
+        }
+    }
 }
 
 /// The remark on the file that has the fault: the machine file, which is the command's first file, or the order, which
@@ -196,65 +236,5 @@ impl From<Device> for Refused {
 
     fn from(_: Device) -> Refused {
         Refused::from(PageFault::Device)
-    }
-}
-
-impl From<SpreadsheetFault> for Refused {
-    ghost use Rattle.std.specs.Prelude.{◌≡◌};
-    ghost use Rattle.kd_curator.specs.Refusals.{refused_spreadsheet};
-
-    ghost from_gives = { λ fault refused. refused ≡ refused_spreadsheet fault };
-
-    fn from(fault: SpreadsheetFault) -> Refused {
-        match fault {
-            SpreadsheetFault::Refused => Refused::of_file(PageFault::FaultyTable, 0, Remark::Named),
-            SpreadsheetFault::Device => Refused::from(PageFault::Device),
-            SpreadsheetFault::NoMemory => Refused::from(SheetFault::NoMemory),
-        }
-    }
-}
-
-impl From<LookFault> for Refused {
-    ghost use Rattle.std.specs.Prelude.{◌≡◌};
-    ghost use Rattle.kd_curator.specs.Refusals.{refused_look};
-
-    ghost from_gives = { λ fault refused. refused ≡ refused_look fault };
-
-    fn from(fault: LookFault) -> Refused {
-        match fault {
-            LookFault::Device => Refused::from(PageFault::Device),
-            LookFault::NoMemory => Refused::from(SheetFault::NoMemory),
-        }
-    }
-}
-
-impl From<SendPageFault> for Refused {
-    ghost use Rattle.std.specs.Prelude.{◌≡◌};
-    ghost use Rattle.kd_curator.specs.Refusals.{refused_send};
-
-    ghost from_gives = { λ fault refused. refused ≡ refused_send fault };
-
-    fn from(fault: SendPageFault) -> Refused {
-        match fault {
-            SendPageFault::Order(fault) => Refused::of_message(fault),
-            SendPageFault::Device => Refused::from(PageFault::Device),
-        }
-    }
-}
-
-impl From<ReceivePageFault> for Refused {
-    ghost use Rattle.std.specs.Prelude.{◌≡◌};
-    ghost use Rattle.kd_curator.specs.Refusals.{refused_receive};
-
-    ghost from_gives = { λ fault refused. refused ≡ refused_receive fault };
-
-    fn from(fault: ReceivePageFault) -> Refused {
-        match fault {
-            ReceivePageFault::NoMemory => Refused::from(SheetFault::NoMemory),
-            ReceivePageFault::TooManyParts => {
-                Refused::of_file(PageFault::TooManyParts, 2, Remark::Named)
-            }
-            ReceivePageFault::Device => Refused::from(PageFault::Device),
-        }
     }
 }

@@ -1,11 +1,10 @@
 //! The files of a command: their names, and their bytes.
-ghost use Rattle.std.specs.Prelude.{◌≡◌, ◌≤◌, ◌<◌, ◌+◌, ◌++◌, ◌∷◌, IfSome, IsErr, OnOk, is_ok, length};
+ghost use Rattle.std.specs.Prelude.{◌≡◌, ◌≤◌, ◌+◌, IfSome, IsErr, OnOk, is_ok, length};
 ghost use Rattle.arrayvec.specs.ArrayVec.{array_vec_len};
 ghost use Rattle.kd_tables.specs.Answers.{AgreesOrNoMemory};
 ghost use Rattle.kd_host.specs.Files.{AreAskedFor};
-ghost use Rattle.kd_curator_command.specs.CommandLine.{unborrowed_command};
-ghost use Rattle.kd_curator_command.specs.UpToThree.{list_of_option};
-ghost use Rattle.kd_curator.specs.Files.{all_read, behind, contents_of, names_of, text_at, unborrowed_names};
+ghost use Rattle.kd_curator_command.specs.CommandLine.{unborrowed_command, unborrowed_names};
+ghost use Rattle.kd_curator.specs.Files.{all_read, behind, contents_of, names_of, text_at};
 
 use arrayvec::ArrayVec;
 use kd_curator_command::{Command, NamedCommand};
@@ -62,45 +61,29 @@ pub(crate) fn names_of<'n>(command: &NamedCommand<'n>) -> Names<'n>
     ensures { unborrowed_names result.items ≡ names_of (unborrowed_command command.now) }
 {
     match command {
-        Command::OnMachine { machine, sheet, .. } => listed(*machine, Some(*sheet), None),
+        Command::OnMachine { machine, sheet, .. } => listed(&[*machine, *sheet]),
         Command::Message {
             machine,
             sheet,
             message,
             ..
-        } => listed(*machine, Some(*sheet), Some(*message)),
-        Command::TypingPage { machine, .. } => listed(*machine, None, None),
-        Command::Table { sheet, .. } => listed(*sheet, None, None),
-        Command::Sheet { table, .. } => listed(*table, None, None),
-        Command::Look { files, .. } => listed(files.first, files.second, files.third),
+        } => listed(&[*machine, *sheet, *message]),
+        Command::TypingPage { machine, .. } => listed(&[*machine]),
+        Command::Table { sheet, .. } => listed(&[*sheet]),
+        Command::Sheet { table, .. } => listed(&[*table]),
+        Command::Look { files } => listed(files.as_slice()),
         Command::EmptySheet { .. } => Names::new(),
     }
 }
 
-/// One, two or three names, as a list.
-pub(crate) fn listed<'n>(
-    first: &'n str,
-    second: Option<&'n str>,
-    third: Option<&'n str>,
-) -> Names<'n>
-    ensures { result.items ≡ first.entry ∷ (list_of_option second.entry ++ list_of_option third.entry) }
+/// A copy of at most three names.
+fn listed<'n>(names: &[&'n str]) -> Names<'n>
+    requires { length names.now ≤ 3 }
+    ensures { result.items ≡ names.now }
 {
-    let mut names = Names::new();
-    names.push(first);
-    push_other(&mut names, second);
-    push_other(&mut names, third);
-    names
-}
-
-/// Appends the name `name`, if there is one.
-fn push_other<'n>(names: &mut Names<'n>, name: Option<&'n str>)
-    requires { array_vec_len names.old < 3 }
-    ensures items { names.new.items ≡ names.old.items ++ list_of_option name.entry }
-    ensures len { array_vec_len names.new ≤ array_vec_len names.old + 1 }
-{
-    if let Some(name) = name {
-        names.push(name);
-    }
+    let mut listed = Names::new();
+    listed.try_extend_from_slice(names).unwrap();
+    listed
 }
 
 /// Reads the files with these names, one after another, and appends their bytes to `contents`.

@@ -24,7 +24,7 @@ mod tables;
 pub use blame::{Blame, Remark};
 pub use fault::{PageFault, Refused};
 pub use kd_curator_command::{
-    Command, CommandLine, Days, MessageKind, MessageTask, NamedCommand, NoCommand, Task, UpToThree,
+    Command, CommandLine, Days, Direction, MessageTask, NamedCommand, NoCommand, Task,
     days_of_word, language_of, language_of_code, parse_words,
 };
 pub use kd_page::Language;

@@ -1,15 +1,17 @@
 //! The command `look`: describes files in words, or names their faults.
-ghost use Rattle.std.specs.Prelude.{◌≡◌, ◌++◌, ◌||◌, false, map, Err, IsErr, OnOk};
+ghost use Rattle.std.specs.Prelude.{◌≡◌, ◌++◌, ◌||◌, false, map, IsErr, OnOk};
 ghost use Rattle.kd_tables.specs.Ports.{port};
-ghost use Rattle.kd_look.specs.Look.{IsLookAnswer, is_device as is_look_device, named_text};
-ghost use Rattle.kd_curator.specs.Files.{unborrowed_names};
+ghost use Rattle.kd_tables.specs.WriteFault.{is_device as is_write_device};
+ghost use Rattle.kd_look.specs.Look.{IsLookAnswer, named_text};
+ghost use Rattle.kd_curator_command.specs.CommandLine.{unborrowed_names};
 ghost use Rattle.kd_curator.specs.Looks.{Looks, look_answer, named_texts};
 ghost use Rattle.kd_curator.specs.Refusals.{has_written, is_device};
 
 use crate::fault::{PageFault, Refused};
 use crate::files::FileBytes;
-use kd_look::{LookFault, NamedFile, Outcome, look_at};
-use kd_tables::Sink;
+use kd_look::{NamedFile, Outcome, look_at};
+use kd_sheet::SheetFault;
+use kd_tables::{Sink, WriteFault};
 use std::alloc::{AllocError, Global};
 
 /// Describes the files with these names and contents in words, or names their faults.
@@ -33,14 +35,16 @@ fn look_at_all<W: Sink>(
     names: &[&str],
     contents: &[FileBytes],
     sink: &mut W,
-) -> Result<Outcome, LookFault>
+) -> Result<Outcome, WriteFault<AllocError>>
     ensures looks { IsLookAnswer (named_texts (unborrowed_names names.now) contents.now)
         (port W.taken W.has_failed sink.old sink.new) result }
-    ensures untouched { result ≡ Err LookFault.NoMemory → sink.new ≡ sink.old }
-    ensures failed { W.has_failed sink.new ≡ (W.has_failed sink.old || is_look_device result) }
+    ensures untouched { IsErr result → is_write_device result ≡ false → sink.new ≡ sink.old }
+    ensures failed { W.has_failed sink.new ≡ (W.has_failed sink.old || is_write_device result) }
 {
     let mut files = Vec::new(alloc);
-    push_files(&mut files, names, contents)?;
+    if let Err(fault) = push_files(&mut files, names, contents) {
+        return Err(WriteFault::Unwritten(fault));
+    }
     look_at(alloc, files.as_slice(), sink)
 }
 
@@ -65,12 +69,13 @@ fn push_files<'f>(
 }
 
 /// The answer of the command `look`, if `look_at` returned `told`.
-fn answer_of(told: Result<Outcome, LookFault>) -> Result<(), Refused>
+fn answer_of(told: Result<Outcome, WriteFault<AllocError>>) -> Result<(), Refused>
     ensures { result ≡ look_answer told }
 {
     match told {
         Ok(Outcome::Faultless) => Ok(()),
         Ok(Outcome::Faulty(_)) => Err(Refused::from(PageFault::FaultyFile)),
-        Err(fault) => Err(Refused::from(fault)),
+        Err(WriteFault::Unwritten(_)) => Err(Refused::from(SheetFault::NoMemory)),
+        Err(WriteFault::Device) => Err(Refused::from(PageFault::Device)),
     }
 }

@@ -3,8 +3,8 @@ ghost use Rattle.std.specs.Prelude.{◌≡◌, ◌⊎◌, false, IfErr, Ok};
 ghost use Rattle.kd_tables.specs.Answers.{AgreesOrNoMemory};
 ghost use Rattle.kd_sheet.specs.declared.fault.SheetFault.{SheetFault};
 ghost use Rattle.kd_curator.specs.MachineAndSheet.{LacksMemory, file_remark, is_other_file, machine_and_month};
-ghost use Rattle.kd_curator.specs.MachineAndSheet.{machine_in, month_in, refused_file, refused_memory};
-ghost use Rattle.kd_curator.specs.Refusals.{is_device_fault};
+ghost use Rattle.kd_curator.specs.MachineAndSheet.{machine_in, month_in, refused_file};
+ghost use Rattle.kd_curator.specs.Refusals.{is_device_fault, refused_memory};
 ghost use Rattle.toml.specs.View.{table_view};
 ghost use Rattle.kd_curator.specs.MachineAndSheet.{is_other_document};
 

@@ -20,24 +20,25 @@ ghost use Rattle.kd_new_file.specs.declared.why_unread.WhyUnread.{WhyUnread};
 use crate::blame::Remark;
 use crate::buffered_sink::BufferedSink;
 use crate::fault::{PageFault, Refused};
-use crate::files::{Contents, FileBytes, listed, name_at, names_of, read_contents, text_at};
+use crate::files::{Contents, FileBytes, name_at, names_of, read_contents, text_at};
 use crate::looks::look_at_files;
+use crate::machine_and_sheet::read_both;
 use crate::output_file::end_unwritten;
-use crate::run_list::run_list;
-use crate::run_page::run_page;
-use crate::run_receive::run_receive;
-use crate::run_send::run_send;
+use crate::run_list::write_list;
+use crate::run_page::{wanted_days, write_days};
+use crate::run_receive::write_form;
+use crate::run_send::write_order;
 use crate::run_type::run_type;
 use crate::sheets::{make_sheet, write_empty_sheet};
 use crate::stop::{Stop, end_program};
 use crate::tables::run_table;
 use kd_curator_command::{
-    Command, CommandLine, MessageKind, MessageTask, NamedCommand, NoCommand, Task, parse_words,
+    Command, CommandLine, MessageTask, NamedCommand, NoCommand, Task, parse_words,
 };
 use kd_host::{FileFault, Files};
 use kd_new_file::{NewFileFault, NewFiles, begin, publish};
 use kd_page::Language;
-use kd_tables::{Failed, Sink, put_all};
+use kd_tables::{Direction, Failed, Sink, put_all};
 use std::alloc::Global;
 use std::convert::AsStr;
 
@@ -302,10 +303,7 @@ fn carry_out<W: Sink, E: Sink>(
         Command::Sheet { options, .. } => {
             make_sheet(alloc, text_at(contents, 0), &options, sink, errors)
         }
-        Command::Look { files, .. } => {
-            let names = listed(files.first, files.second, files.third);
-            look_at_files(alloc, names.as_slice(), contents, sink)
-        }
+        Command::Look { files } => look_at_files(alloc, files.as_slice(), contents, sink),
         Command::EmptySheet { model, days } => write_empty_sheet(model, days, sink),
     }
 }
@@ -326,15 +324,17 @@ fn do_task<W: Sink>(
     ensures untouched { IsErr result → is_device result ≡ false → sink.new ≡ sink.old }
     ensures failed { W.has_failed sink.new ≡ (W.has_failed sink.old || is_device result) }
 {
+    let (machine, sheet) = read_both(alloc, machine, sheet)?;
     match task {
         Task::Page {
             days,
             language: chosen,
         } => {
             let language = chosen.unwrap_or(language);
-            run_page(alloc, language, name, machine, sheet, days, sink)
+            let days = wanted_days(days, machine.model(), &sheet);
+            write_days(language, name, &machine, &sheet, &days, sink)
         }
-        Task::List(day) => run_list(alloc, machine, sheet, day, sink),
+        Task::List(day) => write_list(&machine, &sheet, day, sink),
     }
 }
 
@@ -353,16 +353,17 @@ fn work_message<W: Sink, E: Sink>(
         (port W.taken W.has_failed sink.old sink.new) result }
     ensures untouched { IsErr result → has_written result ≡ false → sink.new ≡ sink.old }
     ensures failed { W.has_failed sink.new ≡ (W.has_failed sink.old || is_device result) }
-    ensures told { TellsOfMessage task.kind (port E.taken E.has_failed errors.old errors.new) }
+    ensures told { TellsOfMessage task.direction (port E.taken E.has_failed errors.old errors.new) }
 {
+    let (machine, sheet) = read_both(alloc, machine, sheet)?;
     let language = task.language.unwrap_or(language);
     let (day, results) = (task.day, task.results);
-    match task.kind {
-        MessageKind::Order => {
-            run_send(alloc, language, results, machine, sheet, day, message, sink)
-        }
-        MessageKind::Form => run_receive(
-            alloc, language, results, machine, sheet, day, message, sink, errors,
+    match task.direction {
+        Direction::Send => write_order(
+            alloc, language, results, &machine, &sheet, day, message, sink,
+        ),
+        Direction::Receive => write_form(
+            alloc, language, results, &machine, &sheet, day, message, sink, errors,
         ),
     }
 }

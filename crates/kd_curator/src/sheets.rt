@@ -34,7 +34,7 @@ pub(crate) fn make_sheet<W: Sink, E: Sink>(
     };
     match run_sheet(alloc, table, &options, sink, errors) {
         Ok(()) => Ok(()),
-        Err(fault) => Err(Refused::from(fault)),
+        Err(fault) => Err(Refused::of_sheet(fault)),
     }
 }
 

@@ -7,19 +7,19 @@ use Rattle.kd_curator_command.proofs.Prelude.{same_Some}
 use Rattle.kd_curator_command.proofs.Prelude.{inl, inr, IsDayNumber, NamedCommand, IsCommandLineOf, IsNoCommandLine, arith}
 use Rattle.kd_curator_command.proofs.Prelude.{AsksForHelp, HasNoCommand, IsToldAs, is_help, Error, ErrorKind, OutOfMemory}
 use Rattle.kd_curator_command.proofs.Prelude.{AreDays, HasDay, HasDays, HasLanguage, IsMeant, IsTaskOf, codes}
-use Rattle.std.specs.Prelude.{◌⊎◌, nat_eq}
+use Rattle.std.specs.Prelude.{◌⊎◌, ◌++◌, IsSome, nat_eq, option_to_list}
+use Rattle.std.specs.List.{cons_option}
 use Rattle.std.proofs.Common.{get_or}
 use Rattle.kd_curator_command.specs.declared.command.Task.{Task}
 use Rattle.kd_curator_command.specs.declared.command.Task.TheVariants as tasks
 use Rattle.kd_curator_command.specs.declared.command.Command.TheVariants as commands
-use Rattle.kd_curator_command.specs.CommandLine.{HasForm, IsCommandOf, IsFormNamed, IsTaskWith, task_name}
+use Rattle.kd_curator_command.specs.CommandLine.{IsCommandOf, IsTaskWith, task_name}
 use Rattle.kd_curator_command.specs.CommandLine.{IsEmptySheetOf, IsLookOf, IsMessageOf, IsSheetOf, IsTableOf, IsTypingPageOf}
-use Rattle.kd_curator_command.specs.CommandLine.{message_name}
+use Rattle.kd_tables.specs.Direction.{direction_name}
+use Rattle.kd_tables.specs.declared.direction.Direction.{Direction}
+use Rattle.kd_tables.specs.declared.direction.Direction.TheVariants as directions
 use Rattle.kd_curator_command.specs.Locale.{language_code}
-use Rattle.kd_curator_command.specs.declared.command.MessageKind.{MessageKind}
-use Rattle.kd_curator_command.specs.declared.command.MessageKind.TheVariants as kinds
 use Rattle.kd_curator_command.specs.declared.command.MessageTask.{MessageTask}
-use Rattle.kd_curator_command.specs.declared.up_to_three.UpToThree.{UpToThree}
 use Rattle.kd_pictures.specs.declared.language.Language.{Language}
 use Rattle.kd_table.specs.Options.{OptionTexts}
 use Rattle.kd_curator_command.specs.CommandLine.{IsMonthNamed, are_blank, option_text, option_texts}
@@ -152,7 +152,7 @@ apart place one other differ is =
 
 abbrev pub name_of : NamedCommand → List ℕ
 name_of (commands.OnMachine machine sheet task) = task_name task
-name_of (commands.Message machine sheet message task) = message_name task.kind
+name_of (commands.Message machine sheet message task) = direction_name task.direction
 name_of (commands.TypingPage machine language) = codes "type"
 name_of (commands.Table sheet form language) = codes "table"
 name_of (commands.Sheet table options) = codes "sheet"
@@ -170,22 +170,22 @@ name_said said (commands.Look files) of = of.name
 name_said said (commands.EmptySheet model days) of = of.name
 
 -- the names of commands differ in their third letters
-pub message_apart : (kind : MessageKind) (name : List ℕ)
+pub message_apart : (direction : Direction) (name : List ℕ)
     → nat_eq (get_or (codes "send") 2 0) (get_or name 2 0) ≡ false
-    → nat_eq (get_or (codes "receive") 2 0) (get_or name 2 0) ≡ false → message_name kind ≡ name → ⊥
-message_apart kinds.Order name send receive is = apart 2 (codes "send") name send is
-message_apart kinds.Form name send receive is = apart 2 (codes "receive") name receive is
+    → nat_eq (get_or (codes "receive") 2 0) (get_or name 2 0) ≡ false → direction_name direction ≡ name → ⊥
+message_apart directions.Send name send receive is = apart 2 (codes "send") name send is
+message_apart directions.Receive name send receive is = apart 2 (codes "receive") name receive is
 
-pub same_kind : (one other : MessageKind) → message_name one ≡ message_name other → one ≡ other
-same_kind kinds.Order kinds.Order is = refl
-same_kind kinds.Form kinds.Form is = refl
-same_kind kinds.Order kinds.Form is = absurd (apart 2 (codes "send") (codes "receive") refl is)
-same_kind kinds.Form kinds.Order is = absurd (apart 2 (codes "receive") (codes "send") refl is)
+pub same_direction : (one other : Direction) → direction_name one ≡ direction_name other → one ≡ other
+same_direction directions.Send directions.Send is = refl
+same_direction directions.Receive directions.Receive is = refl
+same_direction directions.Send directions.Receive is = absurd (apart 2 (codes "send") (codes "receive") refl is)
+same_direction directions.Receive directions.Send is = absurd (apart 2 (codes "receive") (codes "send") refl is)
 
-no_message : (name : List ℕ) (kind : MessageKind) → name ≢ codes "send" → name ≢ codes "receive"
-    → name ≡ message_name kind → ⊥
-no_message name kinds.Order send receive is = send is
-no_message name kinds.Form send receive is = receive is
+no_message : (name : List ℕ) (direction : Direction) → name ≢ codes "send" → name ≢ codes "receive"
+    → name ≡ direction_name direction → ⊥
+no_message name directions.Send send receive is = send is
+no_message name directions.Receive send receive is = receive is
 
 module _ (rows : List Row) where
   other_name : (name : List ℕ) (command : NamedCommand)
@@ -200,17 +200,18 @@ module _ (rows : List Row) where
   other_task name machine sheet (tasks.List day) page list of = apart 2 name _ list of.task.name
 
   -- what the command of each name is
-  pub only_message : (kind : MessageKind) (command : NamedCommand) → IsCommandOf (message_name kind, rows) command
+  pub only_message : (direction : Direction) (command : NamedCommand)
+      → IsCommandOf (direction_name direction, rows) command
       → (machine sheet message : List ℕ) × (task : MessageTask)
-      × IsMessageOf (message_name kind, rows) machine sheet message task × (task.kind ≡ kind)
-  only_message kind (commands.Message machine sheet message task) of =
-      (machine, sheet, message, task, of, same_kind task.kind kind (sym of.name))
-  only_message kinds.Order (commands.OnMachine machine sheet task) of =
+      × IsMessageOf (direction_name direction, rows) machine sheet message task × (task.direction ≡ direction)
+  only_message direction (commands.Message machine sheet message task) of =
+      (machine, sheet, message, task, of, same_direction task.direction direction (sym of.name))
+  only_message directions.Send (commands.OnMachine machine sheet task) of =
       absurd (other_task (codes "send") machine sheet task refl refl of)
-  only_message kinds.Form (commands.OnMachine machine sheet task) of =
+  only_message directions.Receive (commands.OnMachine machine sheet task) of =
       absurd (other_task (codes "receive") machine sheet task refl refl of)
-  only_message kinds.Order other of = absurd (other_name (codes "send") other refl of)
-  only_message kinds.Form other of = absurd (other_name (codes "receive") other refl of)
+  only_message directions.Send other of = absurd (other_name (codes "send") other refl of)
+  only_message directions.Receive other of = absurd (other_name (codes "receive") other refl of)
 
   pub only_table : (command : NamedCommand) → IsCommandOf (codes "table", rows) command
       → (sheet : List ℕ) × (form : TableForm) × (language : Option Language)
@@ -219,7 +220,7 @@ module _ (rows : List Row) where
   only_table (commands.OnMachine machine sheet task) of =
       absurd (other_task (codes "table") machine sheet task refl refl of)
   only_table (commands.Message machine sheet message task) of =
-      absurd (message_apart task.kind (codes "table") refl refl (sym of.name))
+      absurd (message_apart task.direction (codes "table") refl refl (sym of.name))
   only_table other of = absurd (other_name (codes "table") other refl of)
 
   pub only_typing_page : (command : NamedCommand) → IsCommandOf (codes "type", rows) command
@@ -228,16 +229,16 @@ module _ (rows : List Row) where
   only_typing_page (commands.OnMachine machine sheet task) of =
       absurd (other_task (codes "type") machine sheet task refl refl of)
   only_typing_page (commands.Message machine sheet message task) of =
-      absurd (message_apart task.kind (codes "type") refl refl (sym of.name))
+      absurd (message_apart task.direction (codes "type") refl refl (sym of.name))
   only_typing_page other of = absurd (other_name (codes "type") other refl of)
 
   pub only_look : (command : NamedCommand) → IsCommandOf (codes "look", rows) command
-      → (files : UpToThree (List ℕ)) × IsLookOf (codes "look", rows) files
-  only_look (commands.Look files) of = (files, of)
+      → (files : List (List ℕ)) × IsLookOf (codes "look", rows) files
+  only_look (commands.Look files) of = (files.items, of)
   only_look (commands.OnMachine machine sheet task) of =
       absurd (other_task (codes "look") machine sheet task refl refl of)
   only_look (commands.Message machine sheet message task) of =
-      absurd (message_apart task.kind (codes "look") refl refl (sym of.name))
+      absurd (message_apart task.direction (codes "look") refl refl (sym of.name))
   only_look other of = absurd (other_name (codes "look") other refl of)
 
   -- the words mean a sheet of a table, or a sheet to fill in
@@ -251,7 +252,7 @@ module _ (rows : List Row) where
   only_sheet (commands.OnMachine machine sheet task) of =
       absurd (other_task (codes "sheet") machine sheet task refl refl of)
   only_sheet (commands.Message machine sheet message task) of =
-      absurd (message_apart task.kind (codes "sheet") refl refl (sym of.name))
+      absurd (message_apart task.direction (codes "sheet") refl refl (sym of.name))
   only_sheet other of = absurd (other_name (codes "sheet") other refl of)
 
   without_table : first_of (codes "TABLE") rows ≡ None → SheetSaid → ⊥
@@ -295,7 +296,7 @@ pub no_task_with : (said : List ℕ × List Row) → said.0 ≢ codes "table" �
 no_task_with said table sheet look send receive typing none (commands.OnMachine machine its_sheet task) of =
     none machine its_sheet task of
 no_task_with said table sheet look send receive typing none (commands.Message machine its_sheet message task) of =
-    no_message said.0 task.kind send receive of.name
+    no_message said.0 task.direction send receive of.name
 no_task_with said table sheet look send receive typing none (commands.TypingPage machine language) of = typing of.name
 no_task_with said table sheet look send receive typing none (commands.Table its_sheet form language) of = table of.name
 no_task_with said table sheet look send receive typing none (commands.Sheet its_table options) of = sheet of.name
@@ -337,17 +338,31 @@ read_text found id None otherwise reads blank =
 read_text found id (Some read) otherwise reads blank =
     sym (ap (λ o. unwrap_or o []) (sym (first_value-rows found id) ∙ sym reads))
 
--- the value of the option `--csv` says which form is asked for
-pub form_said : (rows : List Row) (word : List ℕ) (form : TableForm) → first_of (codes "csv") rows ≡ Some word
-    → IsFormNamed word form → HasForm rows form
-form_said rows word forms.Csv is named = is ∙ ap Some named
-form_said rows word forms.Page is other = λ csv. other (same_Some _ _ (sym is ∙ csv))
-
-pub no_form_said : (rows : List Row) → first_of (codes "csv") rows ≡ None → HasForm rows forms.Page
-no_form_said rows none = λ csv. let wrong : None ≡ Some (codes "true") = sym none ∙ csv in cc
-
 -- the value of an argument that a command line may lack, as clap's getter reads it
 pub read_maybe : (found : Found) (id : List ℕ) (word : Option (Bor (List ℕ)))
     → option_map (λ s. s.now) word ≡ first_value found id
     → first_of id (rows_of found) ≡ option_map (λ s. s.now) word
 read_maybe found id word reads = sym (first_value-rows found id) ∙ sym reads
+
+joined : (first : List ℕ) (second third : Option (List ℕ))
+    → (first ∷ [] ++ option_to_list second) ++ option_to_list third
+    ≡ first ∷ cons_option second (cons_option third [])
+joined first None None = refl
+joined first None (Some third) = refl
+joined first (Some second) None = refl
+joined first (Some second) (Some third) = refl
+
+-- the files of the command `look`, read one after another
+pub files_read : (rows : List Row) (first : List ℕ) (one two three : List (List ℕ))
+    → first_of (codes "FILE") rows ≡ Some first → one ≡ first ∷ []
+    → two ≡ one ++ option_to_list (first_of (codes "FILE2") rows)
+    → three ≡ two ++ option_to_list (first_of (codes "FILE3") rows) → IsLookOf (codes "look", rows) three
+files_read rows first one two three is begun more last =
+    let second = first_of (codes "FILE2") rows in
+    let third = first_of (codes "FILE3") rows in
+    record {
+      name = refl;
+      first = subst IsSome (sym is) refl;
+      files = last ∙ ap (λ l. l ++ option_to_list third) (more ∙ ap (λ l. l ++ option_to_list second) begun)
+          ∙ joined first second third ∙ ap (λ f. cons_option f (cons_option second (cons_option third []))) (sym is);
+    }

@@ -10,18 +10,19 @@ use Rattle.kd_curator_command.specs.CommandLine.{CommandLinesMeanOneCommand, cur
 use Rattle.kd_curator_command.specs.Days.{days_named}
 use Rattle.kd_curator_command.specs.declared.command.Task.{Task}
 use Rattle.kd_curator_command.specs.declared.command.Task.TheVariants as tasks
-use Rattle.kd_curator_command.proofs.CommandLines.{apart, message_apart, missing, name_of, name_said, same_kind}
+use Rattle.kd_curator_command.proofs.CommandLines.{apart, message_apart, missing, name_of, name_said, same_direction}
 use Rattle.clap.specs.Words.{first_of}
-use Rattle.kd_curator_command.specs.CommandLine.{message_argument}
-use Rattle.kd_curator_command.specs.declared.command.MessageKind.{MessageKind}
+use Rattle.kd_tables.specs.Direction.{direction_word}
+use Rattle.kd_tables.specs.declared.direction.Direction.{Direction}
 use Rattle.kd_curator_command.specs.declared.command.MessageTask.{MessageTask}
 use Rattle.kd_curator_command.specs.Locale.{language_code}
 use Rattle.kd_pictures.specs.declared.language.Language.{Language}
 use Rattle.kd_pictures.specs.declared.language.Language.TheVariants.{English, German}
 use Rattle.kd_curator_command.specs.declared.command.Command.TheVariants as commands
-use Rattle.kd_curator_command.specs.CommandLine.{HasForm, IsEmptySheetOf, IsSheetOf}
+use Rattle.kd_pictures.specs.declared.results.Results.{Results}
+use Rattle.kd_pictures.specs.declared.results.Results.TheVariants.{LeftOpen, Shown}
+use Rattle.kd_curator_command.specs.CommandLine.{HasForm, HasResults, IsEmptySheetOf, IsSheetOf}
 use Rattle.kd_table.specs.Options.{OptionTexts}
-use Rattle.kd_curator_command.specs.declared.up_to_three.UpToThree.{UpToThree}
 use Rattle.kd_tables.specs.Tables.{model_text}
 use Rattle.kd_sheet.proofs.ReadBack.Described.KeyValues.{model_found}
 use Rattle.kd_sheet.specs.Names.{find_by_text}
@@ -73,11 +74,16 @@ same_parts : (machine other sheet more : List ℕ) (task next : Task) → machin
     → ◌≡◌ {A = NamedCommand} (commands.OnMachine machine sheet task) (commands.OnMachine other more next)
 same_parts machine other sheet more task next is are same = cc
 
-same_work : (kind other : MessageKind) (day next : ℕ) (language also : Option Language) → kind ≡ other → day ≡ next
-    → language ≡ also
-    → ◌≡◌ {A = MessageTask} (record { kind = kind; day = day; language = language })
-    (record { kind = other; day = next; language = also })
-same_work kind other day next language also is are too = cc
+same_results : (rows : List Row) (one other : Results) → HasResults rows one → HasResults rows other → one ≡ other
+same_results rows Shown Shown first second = refl
+same_results rows Shown LeftOpen first second = absurd (first second)
+same_results rows LeftOpen Shown first second = absurd (second first)
+same_results rows LeftOpen LeftOpen first second = refl
+
+same_work : (task next : MessageTask) → task.direction ≡ next.direction → task.day ≡ next.day
+    → task.results ≡ next.results → task.language ≡ next.language → task ≡ next
+same_work task next is are open too =
+    λ i. record { direction = is i; day = are i; results = open i; language = too i }
 
 same_message : (machine other sheet more message last : List ℕ) (task next : MessageTask) → machine ≡ other
     → sheet ≡ more → message ≡ last → task ≡ next
@@ -115,12 +121,6 @@ same_empty model other days more is same =
     subst (λ d. ◌≡◌ {A = NamedCommand} (commands.EmptySheet model days) (commands.EmptySheet other d)) same
     (ap (λ m. commands.EmptySheet m days) is)
 
-same_three : (first other : List ℕ) (second another : Option (List ℕ)) (third last : Option (List ℕ)) → first ≡ other
-    → second ≡ another → third ≡ last
-    → ◌≡◌ {A = UpToThree (List ℕ)} (record { first = first; second = second; third = third })
-    (record { first = other; second = another; third = last })
-same_three first other second another third last is are more = cc
-
 -- a sheet to fill in has a model's name where a sheet of a table has none
 filled_or_empty : (said : List ℕ × List Row) (table : List ℕ) (options : OptionTexts) (model : Model) (days : ℕ)
     → IsSheetOf said table options → IsEmptySheetOf said model days → ⊥
@@ -139,12 +139,13 @@ same_command said (commands.OnMachine machine sheet task) (commands.OnMachine ot
     same_parts machine other sheet more task next (same_Some _ _ (sym first.machine ∙ second.machine))
     (same_Some _ _ (sym first.sheet ∙ second.sheet)) (same_task said.1 said.0 task next first.task second.task)
 same_command said (commands.Message machine sheet message task) (commands.Message other more last next) first second =
-    let kind = same_kind task.kind next.kind (sym first.name ∙ second.name) in
-    let named = subst (λ k. first_of (message_argument k) said.1 ≡ Some message) kind first.message in
+    let same = same_direction task.direction next.direction (sym first.name ∙ second.name) in
+    let named = subst (λ d. first_of (direction_word d) said.1 ≡ Some message) same first.message in
     same_message machine other sheet more message last task next
     (same_Some _ _ (sym first.machine ∙ second.machine)) (same_Some _ _ (sym first.sheet ∙ second.sheet))
     (same_Some _ _ (sym named ∙ second.message))
-    (same_work task.kind next.kind task.day next.day task.language next.language kind (same_day said.1 task.day next.day first.day second.day)
+    (same_work task next same (same_day said.1 task.day next.day first.day second.day)
+    (same_results said.1 task.results next.results first.results second.results)
     (same_language said.1 task.language next.language first.language second.language))
 same_command said (commands.TypingPage machine language) (commands.TypingPage other also) first second =
     same_typing_page machine other language also (same_Some _ _ (sym first.machine ∙ second.machine))
@@ -168,16 +169,15 @@ same_command said (commands.EmptySheet model days) (commands.EmptySheet other mo
     (decimal_injective days more (omega (arith, first.month.within.last)) (omega (arith, second.month.within.last))
     (first.month.numbered ∙ numbers ∙ sym second.month.numbered))
 same_command said (commands.Look files) (commands.Look others) first second =
-    ap commands.Look (same_three _ _ _ _ _ _ (same_Some _ _ (sym first.first ∙ second.first))
-    (sym first.second ∙ second.second) (sym first.third ∙ second.third))
+    ap (λ items. commands.Look (record { items = items })) (first.files ∙ sym second.files)
 same_command said (commands.OnMachine machine sheet (tasks.Page days language)) (commands.Message a b c d) first second =
-    absurd (message_apart d.kind (codes "page") refl refl (sym second.name ∙ first.task.name))
+    absurd (message_apart d.direction (codes "page") refl refl (sym second.name ∙ first.task.name))
 same_command said (commands.OnMachine machine sheet (tasks.List day)) (commands.Message a b c d) first second =
-    absurd (message_apart d.kind (codes "list") refl refl (sym second.name ∙ first.task.name))
+    absurd (message_apart d.direction (codes "list") refl refl (sym second.name ∙ first.task.name))
 same_command said (commands.Message a b c d) (commands.OnMachine machine sheet (tasks.Page days language)) first second =
-    absurd (message_apart d.kind (codes "page") refl refl (sym first.name ∙ second.task.name))
+    absurd (message_apart d.direction (codes "page") refl refl (sym first.name ∙ second.task.name))
 same_command said (commands.Message a b c d) (commands.OnMachine machine sheet (tasks.List day)) first second =
-    absurd (message_apart d.kind (codes "list") refl refl (sym first.name ∙ second.task.name))
+    absurd (message_apart d.direction (codes "list") refl refl (sym first.name ∙ second.task.name))
 same_command said (commands.OnMachine machine sheet (tasks.Page days language)) other first second =
     absurd (unlike said (commands.OnMachine machine sheet (tasks.Page days language)) other first second refl)
 same_command said (commands.OnMachine machine sheet (tasks.List day)) other first second =
@@ -187,9 +187,9 @@ same_command said one (commands.OnMachine machine sheet (tasks.Page days languag
 same_command said one (commands.OnMachine machine sheet (tasks.List day)) first second =
     absurd (unlike said one (commands.OnMachine machine sheet (tasks.List day)) first second refl)
 same_command said (commands.Message machine sheet message task) other first second =
-    absurd (message_apart task.kind (name_of other) refl refl (sym first.name ∙ name_said said other second))
+    absurd (message_apart task.direction (name_of other) refl refl (sym first.name ∙ name_said said other second))
 same_command said other (commands.Message machine sheet message task) first second =
-    absurd (message_apart task.kind (name_of other) refl refl (sym second.name ∙ name_said said other first))
+    absurd (message_apart task.direction (name_of other) refl refl (sym second.name ∙ name_said said other first))
 same_command said one other first second = absurd (unlike said one other first second refl)
 
 same_meant : (said : Option (List ℕ × List Row)) (one other : NamedCommand) → IsMeant said one → IsMeant said other

@@ -3,7 +3,8 @@
 -- Code: `grammar` builds the grammar by calls of the library `clap`.
 -- Test: tests/cases/curator-words.toml
 use Rattle.std.specs.Prelude.{codes, decimal, ◌≡◌, ◌≢◌, ℕ, Bool, true, false, List, [], ◌∷◌, ◌++◌, Option, Some, None}
-use Rattle.std.specs.Prelude.{◌&&◌, ◌==◌, IsSomeAnd, IsTrue, fold, length, map, option_and_then, option_map, unwrap_or}
+use Rattle.std.specs.Prelude.{◌&&◌, ◌==◌, IsSome, IsSomeAnd, IsTrue, filter_map, fold, length, map, option_and_then}
+use Rattle.std.specs.Prelude.{option_map, unwrap_or}
 use Rattle.std.specs.Borrow.{Bor}
 use Rattle.clap.specs.declared.builder.command.Command.{Command as Grammar, out-Command}
 use Rattle.clap.specs.declared.error.kind.ErrorKind.{ErrorKind}
@@ -17,17 +18,15 @@ use Rattle.kd_pictures.specs.declared.language.Language.{Language}
 use Rattle.kd_pictures.specs.declared.results.Results.{Results}
 use Rattle.kd_pictures.specs.declared.results.Results.TheVariants.{LeftOpen, Shown}
 use Rattle.clap.specs.declared.builder.action.ArgAction.TheVariants.{SetTrue}
+use Rattle.kd_tables.specs.Direction.{direction_name, direction_word}
 use Rattle.kd_tables.specs.Tables.{model_text}
+use Rattle.kd_tables.specs.declared.direction.Direction.{Direction}
 use Rattle.kd_tables.specs.declared.model.Model.{Model}
 use Rattle.kd_table.specs.Options.{OptionTexts, texts_of}
-use Rattle.kd_curator_command.specs.UpToThree.{unborrowed_three}
-use Rattle.kd_curator_command.specs.declared.up_to_three.UpToThree.{UpToThree}
 use Rattle.kd_key_table.specs.declared.table_file.TableForm.{TableForm}
 use Rattle.kd_key_table.specs.declared.table_file.TableForm.TheVariants as forms
 use Rattle.kd_curator_command.specs.declared.command.Command.{Command}
 use Rattle.kd_curator_command.specs.declared.command.Command.TheVariants as commands
-use Rattle.kd_curator_command.specs.declared.command.MessageKind.{MessageKind}
-use Rattle.kd_curator_command.specs.declared.command.MessageKind.TheVariants as kinds
 use Rattle.kd_curator_command.specs.declared.command.MessageTask.{MessageTask}
 use Rattle.kd_curator_command.specs.declared.command.NoCommand.{NoCommand}
 use Rattle.kd_curator_command.specs.declared.command.NoCommand.TheVariants.{Asked, Usage, NoMemory}
@@ -146,6 +145,10 @@ curator_grammar = record {
 abbrev pub NamedCommand : Type 0
 NamedCommand = Command (List ℕ)
 
+-- the names, with plain texts in place of borrowed texts
+abbrev pub unborrowed_names : List (Bor (List ℕ)) → List (List ℕ)
+unborrowed_names names = map (λ name. name.now) names
+
 -- the command, with plain texts in place of borrowed texts
 abbrev pub unborrowed_command : Command (Bor (List ℕ)) → NamedCommand
 unborrowed_command (commands.OnMachine machine sheet task) = commands.OnMachine machine.now sheet.now task
@@ -154,7 +157,7 @@ unborrowed_command (commands.Message machine sheet message task) =
 unborrowed_command (commands.TypingPage machine language) = commands.TypingPage machine.now language
 unborrowed_command (commands.Table sheet form language) = commands.Table sheet.now form language
 unborrowed_command (commands.Sheet table options) = commands.Sheet table.now (texts_of options)
-unborrowed_command (commands.Look files) = commands.Look (unborrowed_three files)
+unborrowed_command (commands.Look files) = commands.Look (record { items = unborrowed_names files.items })
 unborrowed_command (commands.EmptySheet model days) = commands.EmptySheet model days
 
 -- The argument DAYS names these days. `None` means that the argument isn't given.
@@ -193,32 +196,27 @@ pub record IsTaskWith (said : List ℕ × List Row) (machine_file key_sheet : Li
   pub sheet : first_of (codes "SHEET") said.1 ≡ Some key_sheet
   pub task : IsTaskOf said its_task
 
+-- The option `name`, which takes no value, is used. Then `clap` gives it the value `true`.
+abbrev pub IsUsed : List ℕ → List Row → Type 0
+IsUsed name rows = first_of name rows ≡ Some (codes "true")
+
 -- The arguments ask for tables in this form: with the option `--csv` as CSV, without the option as a page.
 abbrev pub HasForm : List Row → TableForm → Type 0
-HasForm rows forms.Csv = first_of (codes "csv") rows ≡ Some (codes "true")
-HasForm rows forms.Page = first_of (codes "csv") rows ≢ Some (codes "true")
+HasForm rows forms.Csv = IsUsed (codes "csv") rows
+HasForm rows forms.Page = ¬ (IsUsed (codes "csv") rows)
 
 -- The arguments say whether the page shows the results. With the option `--blank`, they are left open.
 abbrev pub HasResults : List Row → Results → Type 0
-HasResults rows LeftOpen = first_of (codes "blank") rows ≡ Some (codes "true")
-HasResults rows Shown = first_of (codes "blank") rows ≢ Some (codes "true")
-
--- the command for a message of this kind: `send` for an order, `receive` for a form
-abbrev pub message_name : MessageKind → List ℕ
-message_name kinds.Order = codes "send"
-message_name kinds.Form = codes "receive"
-
-abbrev pub message_argument : MessageKind → List ℕ
-message_argument kinds.Order = codes "ORDER"
-message_argument kinds.Form = codes "FORM"
+HasResults rows LeftOpen = IsUsed (codes "blank") rows
+HasResults rows Shown = ¬ (IsUsed (codes "blank") rows)
 
 -- The command's name and arguments in `said` mean the command `send` or `receive`, with these files and this task.
 pub record IsMessageOf (said : List ℕ × List Row) (machine_file key_sheet its_message : List ℕ) (its_task : MessageTask)
     : Type 0 where
-  pub name : said.0 ≡ message_name its_task.kind
+  pub name : said.0 ≡ direction_name its_task.direction
   pub machine : first_of (codes "MACHINE") said.1 ≡ Some machine_file
   pub sheet : first_of (codes "SHEET") said.1 ≡ Some key_sheet
-  pub message : first_of (message_argument its_task.kind) said.1 ≡ Some its_message
+  pub message : first_of (direction_word its_task.direction) said.1 ≡ Some its_message
   pub day : HasDay said.1 its_task.day
   pub results : HasResults said.1 its_task.results
   pub language : HasLanguage said.1 its_task.language
@@ -281,12 +279,15 @@ pub record IsEmptySheetOf (said : List ℕ × List Row) (model : Model) (days : 
   pub month : IsMonthNamed model_word days_word model days
   pub alone : are_blank (option_texts said.1) ≡ true
 
--- The command's name and arguments in `said` mean the command `look`, with these files.
-pub record IsLookOf (said : List ℕ × List Row) (files : UpToThree (List ℕ)) : Type 0 where
+-- the values of the arguments FILE, FILE2 and FILE3 that are given, in this order
+abbrev pub files_said : List Row → List (List ℕ)
+files_said rows = filter_map (λ name. first_of name rows) (codes "FILE" ∷ codes "FILE2" ∷ codes "FILE3" ∷ [])
+
+-- The command's name and arguments in `said` mean the command `look`, with these files. The argument FILE is given.
+pub record IsLookOf (said : List ℕ × List Row) (its_files : List (List ℕ)) : Type 0 where
   pub name : said.0 ≡ codes "look"
-  pub first : first_of (codes "FILE") said.1 ≡ Some files.first
-  pub second : first_of (codes "FILE2") said.1 ≡ files.second
-  pub third : first_of (codes "FILE3") said.1 ≡ files.third
+  pub first : IsSome (first_of (codes "FILE") said.1)
+  pub files : its_files ≡ files_said said.1
 
 -- The name and the arguments on the command line mean this command.
 abbrev pub IsCommandOf : List ℕ × List Row → NamedCommand → Type 0
@@ -295,7 +296,7 @@ IsCommandOf said (commands.Message machine sheet message task) = IsMessageOf sai
 IsCommandOf said (commands.TypingPage machine language) = IsTypingPageOf said machine language
 IsCommandOf said (commands.Table sheet form language) = IsTableOf said sheet form language
 IsCommandOf said (commands.Sheet table options) = IsSheetOf said table options
-IsCommandOf said (commands.Look files) = IsLookOf said files
+IsCommandOf said (commands.Look files) = IsLookOf said files.items
 IsCommandOf said (commands.EmptySheet model days) = IsEmptySheetOf said model days
 
 -- The command line has the name of a command. This name and its arguments mean this command.
@@ -370,9 +371,9 @@ pub record IsMadeOf (grammar : Grammar) (shape : Shape) : Type 0 where
   pub made : app_of grammar ≡ record { top = shape; subs = [] }
   pub local : (out-Command grammar).has_globals ≡ false
 
--- The arguments in `rows` ask for this task, with a message of this kind.
-pub record IsMessageTask (rows : List Row) (kind : MessageKind) (task : MessageTask) : Type 0 where
-  pub same : task.kind ≡ kind
+-- The arguments in `rows` ask for this task, for a message in this direction.
+pub record IsMessageTask (rows : List Row) (direction : Direction) (task : MessageTask) : Type 0 where
+  pub same : task.direction ≡ direction
   pub day : HasDay rows task.day
   pub results : HasResults rows task.results
   pub language : HasLanguage rows task.language
@@ -382,9 +383,3 @@ abbrev pub IsToldAs : ErrorKind → NoCommand → Type 0
 IsToldAs kind (Asked text) = IsTrue (is_help kind)
 IsToldAs kind (Usage text) = (is_help kind ≡ false) × (kind ≢ OutOfMemory)
 IsToldAs kind NoMemory = Unit {0}
-
--- The option `--csv` with the value `word` asks for tables in this form. The value `true` asks for CSV, any other value
--- for a page.
-abbrev pub IsFormNamed : List ℕ → TableForm → Type 0
-IsFormNamed word forms.Csv = word ≡ codes "true"
-IsFormNamed word forms.Page = word ≢ codes "true"

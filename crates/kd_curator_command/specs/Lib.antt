@@ -1,4 +1,3 @@
 pub mod CommandLine
 pub mod Days
 pub mod Locale
-pub mod UpToThree

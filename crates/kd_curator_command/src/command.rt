@@ -1,43 +1,31 @@
 //! The commands, and the parser of the command line.
-ghost use Rattle.std.specs.Prelude.{◌≡◌, ◌≢◌, ℕ, List, Option, None, codes, map, option_map, IfErr, IfOk, IfSome, IsErr};
-ghost use Rattle.clap.specs.Words.{app_of, found_of, kind_of, rows_of, subcommand_rows_of};
+ghost use Rattle.std.specs.Prelude.{IsFalse, IsTrue, ◌≡◌, ◌≢◌, ◌≤◌, ◌<◌, ◌+◌, ◌++◌, ℕ, List, Option, None, codes, map, option_map};
+ghost use Rattle.std.specs.Prelude.{option_to_list, IfErr, IfOk, IfSome, IsErr};
+ghost use Rattle.arrayvec.specs.ArrayVec.{array_vec_len};
+ghost use Rattle.clap.specs.Words.{app_of, first_of, found_of, kind_of, rows_of, subcommand_rows_of};
+ghost use Rattle.kd_tables.specs.Direction.{direction_name};
 ghost use Rattle.kd_curator_command.specs.CommandLine.{curator_grammar};
 ghost use Rattle.kd_table.specs.Options.{texts_of};
 ghost use Rattle.kd_curator_command.specs.CommandLine.{HasDay, HasDays, HasForm, HasLanguage, HasNoCommand, HasResults, IsCommandLineOf};
-ghost use Rattle.kd_curator_command.specs.CommandLine.{IsCommandOf, IsFormNamed, IsMeant, IsMessageTask, IsMonthNamed, IsTaskOf};
-ghost use Rattle.kd_curator_command.specs.CommandLine.{IsToldAs, NamedCommand, are_blank, message_argument, message_name};
-ghost use Rattle.kd_curator_command.specs.CommandLine.{option_text, option_texts, output_of, output_said, unborrowed_command};
+ghost use Rattle.kd_curator_command.specs.CommandLine.{IsCommandOf, IsMeant, IsMessageTask, IsMonthNamed, IsTaskOf, IsUsed};
+ghost use Rattle.kd_curator_command.specs.CommandLine.{IsToldAs, NamedCommand, are_blank};
+ghost use Rattle.kd_curator_command.specs.CommandLine.{option_text, option_texts, output_of, output_said};
+ghost use Rattle.kd_curator_command.specs.CommandLine.{unborrowed_command, unborrowed_names};
 ghost use Rattle.kd_curator_command.specs.declared.command.MessageTask.{MessageTask};
 
 use crate::days::{Days, days_of_word};
 use crate::grammar::grammar;
 use crate::locale::language_of_code;
-use crate::up_to_three::UpToThree;
+use arrayvec::ArrayVec;
 use clap::error::ErrorKind;
 use clap::{ArgMatches, Command as Grammar, Error};
 use kd_key_table::TableForm;
 use kd_pictures::{Language, Results};
 use kd_state::day_of_text;
 use kd_table::TableOptions;
-use kd_tables::Model;
+use kd_tables::{Direction, Model};
 use std::alloc::{AllocError, Global};
 use std::convert::AsStr;
-
-/// The error of `sheet --empty` for a wrong number of days, a wrong model or a needless option.
-const NO_MONTH: &str =
-    "--empty needs Enigma I, M3, M4 or M-209, then a number of days from 1 to 31, and no other option but -o";
-
-/// The hint that a model's name with a space has to be typed in quotes.
-const IN_QUOTES: &str = "Write \"Enigma I\" in quotes.\n";
-
-/// The error for an argument DAY that isn't the number of a day.
-const NO_DAY: &str = "the day is a number from 1 to 31";
-
-/// The error for an option `--in` whose value isn't a language's code.
-const NO_LANGUAGE: &str = "--in takes de or en";
-
-/// The error for an argument DAYS that doesn't name days.
-const NO_DAYS: &str = "days are numbers from 1 to 31, each once, such as 2, 1-31 or 1,4,2";
 
 /// A command, with the names of its files and the texts of its options. `T` is the type of these names and texts.
 #[derive(Drop)]
@@ -59,7 +47,7 @@ pub enum Command<T> {
         sheet: T,
         /// The order or the form.
         message: T,
-        /// The kind of the message, its day, and the language of the page.
+        /// What to do with the message, its day, and the language of the page.
         task: MessageTask,
     },
     /// Writes a page with which to type on a machine.
@@ -87,7 +75,8 @@ pub enum Command<T> {
     },
     /// Describes machine files and key sheets in words, or names their faults.
     Look {
-        files: UpToThree<T>,
+        /// One, two or three files.
+        files: ArrayVec<T, 3>,
     },
     /// Writes a key sheet to fill in.
     EmptySheet {
@@ -114,22 +103,13 @@ pub enum Task {
 /// What to write for a message.
 #[derive(Clone, Copy)]
 pub struct MessageTask {
-    pub kind: MessageKind,
+    pub direction: Direction,
     /// The number of the day whose key is used.
     pub day: u8,
     /// Whether the page shows the results; with the option `--blank`, they are left open.
     pub results: Results,
     /// The language of the page; `None` if the option `--in` isn't used.
     pub language: Option<Language>,
-}
-
-/// The kind of a message.
-#[derive(Clone, Copy, Debug, PartialEq, Eq)]
-pub enum MessageKind {
-    /// An order to send.
-    Order,
-    /// A received form.
-    Form,
 }
 
 /// A command whose names and texts are borrowed from the command line.
@@ -152,6 +132,17 @@ pub enum NoCommand {
     Usage(String),
     /// Memory ran out.
     NoMemory,
+}
+
+impl From<AllocError> for NoCommand {
+    ghost use Rattle.std.specs.Prelude.{◌≡◌};
+    ghost use Rattle.kd_curator_command.specs.declared.command.NoCommand.TheVariants.{NoMemory};
+
+    ghost from_gives = { λ _ none. none ≡ NoMemory };
+
+    fn from(_: AllocError) -> NoCommand {
+        NoCommand::NoMemory
+    }
 }
 
 /// Parses the command line `words`, which begins with the program's own name.
@@ -203,6 +194,19 @@ fn output_said<'a>(matches: &ArgMatches<'a>) -> Option<&'a str>
     words.get_str("output")
 }
 
+/// The error of `sheet --empty` for a wrong number of days, a wrong model or a needless option.
+const NO_MONTH: &str =
+    "--empty needs Enigma I, M3, M4 or M-209, then a number of days from 1 to 31, and no other option but -o";
+
+/// The error for an argument DAY that isn't the number of a day.
+const NO_DAY: &str = "the day is a number from 1 to 31";
+
+/// The error for an option `--in` whose value isn't a language's code.
+const NO_LANGUAGE: &str = "--in takes de or en";
+
+/// The error for an argument DAYS that doesn't name days.
+const NO_DAYS: &str = "days are numbers from 1 to 31, each once, such as 2, 1-31 or 1,4,2";
+
 /// Why words don't mean a command, though `clap` accepts them. The answer is the text of an error.
 fn why_not(matches: &ArgMatches<'_>) -> &'static str {
     match matches.subcommand() {
@@ -223,6 +227,9 @@ fn no_days(alloc: Global, grammar: &mut Grammar<'_>, why: &str) -> NoCommand
         Err(_) => NoCommand::NoMemory,
     }
 }
+
+/// The hint that a model's name with a space has to be typed in quotes.
+const IN_QUOTES: &str = "Write \"Enigma I\" in quotes.\n";
 
 /// The hint to type a model's name in quotes, if `Enigma` and `I` are two words; otherwise empty.
 fn quotes_hint<S: AsStr>(words: &[S]) -> &'static str {
@@ -251,17 +258,6 @@ fn no_command(alloc: Global, error: &Error, hint: &str) -> NoCommand
     }
 }
 
-impl From<AllocError> for NoCommand {
-    ghost use Rattle.std.specs.Prelude.{◌≡◌};
-    ghost use Rattle.kd_curator_command.specs.declared.command.NoCommand.TheVariants.{NoMemory};
-
-    ghost from_gives = { λ _ none. none ≡ NoMemory };
-
-    fn from(_: AllocError) -> NoCommand {
-        NoCommand::NoMemory
-    }
-}
-
 /// The command that the name and the arguments in `matches` mean. `None` if an argument has a wrong value.
 fn meant_command<'a>(matches: &ArgMatches<'a>) -> Option<NamedCommand<'a>>
     ensures said { IfSome result (λ command.
@@ -284,24 +280,24 @@ fn command_of<'a>(name: &str, words: &ArgMatches<'a>) -> Option<NamedCommand<'a>
         "table" => table_of(words),
         "sheet" => sheet_of(words),
         "look" => look_of(words),
-        "send" => message_of(words, MessageKind::Order),
-        "receive" => message_of(words, MessageKind::Form),
+        "send" => message_of(words, Direction::Send),
+        "receive" => message_of(words, Direction::Receive),
         "type" => typing_page_of(words),
         _ => task_with_files(name, words),
     }
 }
 
-/// The command for a message of this kind, with the arguments in `words`. `None` if an argument has a wrong value.
-fn message_of<'a>(words: &ArgMatches<'a>, kind: MessageKind) -> Option<NamedCommand<'a>>
+/// The command `send` or `receive` with the arguments in `words`. `None` if an argument has a wrong value.
+fn message_of<'a>(words: &ArgMatches<'a>, direction: Direction) -> Option<NamedCommand<'a>>
     ensures said { IfSome result (λ command.
-        IsCommandOf (message_name kind, rows_of (found_of words.now)) (unborrowed_command command)) }
+        IsCommandOf (direction_name direction, rows_of (found_of words.now)) (unborrowed_command command)) }
     ensures none { result ≡ None → (command : NamedCommand)
-        → ¬ (IsCommandOf (message_name kind, rows_of (found_of words.now)) command) }
+        → ¬ (IsCommandOf (direction_name direction, rows_of (found_of words.now)) command) }
 {
     let machine = words.get_str("MACHINE")?;
     let sheet = words.get_str("SHEET")?;
-    let message = words.get_str(message_argument(kind))?;
-    let task = message_task(words, kind)?;
+    let message = words.get_str(direction.file_word())?;
+    let task = message_task(words, direction)?;
     Some(Command::Message {
         machine,
         sheet,
@@ -310,26 +306,16 @@ fn message_of<'a>(words: &ArgMatches<'a>, kind: MessageKind) -> Option<NamedComm
     })
 }
 
-/// The name of the argument for a message's file.
-fn message_argument(kind: MessageKind) -> &'static str
-    ensures { result.now ≡ message_argument kind }
-{
-    match kind {
-        MessageKind::Order => "ORDER",
-        MessageKind::Form => "FORM",
-    }
-}
-
-/// The kind of the message, with the day and the language in `words`. `None` if an argument has a wrong value.
-fn message_task(words: &ArgMatches<'_>, kind: MessageKind) -> Option<MessageTask>
-    ensures said { IfSome result (IsMessageTask (rows_of (found_of words.now)) kind) }
+/// The task for a message, with the day and the language in `words`. `None` if an argument has a wrong value.
+fn message_task(words: &ArgMatches<'_>, direction: Direction) -> Option<MessageTask>
+    ensures said { IfSome result (IsMessageTask (rows_of (found_of words.now)) direction) }
     ensures none { result ≡ None → (task : MessageTask)
-        → ¬ (IsMessageTask (rows_of (found_of words.now)) kind task) }
+        → ¬ (IsMessageTask (rows_of (found_of words.now)) direction task) }
 {
     let day = day_asked(words)?;
     let language = language_asked(words).ok()?;
     Some(MessageTask {
-        kind,
+        direction,
         day,
         results: results_asked(words),
         language,
@@ -340,9 +326,10 @@ fn message_task(words: &ArgMatches<'_>, kind: MessageKind) -> Option<MessageTask
 fn results_asked(words: &ArgMatches<'_>) -> Results
     ensures { HasResults (rows_of (found_of words.now)) result }
 {
-    match words.get_str("blank") {
-        Some(word) if word == "true" => Results::LeftOpen,
-        _ => Results::Shown,
+    if is_used(words, "blank") {
+        Results::LeftOpen
+    } else {
+        Results::Shown
     }
 }
 
@@ -379,21 +366,30 @@ fn table_of<'a>(words: &ArgMatches<'a>) -> Option<NamedCommand<'a>>
 fn form_of(words: &ArgMatches<'_>) -> TableForm
     ensures { HasForm (rows_of (found_of words.now)) result }
 {
-    match words.get_str("csv") {
-        Some(word) => form_named(word),
-        None => TableForm::Page,
-    }
-}
-
-/// The form of tables if the option `--csv` has the value `word`. When the option is used, its value is `true`.
-fn form_named(word: &str) -> TableForm
-    ensures { IsFormNamed word.now result }
-{
-    if word == "true" {
+    if is_used(words, "csv") {
         TableForm::Csv
     } else {
         TableForm::Page
     }
+}
+
+/// Whether the option `name`, which takes no value, is used.
+fn is_used(words: &ArgMatches<'_>, name: &str) -> bool
+    ensures used { IsTrue result → IsUsed name.now (rows_of (found_of words.now)) }
+    ensures unused { IsFalse result → ¬ (IsUsed name.now (rows_of (found_of words.now))) }
+{
+    match words.get_str(name) {
+        Some(word) => is_true(word),
+        None => false,
+    }
+}
+
+/// Whether `word` is `true`, the value of an option that is used.
+fn is_true(word: &str) -> bool
+    ensures yes { IsTrue result → word.now ≡ codes "true" }
+    ensures no { IsFalse result → word.now ≢ codes "true" }
+{
+    word == "true"
 }
 
 /// The command `look` with the files in `words`.
@@ -403,16 +399,23 @@ fn look_of<'a>(words: &ArgMatches<'a>) -> Option<NamedCommand<'a>>
     ensures none { result ≡ None → (command : NamedCommand)
         → ¬ (IsCommandOf (codes "look", rows_of (found_of words.now)) command) }
 {
-    let first = words.get_str("FILE")?;
-    let second = words.get_str("FILE2");
-    let third = words.get_str("FILE3");
-    Some(Command::Look {
-        files: UpToThree {
-            first,
-            second,
-            third,
-        },
-    })
+    let mut files = ArrayVec::new();
+    files.push(words.get_str("FILE")?);
+    push_file(&mut files, words, "FILE2");
+    push_file(&mut files, words, "FILE3");
+    Some(Command::Look { files })
+}
+
+/// Appends the value of the argument `name` to `files`, if the argument is given.
+fn push_file<'a>(files: &mut ArrayVec<&'a str, 3>, words: &ArgMatches<'a>, name: &str)
+    requires { array_vec_len files.old < 3 }
+    ensures items { unborrowed_names files.new.items ≡ unborrowed_names files.old.items
+        ++ option_to_list (first_of name.now (rows_of (found_of words.now))) }
+    ensures len { array_vec_len files.new ≤ array_vec_len files.old + 1 }
+{
+    if let Some(file) = words.get_str(name) {
+        files.push(file);
+    }
 }
 
 /// The command `sheet` with the arguments in `words`. `None` if `--empty` is used with a wrong model, a wrong number of

@@ -14,7 +14,7 @@ use Rattle.kd_command.specs.declared.command.Action.{Action}
 use Rattle.kd_command.specs.declared.command.Action.TheVariants as actions
 use Rattle.kd_command.specs.declared.command.Task.{Task}
 use Rattle.kd_command.specs.declared.command.Task.TheVariants as tasks
-use Rattle.kd_command.specs.declared.command.Direction.TheVariants.{Send, Receive}
+use Rattle.kd_tables.specs.declared.direction.Direction.TheVariants.{Send, Receive}
 use Rattle.kd_desk.specs.declared.fault.DeskFault.{DeskFault}
 use Rattle.kd_desk.specs.declared.fault.DeskFault.TheVariants.{File}
 use Rattle.kd_host.specs.declared.file_fault.FileFault.{FileFault}

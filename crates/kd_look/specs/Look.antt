@@ -1,16 +1,17 @@
 -- The report that `look_at` writes on files, and the answer of `look_at`: the first fault of all files.
 -- Test: tests/cases/curator-look.toml
-use Rattle.std.specs.Prelude.{◌≡◌, ◌⊎◌, ℕ, ◌++◌, List, [], ◌∷◌, map, Bool, false, true, Result, Err, OnErr, IfOk}
+use Rattle.std.specs.Prelude.{◌≡◌, ◌⊎◌, ℕ, ◌++◌, List, [], ◌∷◌, map, Result, Err, OnErr, IfOk, alloc_error}
 use Rattle.std.specs.Result.{result_ok}
+use Rattle.std.specs.declared.alloc.AllocError.{AllocError}
 use Rattle.kd_tables.specs.Ports.{Port}
 use Rattle.kd_tables.specs.Writing.{Writes}
+use Rattle.kd_tables.specs.declared.ports.write_fault.WriteFault.{WriteFault}
+use Rattle.kd_tables.specs.declared.ports.write_fault.WriteFault.TheVariants.{Device, Unwritten}
 use Rattle.kd_findings.specs.Texts.{BeginsWith}
 use Rattle.kd_look.specs.File.{file_of}
 use Rattle.kd_look.specs.MissingDays.{KnownFile, missing_words}
 use Rattle.kd_look.specs.Report.{IsReport, outcome_of}
 use Rattle.kd_look.specs.declared.looking.NamedFile.{NamedFile}
-use Rattle.kd_look.specs.declared.looking.LookFault.{LookFault}
-use Rattle.kd_look.specs.declared.looking.LookFault.TheVariants.{Device, NoMemory}
 use Rattle.kd_look.specs.declared.outcome.Outcome.{Outcome}
 use Rattle.kd_look.specs.declared.outcome.Outcome.TheVariants as outcomes
 
@@ -48,14 +49,10 @@ pub record IsWholeReport (files : List NamedText) (text : List ℕ) : Type 0 whe
   pub made : AreReports files reports
   pub whole : text ≡ reports ++ missing_words (map known_text files)
 
--- whether the answer is `Device`, the fault of a sink that failed
-abbrev pub is_device : Result Outcome LookFault → Bool
-is_device (Err Device) = true
-is_device _ = false
-
 -- A report on the files was written, and the answer is the outcome for all files. Or the sink failed, and only a prefix
 -- of the report was written.
-pub record WritesReport (files : List NamedText) (sink : Port) (answer : Result Outcome LookFault) : Type 0 where
+pub record WritesReport (files : List NamedText) (sink : Port) (answer : Result Outcome (WriteFault AllocError))
+    : Type 0 where
   pub text : List ℕ
   pub made : IsWholeReport files text
   pub written : Writes sink.had sink.has text answer
@@ -64,5 +61,5 @@ pub record WritesReport (files : List NamedText) (sink : Port) (answer : Result 
 
 -- A report was written as `WritesReport` says, or the answer is that memory ran out. The contract doesn't say when
 -- memory runs out.
-abbrev pub IsLookAnswer : List NamedText → Port → Result Outcome LookFault → Type 0
-IsLookAnswer files sink answer = WritesReport files sink answer ⊎ (answer ≡ Err NoMemory)
+abbrev pub IsLookAnswer : List NamedText → Port → Result Outcome (WriteFault AllocError) → Type 0
+IsLookAnswer files sink answer = WritesReport files sink answer ⊎ (answer ≡ Err (Unwritten alloc_error))

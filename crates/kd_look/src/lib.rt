@@ -16,5 +16,5 @@ mod sheet_words;
 mod texts;
 mod warnings;
 
-pub use looking::{LookFault, NamedFile, look_at};
+pub use looking::{NamedFile, look_at};
 pub use outcome::Outcome;

@@ -1,18 +1,18 @@
 //! `look_at`: describes files in words, or names their faults.
-ghost use Rattle.std.specs.Prelude.{◌≡◌, ◌||◌, ◌++◌, ◌∷◌, [], map, Err, IfOk, OnOk};
+ghost use Rattle.std.specs.Prelude.{◌≡◌, ◌||◌, ◌++◌, ◌∷◌, [], false, map, IfOk, IsErr, OnOk};
 ghost use Rattle.std.specs.String.{string_bytes};
-ghost use Rattle.kd_tables.specs.Ports.{port};
+ghost use Rattle.kd_tables.specs.{Ports.{port}, WriteFault.{is_device}};
 ghost use Rattle.kd_look.specs.File.{file_of};
 ghost use Rattle.kd_findings.specs.Texts.{AppendsText};
 ghost use Rattle.kd_look.specs.Look.{AreReports, IsLookAnswer, IsWholeReport};
-ghost use Rattle.kd_look.specs.Look.{is_device, known_text, named_text, outcome_of_all};
+ghost use Rattle.kd_look.specs.Look.{known_text, named_text, outcome_of_all};
 ghost use Rattle.kd_look.specs.MissingDays.{known_of};
 ghost use Rattle.kd_look.specs.Report.{IsReport, outcome_of};
 
 use crate::missing_days::{ReadFile, missing_day_warnings};
 use crate::outcome::Outcome;
 use crate::report::{Report, make_report};
-use kd_tables::{Device, Sink, put_all};
+use kd_tables::{Sink, WriteFault, put_all};
 use std::alloc::{AllocError, Global};
 
 /// A file that `look_at` describes.
@@ -22,99 +22,6 @@ pub struct NamedFile<'f> {
     pub name: &'f str,
     /// The file's content.
     pub bytes: &'f [u8],
-}
-
-/// Why a report wasn't written completely.
-#[derive(Clone, Copy, Debug, PartialEq, Eq)]
-pub enum LookFault {
-    /// The sink failed.
-    Device,
-    /// Memory ran out; nothing was written.
-    NoMemory,
-}
-
-impl From<AllocError> for LookFault {
-    ghost use Rattle.std.specs.Prelude.{◌≡◌};
-    ghost use Rattle.kd_look.specs.declared.looking.LookFault.TheVariants as faults;
-
-    ghost from_gives = { λ _ fault. fault ≡ faults.NoMemory };
-
-    fn from(_: AllocError) -> LookFault {
-        LookFault::NoMemory
-    }
-}
-
-impl From<Device> for LookFault {
-    ghost use Rattle.std.specs.Prelude.{◌≡◌};
-    ghost use Rattle.kd_look.specs.declared.looking.LookFault.TheVariants as faults;
-
-    ghost from_gives = { λ _ fault. fault ≡ faults.Device };
-
-    fn from(_: Device) -> LookFault {
-        LookFault::Device
-    }
-}
-
-/// The report on several files.
-#[derive(Drop)]
-struct WholeReport {
-    text: String,
-    outcome: Outcome,
-}
-
-/// Describes `files` in words, or names their faults.
-///
-/// With `NoMemory`, nothing is written. With `Device`, a prefix of the report is written.
-pub fn look_at<W: Sink>(
-    alloc: Global,
-    files: &[NamedFile<'_>],
-    sink: &mut W,
-) -> Result<Outcome, LookFault>
-    ensures looks { IsLookAnswer (map named_text files.now)
-        (port W.taken W.has_failed sink.old sink.new) result }
-    ensures untouched { result ≡ Err LookFault.NoMemory → sink.new ≡ sink.old }
-    ensures failed { W.has_failed sink.new ≡ (W.has_failed sink.old || is_device result) }
-{
-    let WholeReport { text, outcome } = report_all(alloc, files)?;
-    put_all(sink, text.as_bytes())?;
-    Ok(outcome)
-}
-
-/// Makes the report on `files`: a report on each file, then the warnings about missing days.
-fn report_all(alloc: Global, files: &[NamedFile<'_>]) -> Result<WholeReport, AllocError>
-    ensures report { IfOk result (λ made.
-        IsWholeReport (map named_text files.now) (string_bytes made.text)) }
-    ensures found { IfOk result (λ made. made.outcome ≡ outcome_of_all (map named_text files.now)) }
-{
-    let mut text = String::new(alloc);
-    let mut known = Vec::new(alloc);
-    let outcome = push_reports(&mut text, &mut known, alloc, files)?;
-    let missing = missing_day_warnings(alloc, known.as_slice())?;
-    text.push_str(missing.as_str())?;
-    Ok(WholeReport { text, outcome })
-}
-
-/// Appends the reports on `files` to `text`, and the files' contents to `known`.
-fn push_reports<'f>(
-    text: &mut String,
-    known: &mut Vec<ReadFile<'f>>,
-    alloc: Global,
-    files: &[NamedFile<'f>],
-) -> Result<Outcome, AllocError>
-    ensures reports { OnOk result (AppendsText (AreReports (map named_text files.now))
-        (string_bytes text.old) (string_bytes text.new)) }
-    ensures found { IfOk result (λ found. found ≡ outcome_of_all (map named_text files.now)) }
-    ensures known { OnOk result (map known_of known.new.items
-        ≡ map known_of known.old.items ++ map known_text (map named_text files.now)) }
-{
-    match files {
-        [first, rest @ ..] => {
-            let found = push_report(text, known, alloc, *first)?;
-            let later = push_reports(text, known, alloc, rest)?;
-            Ok(found.or(later))
-        }
-        [] => Ok(Outcome::Faultless),
-    }
 }
 
 /// Appends the report on `file` to `text`, and the file's content to `known`.
@@ -141,4 +48,69 @@ fn push_report<'f>(
         file: said,
     })?;
     Ok(outcome)
+}
+
+/// Appends the reports on `files` to `text`, and the files' contents to `known`.
+fn push_reports<'f>(
+    text: &mut String,
+    known: &mut Vec<ReadFile<'f>>,
+    alloc: Global,
+    files: &[NamedFile<'f>],
+) -> Result<Outcome, AllocError>
+    ensures reports { OnOk result (AppendsText (AreReports (map named_text files.now))
+        (string_bytes text.old) (string_bytes text.new)) }
+    ensures found { IfOk result (λ found. found ≡ outcome_of_all (map named_text files.now)) }
+    ensures known { OnOk result (map known_of known.new.items
+        ≡ map known_of known.old.items ++ map known_text (map named_text files.now)) }
+{
+    match files {
+        [first, rest @ ..] => {
+            let found = push_report(text, known, alloc, *first)?;
+            let later = push_reports(text, known, alloc, rest)?;
+            Ok(found.or(later))
+        }
+        [] => Ok(Outcome::Faultless),
+    }
+}
+
+/// The report on several files.
+#[derive(Drop)]
+struct WholeReport {
+    text: String,
+    outcome: Outcome,
+}
+
+/// Makes the report on `files`: a report on each file, then the warnings about missing days.
+fn report_all(alloc: Global, files: &[NamedFile<'_>]) -> Result<WholeReport, AllocError>
+    ensures report { IfOk result (λ made.
+        IsWholeReport (map named_text files.now) (string_bytes made.text)) }
+    ensures found { IfOk result (λ made. made.outcome ≡ outcome_of_all (map named_text files.now)) }
+{
+    let mut text = String::new(alloc);
+    let mut known = Vec::new(alloc);
+    let outcome = push_reports(&mut text, &mut known, alloc, files)?;
+    let missing = missing_day_warnings(alloc, known.as_slice())?;
+    text.push_str(missing.as_str())?;
+    Ok(WholeReport { text, outcome })
+}
+
+/// Describes `files` in words, or names their faults.
+pub fn look_at<W: Sink>(
+    alloc: Global,
+    files: &[NamedFile<'_>],
+    sink: &mut W,
+) -> Result<Outcome, WriteFault<AllocError>>
+    ensures looks { IsLookAnswer (map named_text files.now)
+        (port W.taken W.has_failed sink.old sink.new) result }
+    ensures untouched { IsErr result → is_device result ≡ false → sink.new ≡ sink.old }
+    ensures failed { W.has_failed sink.new ≡ (W.has_failed sink.old || is_device result) }
+{
+    let WholeReport { text, outcome } = match report_all(alloc, files) {
+        Ok(report) => report,
+        Err(fault) => return Err(WriteFault::Unwritten(fault)),
+    };
+    match put_all(sink, text.as_bytes()) {
+        Ok(()) => Ok(outcome),
+        Err(_) => Err(WriteFault::Device),
+    }
 }

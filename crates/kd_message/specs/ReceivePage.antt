@@ -27,8 +27,8 @@ use Rattle.kd_part_sheet.specs.declared.sheet.Sheet.{Sheet}
 use Rattle.kd_part_sheet.specs.declared.sheet.Sheet.TheVariants.{PinReceive, RotorReceive}
 use Rattle.kd_message.specs.declared.texts.TheConstants as texts
 use Rattle.kd_part_sheet.specs.PartSheet.{note, part_sheet, text_if}
-use Rattle.kd_message.specs.declared.receiving.ReceivePageFault.{ReceivePageFault}
-use Rattle.kd_message.specs.declared.receiving.ReceivePageFault.TheVariants as faults
+use Rattle.kd_tables.specs.declared.ports.write_fault.WriteFault.{WriteFault}
+use Rattle.kd_tables.specs.declared.ports.write_fault.WriteFault.TheVariants.{Device, Unwritten}
 use Rattle.kd_message.specs.declared.receiving.Section.{Section}
 use Rattle.kd_message.specs.declared.receiving.Section.TheVariants as sections
 use Rattle.kd_message.specs.ReceivedWork.{AreShowable, received_work}
@@ -202,37 +202,28 @@ receive_notes l s parts = several_note l parts ++ section_text sections.Noted l 
 
 -- ---- What `write_receive_page` answers.
 
-abbrev pub page_fault : DamagedFormFault → ReceivePageFault
-page_fault form_faults.NoMemory = faults.NoMemory
-page_fault form_faults.TooManyParts = faults.TooManyParts
-
--- whether a write failed; then the page isn't complete
-abbrev pub is_device_fault : Result Bool ReceivePageFault → Bool
-is_device_fault (Err faults.Device) = true
-is_device_fault _ = false
-
 -- What `write_receive_page` answers:
 -- - `ReceivedPageWritten`: the page was written, and the answer says whether the parts are one whole message. Or the
 --   sink failed, and only a prefix of the page was written.
 -- - `FormNotRead`: nothing was written, since the form has too many parts, or memory is short.
 pub data IsReceivePageAnswer (results : Results) (l : Language) (s : Day) (form : List ℕ) (sink : Port)
-    (answer : Result Bool ReceivePageFault) : Type 0 where
+    (answer : Result Bool (WriteFault DamagedFormFault)) : Type 0 where
   ReceivedPageWritten : (parts : List DamagedPart) → AreFormParts s form parts
       → length (damaged_parts_of form) ≤ 255 → Writes sink.had sink.has (receive_text results l s parts) answer
-      → MatchResult answer (λ whole. IsTrue whole ↔ IsWhole parts) (λ fault. fault ≡ faults.Device)
+      → MatchResult answer (λ whole. IsTrue whole ↔ IsWhole parts) (λ fault. fault ≡ Device)
       → sink.has_failed ≡ (sink.had_failed || is_err answer)
       → IsReceivePageAnswer results l s form sink answer
   FormNotRead : (fault : DamagedFormFault) → IsFormFault (damaged_parts_of form) fault
-      → answer ≡ Err (page_fault fault) → IsUntouched sink
+      → answer ≡ Err (Unwritten fault) → IsUntouched sink
       → IsReceivePageAnswer results l s form sink answer
 
 -- The notes for standard error satisfy `Told`. If the form has too many parts, or memory is short, there may be no
 -- notes.
 pub data IsFormNoted (l : Language) (s : Day) (form : List ℕ) (Told : List ℕ → Type 0)
-    (answer : Result Bool ReceivePageFault) : Type 0 where
+    (answer : Result Bool (WriteFault DamagedFormFault)) : Type 0 where
   Noted : (parts : List DamagedPart) → AreFormParts s form parts → Told (receive_notes l s parts)
       → IsFormNoted l s form Told answer
-  NotNoted : (fault : DamagedFormFault) → answer ≡ Err (page_fault fault) → IsFormNoted l s form Told answer
+  NotNoted : (fault : DamagedFormFault) → answer ≡ Err (Unwritten fault) → IsFormNoted l s form Told answer
 
 -- ---- What the code holds. No public contract cites these definitions.
 

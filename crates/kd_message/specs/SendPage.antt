@@ -31,8 +31,8 @@ use Rattle.kd_message.specs.declared.texts.TheConstants as texts
 use Rattle.kd_part_sheet.specs.PartSheet.{part_sheet}
 use Rattle.kd_part_sheet.specs.PartWork.{IsWork, Work}
 use Rattle.kd_part_sheet.specs.Rows.{pieces}
-use Rattle.kd_message.specs.declared.sending.SendPageFault.{SendPageFault}
-use Rattle.kd_message.specs.declared.sending.SendPageFault.TheVariants.{Order, Device}
+use Rattle.kd_tables.specs.declared.ports.write_fault.WriteFault.{WriteFault}
+use Rattle.kd_tables.specs.declared.ports.write_fault.WriteFault.TheVariants.{Device, Unwritten}
 use Rattle.kd_message.specs.FormSheet.{form_head, form_part}
 
 -- the head of the file; `title` is the template of its title
@@ -140,22 +140,17 @@ IsSendRefusal m s order fault =
     IsKeyFault m s fault
     ⊎ (IsReadyOnKey m s × IsFaultOrNoMemory (IsSendFault s order) ((form : List ℕ) × IsFormOf s order form) fault)
 
--- whether a write failed; then the page isn't complete
-abbrev pub is_device : Result (Unit {0}) SendPageFault → Bool
-is_device (Err Device) = true
-is_device _ = false
-
 -- What `write_send_page` answers:
 -- - `PageWritten`: the order has a form, and the page was written. Or the sink failed, and only a prefix of the page
 --   was written.
 -- - `Refused`: nothing was written. The answer is a fault that `send` can return for this order.
 pub data IsSendPageAnswer (results : Results) (l : Language) (m : Parts) (s : Day) (order : List ℕ) (sink : Port)
-    (answer : Result (Unit {0}) SendPageFault) : Type 0 where
+    (answer : Result (Unit {0}) (WriteFault FormFault)) : Type 0 where
   PageWritten : (form page : List ℕ) → IsReadyOnKey m s → IsFormOf s order form → IsSendPage results l s order form page
       → Writes sink.had sink.has page answer → OnErr answer (answer ≡ Err Device)
       → sink.has_failed ≡ (sink.had_failed || is_err answer)
       → IsSendPageAnswer results l m s order sink answer
-  Refused : (fault : FormFault) → IsSendRefusal m s order fault → answer ≡ Err (Order fault) → IsUntouched sink
+  Refused : (fault : FormFault) → IsSendRefusal m s order fault → answer ≡ Err (Unwritten fault) → IsUntouched sink
       → IsSendPageAnswer results l m s order sink answer
 
 -- ---- What the code holds. No public contract cites these definitions.

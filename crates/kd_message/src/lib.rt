@@ -16,5 +16,5 @@ pub mod texts;
 mod unread;
 
 pub use kd_pictures::Language;
-pub use receiving::{ReceivePageFault, write_receive_page};
-pub use sending::{SendPageFault, write_send_page};
+pub use receiving::write_receive_page;
+pub use sending::write_send_page;

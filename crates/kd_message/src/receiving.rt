@@ -2,12 +2,12 @@
 ghost use Rattle.std.specs.Prelude.{◌≡◌, ◌==◌, ◌≤◌, ◌+◌, ◌&&◌, ◌||◌, [], false, flat_map, if◌then◌else◌, is_none};
 ghost use Rattle.std.specs.Prelude.{IsErr, length};
 ghost use Rattle.std.specs.List.{range_with_len};
-ghost use Rattle.kd_tables.specs.Ports.{port};
+ghost use Rattle.kd_tables.specs.{Ports.{port}, WriteFault.{is_device}};
 ghost use Rattle.kd_pictures.specs.Drawing.{Draws};
 ghost use Rattle.kd_message.specs.ReceivedWork.{AreShowable};
 ghost use Rattle.kd_message.specs.ReceivePage.{AreWorkable, HasShowableKeys, IsReceivePageAnswer, as_they_came, by_number};
-ghost use Rattle.kd_message.specs.ReceivePage.{is_device_fault, listed_text, listed_unread, lone_after, lone_in};
-ghost use Rattle.kd_message.specs.ReceivePage.{missing_in, missing_part_text, name_at, number_in, number_or, page_fault};
+ghost use Rattle.kd_message.specs.ReceivePage.{listed_text, listed_unread, lone_after, lone_in};
+ghost use Rattle.kd_message.specs.ReceivePage.{missing_in, missing_part_text, name_at, number_in, number_or};
 ghost use Rattle.kd_message.specs.ReceivePage.{part_at, part_in, part_text, results_of};
 ghost use Rattle.kd_message.specs.ReceivePage.{IsFormNoted, receive_notes, receive_text, section_text, sheet_count};
 ghost use Rattle.kd_message.specs.ReceivePage.{sheet_of_text, sheet_to_receive, shown_in, text_or_damage, worked_text};
@@ -38,26 +38,14 @@ use kd_pictures::texts::FOOT;
 use kd_pictures::words::is_converter;
 use kd_pictures::{Language, Results, draw, draw_in};
 use kd_state::SheetDay;
-use kd_tables::{Model, Sink};
+use kd_tables::{Model, Sink, WriteFault};
 use std::alloc::Global;
-
-/// Why the page of a form isn't written.
-#[derive(Clone, Copy, Debug, PartialEq, Eq)]
-pub enum ReceivePageFault {
-    /// There wasn't enough memory to read the parts.
-    NoMemory,
-    /// The form has more than 255 parts.
-    TooManyParts,
-    /// A write to the sink failed.
-    Device,
-}
 
 /// Writes the page in `language` that has the text of `form`, and shows how to decipher `form` by hand. The machine is
 /// on the day's key. If `results` are left open, the page has worksheets, and not the text.
 ///
 /// Writes to `notes` what is wrong with the form, and what to ask for. Returns whether the form is one whole message of
-/// the day, with no letter of its text lost. For `Device`, a prefix of the page is written. For the other faults,
-/// nothing is written.
+/// the day, with no letter of its text lost.
 pub fn write_receive_page<W: Sink, E: Sink>(
     alloc: Global,
     language: Language,
@@ -66,34 +54,25 @@ pub fn write_receive_page<W: Sink, E: Sink>(
     form: &[u8],
     sink: &mut W,
     notes: &mut E,
-) -> Result<bool, ReceivePageFault>
+) -> Result<bool, WriteFault<DamagedFormFault>>
     ensures page { IsReceivePageAnswer results language day.now form.now
         (port W.taken W.has_failed sink.old sink.new) result }
-    ensures untouched { IsErr result → is_device_fault result ≡ false → sink.new ≡ sink.old }
-    ensures failed { W.has_failed sink.new ≡ (W.has_failed sink.old || is_device_fault result) }
+    ensures untouched { IsErr result → is_device result ≡ false → sink.new ≡ sink.old }
+    ensures failed { W.has_failed sink.new ≡ (W.has_failed sink.old || is_device result) }
     ensures noted { IsFormNoted language day.now form.now
         (λ text. Draws E.taken E.has_failed notes.old notes.new text) result }
-    ensures quiet { IsErr result → is_device_fault result ≡ false → notes.new ≡ notes.old }
+    ensures quiet { IsErr result → is_device result ≡ false → notes.new ≡ notes.old }
 {
     let parts = match read_damaged_form(alloc, day, form) {
         Ok(parts) => parts,
-        Err(fault) => return Err(page_fault(fault)),
+        Err(fault) => return Err(WriteFault::Unwritten(fault)),
     };
     draw_page(sink, language, results, day, parts.as_slice());
     draw_notes(notes, language, day, parts.as_slice());
     if sink.failed() {
-        Err(ReceivePageFault::Device)
+        Err(WriteFault::Device)
     } else {
         Ok(is_whole(parts.as_slice()))
-    }
-}
-
-fn page_fault(fault: DamagedFormFault) -> ReceivePageFault
-    ensures { result ≡ page_fault fault }
-{
-    match fault {
-        DamagedFormFault::NoMemory => ReceivePageFault::NoMemory,
-        DamagedFormFault::TooManyParts => ReceivePageFault::TooManyParts,
     }
 }
 

@@ -1,7 +1,7 @@
 //! The page for sending an order.
 ghost use Rattle.std.specs.Prelude.{◌≡◌, ◌+◌, ◌≤◌, ◌++◌, ◌||◌, ℕ, List, false, flat_map, length, IsErr, Ok};
 ghost use Rattle.std.specs.List.{range_with_len};
-ghost use Rattle.kd_tables.specs.Ports.{port};
+ghost use Rattle.kd_tables.specs.{Ports.{port}, WriteFault.{is_device}};
 ghost use Rattle.kd_form.specs.Keys.{AreKeys};
 ghost use Rattle.kd_form.specs.Part.{Part};
 ghost use Rattle.kd_form.specs.Sending.{IsFormOf};
@@ -11,7 +11,7 @@ ghost use Rattle.kd_pictures.specs.Language.{in_language};
 ghost use Rattle.kd_part_sheet.specs.PartWork.{Work};
 ghost use Rattle.kd_message.specs.FormSheet.{form_part};
 ghost use Rattle.kd_message.specs.SendPage.{AreKeysOfText, AreMade, AreWorks, HasForm, IsSendPage, IsSendPageAnswer};
-ghost use Rattle.kd_message.specs.SendPage.{form_parts, is_device, list_head, list_text, listed_sheet, listed_text};
+ghost use Rattle.kd_message.specs.SendPage.{form_parts, list_head, list_text, listed_sheet, listed_text};
 ghost use Rattle.kd_message.specs.SendPage.{part_name, part_sheets, sheet_to_send};
 ghost use Rattle.kd_message.specs.SendPage.{send_text, text_pieces, title_text};
 
@@ -34,33 +34,13 @@ use kd_pictures::texts::{BODY, FOOT, MORE_STYLE, STYLE, Text};
 use kd_pictures::words::is_converter;
 use kd_pictures::{Language, Results, draw, draw_in};
 use kd_state::{Machine, SheetDay};
-use kd_tables::{Letter, Model, Sink};
+use kd_tables::{Letter, Model, Sink, WriteFault};
 use std::alloc::Global;
-
-/// Why the page of an order isn't written.
-#[derive(Clone, Copy, Debug, PartialEq, Eq)]
-pub enum SendPageFault {
-    /// A fault that `send` can return for this order: a fault of the machine or of the order, or a lack of memory.
-    Order(FormFault),
-    /// A write to the sink failed.
-    Device,
-}
-
-impl From<FormFault> for SendPageFault {
-    ghost use Rattle.std.specs.Prelude.{◌≡◌};
-    ghost use Rattle.kd_message.specs.declared.sending.SendPageFault.TheVariants.{Order};
-
-    ghost from_gives = { λ fault page. page ≡ Order fault };
-
-    fn from(fault: FormFault) -> SendPageFault {
-        SendPageFault::Order(fault)
-    }
-}
 
 /// Writes the page in `language` that shows how to encipher `order` by hand on `machine`. The machine must be on the
 /// day's key. If `results` are left open, the page has worksheets.
 ///
-/// If the fault is `Order`, nothing is written. If it is `Device`, a prefix of the page is written.
+/// The fault is `Device`, or one that `send` can return for this order.
 pub fn write_send_page<W: Sink>(
     alloc: Global,
     language: Language,
@@ -69,16 +49,18 @@ pub fn write_send_page<W: Sink>(
     day: &SheetDay,
     order: &[u8],
     sink: &mut W,
-) -> Result<(), SendPageFault>
+) -> Result<(), WriteFault<FormFault>>
     ensures page { IsSendPageAnswer results language machine.now day.now order.now
         (port W.taken W.has_failed sink.old sink.new) result }
     ensures untouched { IsErr result → is_device result ≡ false → sink.new ≡ sink.old }
     ensures failed { W.has_failed sink.new ≡ (W.has_failed sink.old || is_device result) }
 {
-    send(alloc, machine, day, order)?;
+    if let Err(fault) = send(alloc, machine, day, order) {
+        return Err(WriteFault::Unwritten(fault));
+    }
     draw_page(sink, language, results, day, order);
     if sink.failed() {
-        Err(SendPageFault::Device)
+        Err(WriteFault::Device)
     } else {
         Ok(())
     }

@@ -1,5 +1,7 @@
 -- What the rows of a table make of the table.
 use Rattle.std.proofs.Common.{◌≡◌, ◌∙◌, ◌⊎◌, inl, inr, Err, Result, ℕ, true, false, List, [], ◌∷◌, ◌++◌, Ok, append_assoc, sym, subst, arith}
+use Rattle.kd_tables.specs.declared.ports.write_fault.WriteFault.{WriteFault}
+use Rattle.kd_tables.specs.declared.ports.write_fault.WriteFault.TheVariants.{Unwritten}
 use Rattle.kd_state.specs.SheetDay.{Day, IsLegalDay, day_number}
 use Rattle.std.proofs.lemmas.List.{append-nil}
 use Rattle.kd_sheet.proofs.Days.{sheet_again}
@@ -73,7 +75,7 @@ read_back options table (day ∷ days) means =
 -- ---- a fault that is kept
 
 pub same_fault : {T : Type 0} (one other : SpreadsheetFault)
-    → ◌≡◌ {A = Result T SpreadsheetFault} (Err one) (Err other) → one ≡ other
+    → ◌≡◌ {A = Result T (WriteFault SpreadsheetFault)} (Err (Unwritten one)) (Err (Unwritten other)) → one ≡ other
 same_fault one other same = cc
 
 -- a table that is refused in the end was refused at first, if only want of memory comes between

@@ -1,6 +1,6 @@
 -- The days that a table means, and the tables that are refused.
 -- Test: tests/cases/curator-sheet.toml
-use Rattle.std.specs.Prelude.{◌≡◌, ◌⊎◌, ◌<◌, ◌==◌, ℕ, Bool, true, false, List, [], ◌∷◌, ◌++◌, length, Result, Ok, Err}
+use Rattle.std.specs.Prelude.{◌≡◌, ◌⊎◌, ◌<◌, ◌==◌, ℕ, Bool, true, false, List, [], ◌∷◌, ◌++◌, length}
 use Rattle.std.specs.List.{list_any}
 use Rattle.csv.specs.Reading.{AreRecords, strip_bom}
 use Rattle.csv.specs.declared.parser.State.TheVariants as st
@@ -10,8 +10,6 @@ use Rattle.kd_table.specs.NearNames.{is_misnamed}
 use Rattle.kd_table.specs.Row.{row_values, is_blank_row, IsDayOfRow, IsNoDay}
 use Rattle.kd_table.specs.Rows.{separated, separator_of, is_well_quoted}
 use Rattle.kd_table.specs.declared.columns.Columns.{Columns}
-use Rattle.kd_table.specs.declared.fault.SpreadsheetFault.{SpreadsheetFault}
-use Rattle.kd_table.specs.declared.fault.SpreadsheetFault.TheVariants.{Refused, Device, NoMemory}
 use Rattle.kd_table.specs.Options.{OptionTexts}
 
 -- whether one of the days has this number
@@ -69,13 +67,6 @@ pub data IsRefusedTable (options : OptionTexts) (table : List ℕ) : Type 0 wher
   NoDays : (head : List (List ℕ)) (rows : List (List (List ℕ))) → AreRows table (head ∷ rows)
       → AreDaysOfRows options (columns_of head) rows [] → IsRefusedTable options table
   NoFirstRow : AreRows table [] → IsRefusedTable options table
-
--- whether the result is the error `Device`: the sink failed
-abbrev pub is_device : {T : Type 0} → Result T SpreadsheetFault → Bool
-is_device (Ok done) = false
-is_device (Err Refused) = false
-is_device (Err Device) = true
-is_device (Err NoMemory) = false
 
 -- ---- Reading row by row. No public contract cites these definitions.
 

@@ -2,13 +2,13 @@
 ghost use Rattle.std.specs.Prelude.{◌≡◌, ◌≢◌, ◌⊎◌, ◌||◌, Ok, Err, IfOk, IsErr, List, false, map};
 ghost use Rattle.csv.specs.Records.{fields_of};
 ghost use Rattle.std.specs.Io.KnownBytes.{Appends};
-ghost use Rattle.kd_tables.specs.Writing.{TakesPrefix};
+ghost use Rattle.kd_tables.specs.{Writing.{TakesPrefix}, WriteFault.{is_device}};
 ghost use Rattle.kd_state.specs.SheetDay.{Day};
 ghost use Rattle.kd_sheet.specs.{Sheet.{month_of}, SheetFile.{sheet_of}, SheetText.{sheet_text}};
 ghost use Rattle.kd_tables.specs.Ports.{port};
 ghost use Rattle.kd_table.specs.Notes.{IsTaken, IsTakenOfRows, Tells, TellsRefused, TellsTaken};
 ghost use Rattle.kd_table.specs.Options.{texts_of};
-ghost use Rattle.kd_table.specs.Table.{AreRefusedRows, TableMeans, IsRefusedTable, is_device};
+ghost use Rattle.kd_table.specs.Table.{AreRefusedRows, TableMeans, IsRefusedTable};
 ghost use Rattle.kd_table.specs.declared.fault.SpreadsheetFault.TheVariants as faults;
 
 use crate::columns::Columns;
@@ -22,7 +22,7 @@ use crate::records::read_records;
 use crate::sheet_writer::write_sheet;
 use csv::ByteRecord;
 use kd_state::SheetDay;
-use kd_tables::{Device, Sink};
+use kd_tables::{Sink, WriteFault};
 use std::alloc::Global;
 
 /// The days that a table means, and the note on the table.
@@ -43,7 +43,6 @@ fn take_rows(
         (map fields_of rows.now) taken.days.items taken.note.items) }
     ensures refused { result ≡ Err faults.Refused
         → AreRefusedRows (texts_of options.now) (fields_of names.now) (map fields_of rows.now) }
-    ensures unwritten { is_device result ≡ false }
 {
     let columns = Columns::of_head(names);
     if is_misnamed(&columns, names) {
@@ -70,7 +69,6 @@ fn take_table(
     ensures taken { IfOk result (λ taken. IsTaken (texts_of options.now) table.now
         taken.days.items taken.note.items) }
     ensures refused { result ≡ Err faults.Refused → IsRefusedTable (texts_of options.now) table.now }
-    ensures unwritten { is_device result ≡ false }
 {
     if !is_well_quoted(table) {
         return Err(SpreadsheetFault::Refused);
@@ -110,38 +108,42 @@ fn tell_refused<N: Sink>(
 /// Writes the key sheet with the days of `table`. If the table isn't refused, `notes` gets a line for each unread
 /// column. It also gets a warning for each day that has fewer pairs or groups than another day of its model.
 ///
-/// On `Refused`, the table is refused: nothing is written, and `notes` gets lines about the table's faults. On
-/// `Device`, the sink has taken a prefix of the sheet. On `NoMemory`, nothing is written, and lines may be missing in
-/// `notes`.
+/// On `Refused`, the table is refused, and `notes` gets lines about the table's faults. On `NoMemory`, lines may be
+/// missing in `notes`.
 pub fn run_sheet<W: Sink, N: Sink>(
     alloc: Global,
     table: &[u8],
     options: &TableOptions<&[u8]>,
     sink: &mut W,
     notes: &mut N,
-) -> Result<(), SpreadsheetFault>
+) -> Result<(), WriteFault<SpreadsheetFault>>
     ensures sheet { IfOk result (λ _. (days : List Day) × TableMeans (texts_of options.now) table.now days
         × Appends (W.taken sink.old) (W.taken sink.new) (sheet_text days)
         × (sheet_of (sheet_text days) ≡ Ok (month_of days))) }
-    ensures refused { result ≡ Err faults.Refused → IsRefusedTable (texts_of options.now) table.now }
-    ensures device { result ≡ Err faults.Device
+    ensures refused { result ≡ Err (WriteFault.Unwritten faults.Refused)
+        → IsRefusedTable (texts_of options.now) table.now }
+    ensures device { result ≡ Err WriteFault.Device
         → (days : List Day) × TableMeans (texts_of options.now) table.now days
         × TakesPrefix (W.taken sink.old) (W.taken sink.new) (sheet_text days) }
     ensures untouched { IsErr result → is_device result ≡ false → sink.new ≡ sink.old }
     ensures told { Tells (port N.taken N.has_failed notes.old notes.new) }
-    ensures noted { result ≢ Err faults.Refused → result ≢ Err faults.NoMemory
+    ensures noted { result ≢ Err (WriteFault.Unwritten faults.Refused)
+        → result ≢ Err (WriteFault.Unwritten faults.NoMemory)
         → TellsTaken (texts_of options.now) table.now (port N.taken N.has_failed notes.old notes.new) }
-    ensures explained { result ≡ Err faults.Refused
+    ensures explained { result ≡ Err (WriteFault.Unwritten faults.Refused)
         → TellsRefused (texts_of options.now) table.now (port N.taken N.has_failed notes.old notes.new) }
     ensures failed { W.has_failed sink.new ≡ (W.has_failed sink.old || is_device result) }
 {
     let Taken { days, note } = match take_table(alloc, table, options) {
         Ok(taken) => taken,
-        Err(fault) => return Err(tell_refused(fault, alloc, table, options, notes)),
+        Err(fault) => {
+            let told = tell_refused(fault, alloc, table, options, notes);
+            return Err(WriteFault::Unwritten(told));
+        }
     };
     put_note(notes, note.as_slice());
     match write_sheet(sink, days.as_slice()) {
         Ok(()) => Ok(()),
-        Err(Device) => Err(SpreadsheetFault::Device),
+        Err(_) => Err(WriteFault::Device),
     }
 }

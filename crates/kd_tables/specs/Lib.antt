@@ -8,5 +8,7 @@ pub mod WiringText
 pub mod Ports
 pub mod Laws
 pub mod Writing
+pub mod WriteFault
+pub mod Direction
 pub mod Refusals
 pub mod Answers

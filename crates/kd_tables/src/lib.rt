@@ -1,6 +1,7 @@
 //! Tables and ports: letters, wheels, reflectors, models, refusals, and the traits for reading and writing bytes.
 #![tactic(auto)]
 
+mod direction;
 pub mod laws;
 mod letter;
 mod lug;
@@ -17,13 +18,15 @@ mod standing;
 mod variant_names;
 mod wheel;
 
+pub use direction::Direction;
 pub use letter::Letter;
 pub use lug::Lug;
 pub use model::{Family, Model, allowed, allowed_reflector, in_box};
 pub use pairs::{have_no_letter_twice, is_apart};
 pub use place::Place;
 pub use ports::{
-    Device, Failed, MemorySink, MemorySource, READ_LIMIT, Sink, Source, is_at_end, put_all,
+    Device, Failed, MemorySink, MemorySource, READ_LIMIT, Sink, Source, WriteFault, is_at_end,
+    put_all,
 };
 pub use reading::Reading;
 pub use reflector::{Reflector, reflecting};

@@ -6,6 +6,7 @@ mod memory_sink;
 mod memory_source;
 mod sink;
 mod source;
+mod write_fault;
 mod writing;
 
 pub use ending::is_at_end;
@@ -15,4 +16,5 @@ pub use memory_sink::MemorySink;
 pub use memory_source::MemorySource;
 pub use sink::Sink;
 pub use source::Source;
+pub use write_fault::WriteFault;
 pub use writing::{Device, put_all};

@@ -1,7 +1,8 @@
 use Rattle.std.proofs.Common.{arith, sym, true, false, ◌∙◌}
 use Rattle.kd_host.proofs.Failing.{err-holds}
 use Rattle.kd_host.proofs.FileNames.{misses_so}
-use Rattle.kd_curator.specs.Files.{all_read, unborrowed_names}
+use Rattle.kd_curator_command.specs.CommandLine.{unborrowed_names}
+use Rattle.kd_curator.specs.Files.{all_read}
 use Rattle.kd_curator.proofs.Reading.{Reads, ask_end, ask_missed, ask_step, asks_one, read_missed, read_step}
 use Rattle.kd_curator.proofs.files.read_contents.Goals as goal
 

@@ -1,7 +1,7 @@
 use Rattle.std.proofs.Common.{◌≡◌, ◌+◌, ℕ, Bool, List, Result, drop, length}
 use Rattle.kd_host.specs.Files.{AreAskedFor, AskedName}
 use Rattle.kd_host.specs.declared.file_fault.FileFault.{FileFault}
-use Rattle.kd_curator.specs.Files.{unborrowed_names}
+use Rattle.kd_curator_command.specs.CommandLine.{unborrowed_names}
 use Rattle.kd_curator.proofs.Reading.{Reads}
 use Rattle.kd_curator.proofs.files.read_contents.Given as goal
 

@@ -1,7 +1,6 @@
 use Rattle.std.proofs.Common.{Bor, Err, List, ap, arith, length, refl, ℕ, ◌∙◌}
 use Rattle.std.proofs.lemmas.List.{length-map}
-use Rattle.kd_curator_command.specs.CommandLine.{unborrowed_command}
-use Rattle.kd_curator.specs.Files.{unborrowed_names}
+use Rattle.kd_curator_command.specs.CommandLine.{unborrowed_command, unborrowed_names}
 use Rattle.kd_curator.specs.Program.{Carried, FileUnread, NoNotes}
 use Rattle.kd_curator.specs.declared.stop.Stop.TheVariants as stops
 use Rattle.kd_curator.proofs.Reading.{reads_all}

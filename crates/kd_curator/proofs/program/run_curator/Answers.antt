@@ -1,5 +1,5 @@
 use Rattle.std.proofs.Common.{[], ap, inl, inr, map, option_map, refl, sym, ◌∙◌, Bor, List, ℕ}
-use Rattle.kd_curator.specs.Files.{unborrowed_names}
+use Rattle.kd_curator_command.specs.CommandLine.{unborrowed_names}
 use Rattle.kd_curator.specs.OutputFile.{ToFile, ToSink}
 use Rattle.kd_curator.specs.Program.{NoNotes}
 use Rattle.kd_curator.proofs.OutputFiles.{other_carried}

@@ -2,9 +2,9 @@ use Rattle.std.proofs.Common.{◌≢◌, [], Some, ap, subst, sym, ◌∙◌}
 use Rattle.kd_tables.specs.Ports.{port}
 use Rattle.kd_new_file.specs.NewFiles.{AddsFile}
 use Rattle.kd_new_file.proofs.ByName.{part_name-apart}
-use Rattle.kd_curator_command.specs.CommandLine.{unborrowed_command}
+use Rattle.kd_curator_command.specs.CommandLine.{unborrowed_command, unborrowed_names}
 use Rattle.kd_curator.specs.Ending.{EndsAs}
-use Rattle.kd_curator.specs.Files.{names_of, unborrowed_names}
+use Rattle.kd_curator.specs.Files.{names_of}
 use Rattle.kd_curator.specs.OutputFile.{NotBegun}
 use Rattle.kd_curator.proofs.OutputFiles.{ends_badly, ends_well}
 use Rattle.kd_curator.proofs.program.run_to_file.Goals as goal

@@ -18,7 +18,7 @@ returns-in-Ok-false-clause-page g c =
 
 pub returns-in-Err-write_receive_page-clause-page : goal.returns-in-Err-write_receive_page-clause-page
 returns-in-Err-write_receive_page-clause-page g c =
-    rw c.from-in-Err-write_receive_page.ensures
+    rw c.of_receive.ensures
     (page_told _ _ _ _ _ _ _ (search rules) (search rules) (Err c.in-Err-write_receive_page.fault)
     c.in-Err-write_receive_page.ensures.page)
 
@@ -34,7 +34,7 @@ returns-in-Ok-false-clause-told g c =
 
 pub returns-in-Err-write_receive_page-clause-told : goal.returns-in-Err-write_receive_page-clause-told
 returns-in-Err-write_receive_page-clause-told g c =
-    rw c.from-in-Err-write_receive_page.ensures
+    rw c.of_receive.ensures
     (notes_told _ _ _ _ _ _ _ (search rules) (search rules) (Err c.in-Err-write_receive_page.fault)
     c.in-Err-write_receive_page.ensures.noted)
 

@@ -8,13 +8,13 @@ returns-in-Ok-clause-page g c =
 
 pub returns-in-Err-clause-page : goal.returns-in-Err-clause-page
 returns-in-Err-clause-page g c =
-    rw c.from-in-Err.ensures (page_told _ _ _ _ _ _ _ (search rules) (Err c.in-Err.fault) c.in-Err.ensures.page)
+    rw c.of_send.ensures (page_told _ _ _ _ _ _ _ (search rules) (Err c.in-Err.fault) c.in-Err.ensures.page)
 
 pub returns-in-Err-clause-untouched : goal.returns-in-Err-clause-untouched
 returns-in-Err-clause-untouched g c =
-    rw c.from-in-Err.ensures (λ err other. untouched_told c.in-Err.fault (c.in-Err.ensures.untouched refl) other)
+    rw c.of_send.ensures (λ err other. untouched_told c.in-Err.fault (c.in-Err.ensures.untouched refl) other)
 
 pub returns-in-Err-clause-failed : goal.returns-in-Err-clause-failed
 returns-in-Err-clause-failed g c =
-    rw c.from-in-Err.ensures
+    rw c.of_send.ensures
     (c.in-Err.ensures.failed ∙ ap (λ b. g.W.Sink.has_failed c.args.sink.now || b) (device_told c.in-Err.fault))

@@ -14,4 +14,4 @@ returns-in-Err-clause-sheet g c =
     at c.in-Err.ensures.refused in
     let stops = rw (c.as_bytes.ensures.value, c.as_bytes-2.ensures.value, c.as_bytes-3.ensures.value)
     at c.in-Err.ensures.device in
-    rw c.from.ensures (not_made _ _ _ c.in-Err.fault refused stops)
+    rw c.of_sheet.ensures (not_made _ _ _ c.in-Err.fault refused stops)

@@ -1,19 +1,19 @@
-use Rattle.kd_curator_command.proofs.Prelude.{codes, found_of, refl, rows_of, rules}
-use Rattle.kd_curator_command.proofs.CommandLines.{missing, only_look, read_maybe, read_none, read_some}
+use Rattle.kd_curator_command.proofs.Prelude.{[], ◌∷◌, ◌++◌, ◌∙◌, ap, codes, found_of, rows_of, rules}
+use Rattle.kd_curator_command.specs.CommandLine.{unborrowed_names}
+use Rattle.kd_curator_command.proofs.CommandLines.{files_read, only_look, read_none, read_some}
 use Rattle.kd_curator_command.proofs.command.look_of.Goals as goal
 
-pub returns-in_err-first-clause-none : goal.returns-in_err-first-clause-none
-returns-in_err-first-clause-none c =
+pub returns-in_err-get_str-clause-none : goal.returns-in_err-get_str-clause-none
+returns-in_err-get_str-clause-none c =
     let found = found_of c.args.words.now in
-    let none = read_none found (codes "FILE") c.get_str.result c.get_str.ensures c.in_err-first.was in
-    λ _ command of. let is = only_look _ command of in missing (rows_of found) (codes "FILE") is.0.first none is.1.first
+    let none = read_none found (codes "FILE") c.get_str.result c.get_str.ensures c.in_err-get_str.was in
+    λ _ command of. let is = only_look _ command of in let wrong = rw none at is.1.first in cc
 
 pub returns-clause-said : goal.returns-clause-said
 returns-clause-said c =
     let found = found_of c.args.words.now in
-    record {
-      name = refl;
-      first = read_some found (codes "FILE") c.get_str.result c.in_ok-first.first c.get_str.ensures (search rules);
-      second = read_maybe found (codes "FILE2") _ c.get_str-second.ensures;
-      third = read_maybe found (codes "FILE3") _ c.get_str-third.ensures;
-    }
+    let first = c.in_ok-get_str.field-0 in
+    files_read (rows_of found) first.now _ _ _
+    (read_some found (codes "FILE") c.get_str.result first c.get_str.ensures (search rules))
+    (ap unborrowed_names (c.push.ensures.items ∙ ap (λ l. l ++ first ∷ []) c.new-files.ensures))
+    c.push_file.ensures.items c.push_file-2.ensures.items

@@ -9,4 +9,9 @@ returns-in_err-language-clause-none c =
     λ _ task of. c.language_asked.ensures.none (search rules) task.language of.language
 
 pub returns-clause-said : goal.returns-clause-said
-returns-clause-said c = record { same = refl; day = c.in_ok-day.ensures.said; language = (search rules) }
+returns-clause-said c = record {
+  same = refl;
+  day = c.in_ok-day.ensures.said;
+  results = c.results_asked.ensures;
+  language = (search rules);
+}

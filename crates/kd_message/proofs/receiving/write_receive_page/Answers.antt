@@ -1,4 +1,4 @@
-use Rattle.std.proofs.Common.{◌≡◌, ◌∙◌, ◌≤◌, length, arith, refl, ap, sym, subst, true, Err, rules}
+use Rattle.std.proofs.Common.{◌≡◌, ◌∙◌, ◌≤◌, length, arith, refl, sym, subst, true, rules}
 use Rattle.kd_lost.specs.DamagedForm.{damaged_parts_of}
 use Rattle.kd_lost.proofs.CompletedParts.{as_many_parts}
 use Rattle.kd_pictures.proofs.Drawings.{writes_part}
@@ -8,7 +8,7 @@ use Rattle.kd_message.proofs.receiving.write_receive_page.Goals as goal
 
 pub returns-in-Err-clause-page : goal.returns-in-Err-clause-page
 returns-in-Err-clause-page g c =
-    FormNotRead c.in-Err.fault c.in-Err.ensures.read (ap Err c.page_fault.ensures) (record { has = refl; well = refl })
+    FormNotRead c.in-Err.fault c.in-Err.ensures.read refl (record { has = refl; well = refl })
 
 pub draw_page-requires-clause-workable : goal.draw_page-requires-clause-workable
 draw_page-requires-clause-workable g c =
@@ -54,7 +54,7 @@ draw_notes-requires-clause-workable g c =
     (are_workable_parts c.args.day.now c.args.form.now c.in-Ok.parts.items c.in-Ok.ensures.read)
 
 pub returns-in-Err-clause-noted : goal.returns-in-Err-clause-noted
-returns-in-Err-clause-noted g c = NotNoted c.in-Err.fault (ap Err c.page_fault.ensures)
+returns-in-Err-clause-noted g c = NotNoted c.in-Err.fault refl
 
 pub returns-then-failed-clause-noted : goal.returns-then-failed-clause-noted
 returns-then-failed-clause-noted g c =

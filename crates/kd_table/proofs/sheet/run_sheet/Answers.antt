@@ -5,7 +5,8 @@ use Rattle.kd_table.proofs.sheet.run_sheet.Goals as goal
 
 pub returns-in-Err-clause-refused : goal.returns-in-Err-clause-refused
 returns-in-Err-clause-refused g c = λ same.
-    let e = still_refused c.in-Err.fault c.tell_refused.result c.tell_refused.ensures.fault (same_fault _ _ same) in
+    let told = c.tell_refused-told in
+    let e = still_refused c.in-Err.fault told.result told.ensures.fault (same_fault _ _ same) in
     c.take_table.ensures.refused (c.in-Err.is ∙ ap (λ fault. Err fault) e)
 
 pub returns-in-Ok-write_sheet-clause-sheet : goal.returns-in-Ok-write_sheet-clause-sheet
