@@ -109,7 +109,7 @@ impl Model {
             (Model::EnigmaI, 1..=3) => &WHEELS[..5],
             (Model::M3, 1..=3) | (Model::M4, 2..=4) => &WHEELS[..8],
             (Model::M4, 1) => &WHEELS[8..],
-            _ => &[],
+            (Model::EnigmaI | Model::M3 | Model::M4 | Model::M209, _) => &[],
         }
     }
 
