@@ -30,28 +30,6 @@ pub(crate) fn days_of(model: Model, sheet: &Sheet) -> ArrayVec<u8, 31>
     days
 }
 
-/// Adds the days in `numbers` that the sheet has for the model.
-fn add_days(days: &mut ArrayVec<u8, 31>, model: Model, sheet: &Sheet, numbers: &[u8])
-    requires { array_vec_len days.old + length numbers.now ≤ 31 }
-    ensures { days.new.items ≡ days.old.items ++ filter (has_day_of model sheet.now) numbers.now }
-{
-    if let [number, rest @ ..] = numbers {
-        add_if(days, *number, has_day_of(model, sheet, *number));
-        add_days(days, model, sheet, rest);
-    }
-}
-
-/// Adds the day `number` if `is_wanted`.
-fn add_if(days: &mut ArrayVec<u8, 31>, number: u8, is_wanted: bool)
-    requires { array_vec_len days.old + 1 ≤ 31 }
-    ensures items { days.new.items ≡ days.old.items ++ (if is_wanted then number ∷ [] else []) }
-    ensures len { array_vec_len days.new ≤ array_vec_len days.old + 1 }
-{
-    if is_wanted {
-        days.push(number);
-    }
-}
-
 /// Whether the sheet has the day `number`, and this day is for the model.
 #[tactic(auto, unfolding(crate::specs::Days::has_day_of))]
 pub fn has_day_of(model: Model, sheet: &Sheet, number: u8) -> bool
@@ -80,5 +58,27 @@ pub(crate) fn has_any_day(sheet: &Sheet, numbers: &[u8]) -> bool
     match numbers {
         [number, rest @ ..] => sheet.day(*number).is_some() || has_any_day(sheet, rest),
         [] => false,
+    }
+}
+
+/// Adds the days in `numbers` that the sheet has for the model.
+fn add_days(days: &mut ArrayVec<u8, 31>, model: Model, sheet: &Sheet, numbers: &[u8])
+    requires { array_vec_len days.old + length numbers.now ≤ 31 }
+    ensures { days.new.items ≡ days.old.items ++ filter (has_day_of model sheet.now) numbers.now }
+{
+    if let [number, rest @ ..] = numbers {
+        add_if(days, *number, has_day_of(model, sheet, *number));
+        add_days(days, model, sheet, rest);
+    }
+}
+
+/// Adds the day `number` if `is_wanted`.
+fn add_if(days: &mut ArrayVec<u8, 31>, number: u8, is_wanted: bool)
+    requires { array_vec_len days.old + 1 ≤ 31 }
+    ensures items { days.new.items ≡ days.old.items ++ (if is_wanted then number ∷ [] else []) }
+    ensures len { array_vec_len days.new ≤ array_vec_len days.old + 1 }
+{
+    if is_wanted {
+        days.push(number);
     }
 }
