@@ -17,8 +17,10 @@ use Rattle.kd_state.specs.SheetDay.{IsLegalPinDay, Pin, PinDay}
 use Rattle.kd_pictures.specs.Template.{letter_text}
 use Rattle.kd_table.specs.Items.{is_blank, joined, letters_in, normal, readings_in, ring_of_word}
 use Rattle.kd_table.specs.Options.{OptionTexts}
+unfoldable use Rattle.kd_table.specs.Names.{is_named, model_named}
 unfoldable use Rattle.kd_table.specs.PinRow.{pin_values, pins_in}
-use Rattle.kd_table.specs.Row.{is_blank_row, row_values}
+unfoldable use Rattle.kd_table.specs.Row.{fits_columns, is_blank_row}
+use Rattle.kd_table.specs.Row.{row_values}
 use Rattle.kd_key_table.proofs.CellWords.{hyphened_cell, letters_cell, short_letters}
 use Rattle.kd_key_table.proofs.PlainCells.{IsPlain, IsPlainRow, line}
 use Rattle.kd_key_table.proofs.RotorRows.{each, every, number_again}
@@ -185,11 +187,11 @@ pin_again options day legal has =
 
 pub pin_row : (options : OptionTexts) (day : PinDay) → IsLegalPinDay day
     → row_values options (table_columns true) (pin_cells day) ≡ Some (Pin day)
-unfolding field_at
+unfolding field_at fits_columns is_named model_named
 pin_row options day legal = ap (option_map Pin) (pin_again options day legal (has_parts day legal))
 
 pub pin_seen : (day : PinDay) → IsLegalPinDay day → is_blank_row (table_columns true) (pin_cells day) ≡ false
-unfolding field_at
+unfolding field_at is_blank_row
 pin_seen day legal = let last = legal.day.last in rw (number_is day.day (omega arith)).seen refl
 
 pub pin_plain : (day : PinDay) → IsLegalPinDay day → IsPlainRow (pin_cells day)

@@ -17,11 +17,13 @@ use Rattle.kd_state.specs.SameParts.{same_reflector}
 use Rattle.kd_state.specs.SheetDay.{HasWheelLetters, IsLegalRotorDay, Rotor, RotorDay}
 use Rattle.kd_state.specs.declared.sheet_day.rotor_entry.SheetWheel.{SheetWheel}
 use Rattle.kd_table.specs.Items.{group_of, groups_in, is_blank, letters_in, number_in, number_of, pair_of, pairs_in, ring_of_word, single, slot_of, wheels_in, words}
-use Rattle.kd_table.specs.Names.{model_named, reflector_named}
+unfoldable use Rattle.kd_table.specs.Names.{is_named, model_named}
+use Rattle.kd_table.specs.Names.{reflector_named}
 use Rattle.kd_table.specs.Options.{OptionTexts}
 unfoldable use Rattle.kd_table.specs.RotorRow.{rotor_values}
 use Rattle.kd_table.specs.RotorRow.{wheels_with}
-use Rattle.kd_table.specs.Row.{fits_columns, is_blank_row, row_values, values_of_model}
+unfoldable use Rattle.kd_table.specs.Row.{fits_columns, is_blank_row}
+use Rattle.kd_table.specs.Row.{row_values, values_of_model}
 use Rattle.kd_key_table.proofs.CellWords.{IsWordOf, letters_cell, short_words, words_cell}
 use Rattle.kd_key_table.proofs.PlainCells.{IsPlain, IsPlainRow, line}
 use Rattle.kd_key_table.proofs.TableHead.{table_columns}
@@ -60,6 +62,7 @@ each P holds (x ∷ xs) = (holds x, each P holds xs)
 
 model_again : (model : Model) → (model_named (model_text model) ≡ Some model) × (is_blank (model_text model) ≡ false)
     × IsPlain (model_text model)
+unfolding is_named model_named
 model_again EnigmaI = (refl, refl, refl)
 model_again M3 = (refl, refl, refl)
 model_again M4 = (refl, refl, refl)
@@ -68,6 +71,7 @@ model_again M209 = (refl, refl, refl)
 reflector_again : (model : Model) (reflector : Reflector)
     → list_any (same_reflector reflector) (reflectors_of model) ≡ true
     → reflector_named model (reflector_text reflector) ≡ Some reflector
+unfolding is_named
 reflector_again model reflector has = grind arith
 
 reflector_seen : (reflector : Reflector) → (is_blank (reflector_text reflector) ≡ false) × IsPlain (reflector_text reflector)
@@ -225,7 +229,7 @@ by_model options has_lists day model is has =
 
 rotor_fits : (has_lists : Bool) (day : RotorDay)
     → fits_columns (table_columns has_lists) (rotor_cells has_lists day) ≡ true
-unfolding field_at
+unfolding field_at fits_columns
 rotor_fits false day = refl
 rotor_fits true day = refl
 
@@ -238,7 +242,7 @@ rotor_row options has_lists day legal =
 
 pub rotor_seen : (has_lists : Bool) (day : RotorDay) → IsLegalRotorDay day
     → is_blank_row (table_columns has_lists) (rotor_cells has_lists day) ≡ false
-unfolding field_at
+unfolding field_at is_blank_row
 rotor_seen has_lists day legal =
     let last = legal.day.last in
     rw (number_is day.day (omega arith)).seen refl

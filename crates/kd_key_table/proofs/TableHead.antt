@@ -3,8 +3,10 @@ use Rattle.std.proofs.Common.{◌≡◌, ◌++◌, ◌∷◌, [], ℕ, Bool, tru
 use Rattle.std.specs.Prelude.{codes, if◌then◌else◌}
 unfoldable use Rattle.csv.specs.Records.{field_at}
 unfoldable use Rattle.kd_slips.specs.NearNames.{is_near}
-unfoldable use Rattle.kd_table.specs.Columns.{columns_of}
-unfoldable use Rattle.kd_table.specs.NearNames.{is_misnamed}
+unfoldable use Rattle.kd_table.specs.Columns.{column_from, columns_of, names_column}
+unfoldable use Rattle.kd_table.specs.Names.{is_named}
+unfoldable use Rattle.kd_table.specs.NearNames.{is_meant, is_misnamed, near_from}
+unfoldable use Rattle.kd_table.specs.Row.{is_column_read}
 use Rattle.kd_table.specs.declared.columns.Columns.{Columns}
 use Rattle.kd_key_table.proofs.PlainCells.{IsPlainRow, line}
 use Rattle.kd_key_table.specs.CsvTable.{head_line}
@@ -54,12 +56,15 @@ head_plain true =
     (refl, (refl, (refl, (refl, (refl, (refl, (refl, (refl, (refl, (refl, (refl, (refl, (refl, (refl, (refl, (refl, tt))))))))))))))))
 
 pub columns_are : (has_lists : Bool) → columns_of (head_cells has_lists) ≡ table_columns has_lists
-unfolding columns_of field_at
+unfolding column_from columns_of field_at is_named names_column
 columns_are false = refl
 columns_are true = refl
 
 -- no column is misnamed
+table_named : (has_lists : Bool) → is_misnamed (table_columns has_lists) (head_cells has_lists) ≡ false
+unfolding field_at is_column_read is_meant is_misnamed is_near near_from
+table_named false = refl
+table_named true = refl
+
 pub well_named : (has_lists : Bool) → is_misnamed (columns_of (head_cells has_lists)) (head_cells has_lists) ≡ false
-unfolding columns_of field_at is_misnamed is_near
-well_named false = refl
-well_named true = refl
+well_named has_lists = rw (columns_are has_lists) (table_named has_lists)

@@ -16,6 +16,7 @@ use Rattle.kd_tables.specs.declared.wheel.Wheel.TheVariants.{I, II, III, IV, V, 
 unfoldable use Rattle.kd_sheet.specs.Bars.{reading_of_text}
 use Rattle.kd_pictures.specs.Template.{letter_text, ordinal_text}
 use Rattle.kd_table.specs.Items.{group_of, hyphened, is_blank, letters, number_of, pair_of, ring_of_word, slot_of, words}
+unfoldable use Rattle.kd_table.specs.Names.{is_named}
 use Rattle.kd_table.specs.Names.{capital, is_capital_letter, is_digit, is_gap}
 use Rattle.kd_key_table.proofs.CellWords.{IsWordOf, Stays, read_words, word_is}
 use Rattle.kd_key_table.proofs.PlainCells.{IsPlain}
@@ -133,6 +134,7 @@ words_plain text (word ∷ more) plain =
 -- ---- wheels
 
 pub wheel_is : (wheel : Wheel) → IsWordOf words slot_of (wheel_text wheel) (Some wheel)
+unfolding is_named
 wheel_is I = record { last = refl; before = λ rest. refl }
 wheel_is II = record { last = refl; before = λ rest. refl }
 wheel_is III = record { last = refl; before = λ rest. refl }

@@ -20,7 +20,7 @@ use kd_pictures::template::{draw_letter, draw_letters};
 use kd_pins::PinSet;
 use kd_sheet::Sheet;
 use kd_state::{Entry, PinEntry, RotorEntry, SheetDay, SheetWheel};
-use kd_tables::{Letter, Model, Reading, Sink, ring1, ring2, ring3, ring4, ring5, ring6};
+use kd_tables::{Letter, Model, Reading, Ring, Sink, ring1, ring2, ring3, ring4, ring5, ring6};
 
 /// Writes the CSV table of the sheet's days.
 #[tactic(auto, unfolding(crate::specs::CsvTable::csv_text))]
@@ -65,7 +65,7 @@ fn draw_day<W: Sink>(sink: &mut W, has_lists: bool, day: Option<&SheetDay>)
 {
     match day {
         Some(day) => draw_entry(sink, has_lists, day.entry()),
-        None => draw(sink, ""),
+        None => {}
     }
 }
 
@@ -153,20 +153,20 @@ fn draw_pin_line<W: Sink>(sink: &mut W, entry: &PinEntry)
 fn draw_pins<W: Sink>(sink: &mut W, pins: &PinSet)
     ensures { Draws W.taken W.has_failed sink.old sink.new (effective_cells pins.now) }
 {
-    draw_wheel(sink, &ring1().letters(), &pins.w1);
-    draw_wheel(sink, &ring2().letters(), &pins.w2);
-    draw_wheel(sink, &ring3().letters(), &pins.w3);
-    draw_wheel(sink, &ring4().letters(), &pins.w4);
-    draw_wheel(sink, &ring5().letters(), &pins.w5);
-    draw_wheel(sink, &ring6().letters(), &pins.w6);
+    draw_wheel(sink, &ring1(), &pins.w1);
+    draw_wheel(sink, &ring2(), &pins.w2);
+    draw_wheel(sink, &ring3(), &pins.w3);
+    draw_wheel(sink, &ring4(), &pins.w4);
+    draw_wheel(sink, &ring5(), &pins.w5);
+    draw_wheel(sink, &ring6(), &pins.w6);
 }
 
-/// Writes the cell of a pin wheel that has these letters and pins.
-fn draw_wheel<W: Sink>(sink: &mut W, letters: &[Letter], pins: &[bool])
-    ensures { Draws W.taken W.has_failed sink.old sink.new (effective_cell letters.now pins.now) }
+/// Writes the cell of the pin wheel that has the letters `ring` and these pins.
+fn draw_wheel<const N: usize, W: Sink>(sink: &mut W, ring: &Ring<N>, pins: &[bool])
+    ensures { Draws W.taken W.has_failed sink.old sink.new (effective_cell ring.now pins.now) }
 {
     draw(sink, COMMA);
-    draw_effective(sink, letters, pins);
+    draw_effective(sink, &ring.letters(), pins);
 }
 
 fn draw_effective<W: Sink>(sink: &mut W, letters: &[Letter], pins: &[bool])
@@ -186,7 +186,5 @@ fn draw_if<W: Sink>(sink: &mut W, letter: Letter, effective: bool)
 {
     if effective {
         draw_letter(sink, letter);
-    } else {
-        draw(sink, "");
     }
 }

@@ -30,6 +30,26 @@ pub(crate) fn days_of(model: Model, sheet: &Sheet) -> ArrayVec<u8, 31>
     days
 }
 
+/// The first of some days. `last` is the last of these days, and `earlier` has all others in falling order.
+pub(crate) fn first_of(last: u8, earlier: &[u8]) -> u8
+    ensures { result ≡ first_of last earlier.now }
+{
+    match earlier {
+        [day, rest @ ..] => first_of(*day, rest),
+        [] => last,
+    }
+}
+
+/// Whether the sheet has at least one of the days `numbers`.
+pub(crate) fn has_any_day(sheet: &Sheet, numbers: &[u8]) -> bool
+    ensures { result ≡ list_any (λ number. is_some (day_of sheet.now number)) numbers.now }
+{
+    match numbers {
+        [number, rest @ ..] => sheet.day(*number).is_some() || has_any_day(sheet, rest),
+        [] => false,
+    }
+}
+
 /// Adds the days in `numbers` that the sheet has for the model.
 fn add_days(days: &mut ArrayVec<u8, 31>, model: Model, sheet: &Sheet, numbers: &[u8])
     requires { array_vec_len days.old + length numbers.now ≤ 31 }
@@ -49,25 +69,5 @@ fn add_if(days: &mut ArrayVec<u8, 31>, number: u8, is_wanted: bool)
 {
     if is_wanted {
         days.push(number);
-    }
-}
-
-/// The first of some days. `last` is the last of these days, and `earlier` has all others in falling order.
-pub(crate) fn first_of(last: u8, earlier: &[u8]) -> u8
-    ensures { result ≡ first_of last earlier.now }
-{
-    match earlier {
-        [day, rest @ ..] => first_of(*day, rest),
-        [] => last,
-    }
-}
-
-/// Whether the sheet has at least one of the days `numbers`.
-pub(crate) fn has_any_day(sheet: &Sheet, numbers: &[u8]) -> bool
-    ensures { result ≡ list_any (λ number. is_some (day_of sheet.now number)) numbers.now }
-{
-    match numbers {
-        [number, rest @ ..] => sheet.day(*number).is_some() || has_any_day(sheet, rest),
-        [] => false,
     }
 }

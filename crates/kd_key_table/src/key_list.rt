@@ -44,7 +44,7 @@ fn draw_day<W: Sink>(sink: &mut W, language: Language, day: Option<&SheetDay>)
 {
     match day {
         Some(day) => draw_list_of(sink, language, day),
-        None => draw(sink, ""),
+        None => {}
     }
 }
 
@@ -52,7 +52,7 @@ fn draw_list_of<W: Sink>(sink: &mut W, language: Language, day: &SheetDay)
     ensures { Draws W.taken W.has_failed sink.old sink.new (key_list_of language (Some day.now)) }
 {
     match day.entry() {
-        Entry::Rotor(_) => draw(sink, ""),
+        Entry::Rotor(_) => {}
         Entry::Pin(entry) => draw_list(sink, language, entry, &check_of(day, entry)),
     }
 }

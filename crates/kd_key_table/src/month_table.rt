@@ -27,6 +27,16 @@ pub(crate) fn draw_month<W: Sink>(sink: &mut W, language: Language, model: Model
     draw_days(sink, language, model, sheet, days.as_slice());
 }
 
+/// Whether the model's key sheets give rings as numbers, and not as letters.
+pub(crate) fn has_numbered_rings(model: Model) -> bool
+    ensures { result ≡ has_numbered_rings model }
+{
+    match model {
+        Model::EnigmaI => true,
+        Model::M3 | Model::M4 | Model::M209 => false,
+    }
+}
+
 /// Writes the table of the days `days`, which stand in falling order.
 fn draw_days<W: Sink>(sink: &mut W, language: Language, model: Model, sheet: &Sheet, days: &[u8])
     ensures { Draws W.taken W.has_failed sink.old sink.new
@@ -34,8 +44,6 @@ fn draw_days<W: Sink>(sink: &mut W, language: Language, model: Model, sheet: &Sh
 {
     if let [last, earlier @ ..] = days {
         draw_table(sink, language, model, sheet, *last, earlier);
-    } else {
-        draw(sink, "");
     }
 }
 
@@ -112,7 +120,7 @@ fn draw_day<W: Sink>(sink: &mut W, language: Language, day: Option<&SheetDay>)
 {
     match day {
         Some(day) => draw_entry(sink, language, day.entry()),
-        None => draw(sink, ""),
+        None => {}
     }
 }
 
@@ -121,7 +129,7 @@ fn draw_entry<W: Sink>(sink: &mut W, language: Language, entry: &Entry)
 {
     match entry {
         Entry::Rotor(entry) => draw_row(sink, language, entry),
-        Entry::Pin(_) => draw(sink, ""),
+        Entry::Pin(_) => {}
     }
 }
 
@@ -167,16 +175,6 @@ fn draw_wheels<W: Sink>(sink: &mut W, language: Language, wheels: &[SheetWheel])
     if let [wheel, rest @ ..] = wheels {
         fill(sink, language, WHEEL, &[Value::Wheel(wheel.wheel)]);
         draw_wheels(sink, language, rest);
-    }
-}
-
-/// Whether the model's key sheets give rings as numbers, and not as letters.
-pub(crate) fn has_numbered_rings(model: Model) -> bool
-    ensures { result ≡ has_numbered_rings model }
-{
-    match model {
-        Model::EnigmaI => true,
-        Model::M3 | Model::M4 | Model::M209 => false,
     }
 }
 

@@ -70,9 +70,7 @@ fn draw_page<W: Sink>(sink: &mut W, language: Language, sheet: &Sheet)
 fn draw_no_days<W: Sink>(sink: &mut W, language: Language, sheet: &Sheet)
     ensures { Draws W.taken W.has_failed sink.old sink.new (no_days language (has_days sheet.now)) }
 {
-    if has_any_day(sheet, &DAYS) {
-        draw(sink, "");
-    } else {
+    if !has_any_day(sheet, &DAYS) {
         draw_in(sink, language, NO_DAYS);
     }
 }

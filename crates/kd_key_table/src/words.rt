@@ -34,6 +34,18 @@ pub(crate) struct RingLetter;
 /// A kind of word in a table's cell: the ring of a wheel, as a number.
 pub(crate) struct RingNumber;
 
+/// Writes the words with spaces between them. If there are no words, writes a hyphen.
+pub(crate) fn draw_words<Kind, W: Sink, T: CellWord<Kind>>(sink: &mut W, words: &[T])
+    ensures { Draws W.taken W.has_failed sink.old sink.new (words_text T.text words.now) }
+{
+    if let [word, rest @ ..] = words {
+        word.draw_word(sink);
+        draw_spaced(sink, rest);
+    } else {
+        draw(sink, NOTHING);
+    }
+}
+
 impl CellWord<Whole> for Letter {
     ghost use Rattle.kd_pictures.specs.Template.{letter_text};
 
@@ -109,18 +121,6 @@ impl CellWord<RingNumber> for SheetWheel {
 
     fn draw_word<W: Sink>(&self, sink: &mut W) {
         draw_ordinal(sink, self.ring);
-    }
-}
-
-/// Writes the words with spaces between them. If there are no words, writes a hyphen.
-pub(crate) fn draw_words<Kind, W: Sink, T: CellWord<Kind>>(sink: &mut W, words: &[T])
-    ensures { Draws W.taken W.has_failed sink.old sink.new (words_text T.text words.now) }
-{
-    if let [word, rest @ ..] = words {
-        word.draw_word(sink);
-        draw_spaced(sink, rest);
-    } else {
-        draw(sink, NOTHING);
     }
 }
 

@@ -67,15 +67,20 @@ short_name cells.Plugs = codes "Stecker"
 short_name cell = german_name cell
 
 -- whether the text is one of the three names of a cell's column
-abbrev pub names_column : Cell → List ℕ → Bool
+unfoldable pub names_column : Cell → List ℕ → Bool
 names_column cell text =
     is_named (english_name cell) text || is_named (german_name cell) text || is_named (short_name cell) text
 
 -- ---- The columns of a table.
 
+-- the first of `count` columns, from `place` on, with one of the three names of the cell's column
+unfoldable pub column_from : Cell → List (List ℕ) → ℕ → ℕ → Option ℕ
+column_from cell head place count =
+    find (λ at. names_column cell (cell_at (Some at) head)) (range_with_len place count)
+
 -- the place of the cell's column: the first column with one of its three names, among the table's first 64 columns
 abbrev pub column_named : Cell → List (List ℕ) → Option ℕ
-column_named cell head = find (λ place. names_column cell (cell_at (Some place) head)) (range_with_len 0 64)
+column_named cell head = column_from cell head 0 64
 
 -- the columns of a Converter's pins, wheel by wheel
 abbrev pub pin_columns : List (List ℕ) → List (Option ℕ)

@@ -8,6 +8,8 @@ use Rattle.std.specs.Option.{option_and_then, option_map}
 use Rattle.kd_tables.specs.declared.wheel.Wheel.{Wheel}
 use Rattle.kd_state.specs.LineWords.{words_of}
 use Rattle.kd_sheet.specs.Bars.{reading_of_text}
+use Rattle.kd_table.specs.declared.items.WordRule.{WordRule}
+use Rattle.kd_table.specs.declared.items.WordRule.TheVariants as word_rules
 use Rattle.kd_table.specs.Names.{capital, is_digit, is_gap, is_capital_letter, wheel_named}
 
 abbrev pub is_blank : List ℕ → Bool
@@ -132,3 +134,10 @@ exactly count values = if nat_eq (length values) count then Some values else Non
 abbrev pub joined : List ℕ → Option (List ℕ)
 joined cell =
     if nat_le (length cell) 192 then Some (filter (λ byte. not (byte == 32)) (map normal cell)) else None
+
+-- ---- The names of the rules in the code. No public contract cites this definition.
+
+abbrev pub bytes_of : WordRule → Bytes
+bytes_of word_rules.Gaps = words
+bytes_of word_rules.Letters = letters
+bytes_of word_rules.Hyphens = hyphened

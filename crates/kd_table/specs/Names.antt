@@ -49,11 +49,11 @@ unquoted cell =
     then take (length cell - 6) (drop 3 cell) else cell
 
 -- whether the cell has at most 32 bytes, and its text is the name `name`
-abbrev pub is_named : List ℕ → List ℕ → Bool
+unfoldable pub is_named : List ℕ → List ℕ → Bool
 is_named name cell = nat_le (length cell) 32 && bytes_eq (plain (unquoted cell)) (plain name)
 
 -- the model whose name is in the cell
-abbrev pub model_named : List ℕ → Option Model
+unfoldable pub model_named : List ℕ → Option Model
 model_named cell = find (λ model. is_named (model_text model) cell) all_models
 
 -- the wheel with the name `word`

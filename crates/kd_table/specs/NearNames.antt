@@ -28,14 +28,19 @@ is_near_column cell name =
     is_near_name name (english_name cell) || is_near_name name (german_name cell) || is_near_name name (short_name cell)
 
 -- whether the column at `place` isn't read, but its name is nearly one of the names for the cell's column
-abbrev pub is_meant : Columns → List (List ℕ) → Cell → ℕ → Bool
+unfoldable pub is_meant : Columns → List (List ℕ) → Cell → ℕ → Bool
 is_meant columns head cell place =
     not (is_column_read columns place) && is_near_column cell (cell_at (Some place) head)
+
+-- the first of `count` columns, from `place` on, that isn't read, but whose name is nearly one of the names for the
+-- cell's column
+unfoldable pub near_from : Columns → List (List ℕ) → Cell → ℕ → ℕ → Option ℕ
+near_from columns head cell place count = find (is_meant columns head cell) (range_with_len place count)
 
 -- the first column, among the first 64, that isn't read, but whose name is nearly one of the names for the cell's
 -- column
 abbrev pub near_column : Columns → List (List ℕ) → Cell → Option ℕ
-near_column columns head cell = find (is_meant columns head cell) (range_with_len 0 64)
+near_column columns head cell = near_from columns head cell 0 64
 
 -- whether the cell's column is misnamed: the table lacks this column, and an unread column's name is nearly one of the
 -- missing column's names

@@ -65,9 +65,13 @@ unread_line head place =
     if is_blank (cell_at (Some place) head) || is_column_read (columns_of head) place then []
     else codes "column " ++ shown (cell_at (Some place) head) ++ unread_words
 
+-- the notes on the unread ones of `count` columns, from `place` on, of a table whose first row is `head`
+unfoldable pub unread_from : List (List ℕ) → ℕ → ℕ → List ℕ
+unread_from head place count = flat_map (unread_line head) (range_with_len place count)
+
 -- the notes on all unread columns, among the first 64, of a table whose first row is `head`
-unfoldable pub unread_note : List (List ℕ) → List ℕ
-unread_note head = flat_map (unread_line head) (range_with_len 0 64)
+abbrev pub unread_note : List (List ℕ) → List ℕ
+unread_note head = unread_from head 0 64
 
 -- The table has the first row `head`.
 abbrev pub HasHead : List ℕ → List (List ℕ) → Type 0

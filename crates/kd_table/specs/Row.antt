@@ -24,11 +24,11 @@ abbrev pub is_at : ℕ → Option ℕ → Bool
 is_at place column = option_map_or (λ other. other == place) column false
 
 -- whether the column at `place` is read
-abbrev pub is_column_read : Columns → ℕ → Bool
+unfoldable pub is_column_read : Columns → ℕ → Bool
 is_column_read columns place = list_any (is_at place) (places_of columns) || list_any (is_at place) columns.pins
 
 -- whether a row is blank in all columns that are read
-abbrev pub is_blank_row : Columns → List (List ℕ) → Bool
+unfoldable pub is_blank_row : Columns → List (List ℕ) → Bool
 is_blank_row columns row =
     list_all (λ column. is_blank (cell_at column row)) (places_of columns)
     && list_all (λ column. is_blank (cell_at column row)) columns.pins
@@ -40,7 +40,7 @@ values_of_model options columns row model =
     (option_map Pin (pin_values options columns row)) (family_of model)
 
 -- whether a row has a cell in each column of the table, and only blank cells beyond the last column
-abbrev pub fits_columns : Columns → List (List ℕ) → Bool
+unfoldable pub fits_columns : Columns → List (List ℕ) → Bool
 fits_columns columns row =
     nat_le columns.count (length row)
     && list_all (λ place. is_blank (cell_at (Some place) row)) (range_with_len columns.count (length row - columns.count))

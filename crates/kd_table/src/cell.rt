@@ -5,7 +5,7 @@ ghost use Rattle.std.specs.List.{list_all};
 ghost use Rattle.csv.specs.Records.{fields_of};
 ghost use Rattle.kd_table.specs.Cells.{are_pins, cells_of, column_of, day_in, has_columns, has_text, is_optional};
 ghost use Rattle.kd_table.specs.Cells.{is_read, option_of, row_model, slots, text_of, windows};
-ghost use Rattle.kd_table.specs.Items.{exactly, joined};
+ghost use Rattle.kd_table.specs.Items.{exactly, joined, letters_in};
 ghost use Rattle.kd_table.specs.Names.{reflector_named};
 ghost use Rattle.kd_table.specs.Options.{texts_of};
 ghost use Rattle.kd_sheet.specs.PinWheels.{pins_of_text};
@@ -41,28 +41,41 @@ pub enum Cell {
     Bars,
 }
 
-/// The cells that a rotor machine's day has besides its number and its model.
-static ROTOR_CELLS: [Cell; 6] = [
-    Cell::Reflector,
-    Cell::Wheels,
-    Cell::Rings,
-    Cell::Window,
-    Cell::Plugs,
-    Cell::Groups,
-];
+/// Whether, for each column that the model of `row` needs, the table has the column, or an option replaces it.
+pub fn has_columns(options: &TableOptions<&[u8]>, columns: &Columns, row: &ByteRecord) -> bool
+    ensures { result ≡ has_columns (texts_of options.now) columns.now (fields_of row.now) }
+{
+    let known = known_cells(options, columns, row);
+    if !has_column(options, columns, Cell::Day) {
+        return false;
+    }
+    if !has_column(options, columns, Cell::Model) {
+        return false;
+    }
+    has_each_column(options, columns, known)
+}
 
-/// The cells that a Converter's day has besides its number and its model.
-static PIN_CELLS: [Cell; 9] = [
-    Cell::List,
-    Cell::Window,
-    Cell::Pins1,
-    Cell::Pins2,
-    Cell::Pins3,
-    Cell::Pins4,
-    Cell::Pins5,
-    Cell::Pins6,
-    Cell::Bars,
-];
+/// Whether the table has the column of `cell`, or the option of `cell` (such as `--model`) isn't blank.
+pub fn has_text(options: &TableOptions<&[u8]>, columns: &Columns, cell: Cell) -> bool
+    ensures { result ≡ has_text (texts_of options.now) columns.now cell }
+{
+    column_of(columns, cell).is_some() || !is_blank(option_of(options, cell))
+}
+
+/// The cells of `row` that depend on its model. No cells if the model's name can't be read.
+pub fn known_cells(
+    options: &TableOptions<&[u8]>,
+    columns: &Columns,
+    row: &ByteRecord,
+) -> &'static [Cell]
+    ensures { result.now ≡ option_map_or cells_of
+        (row_model (texts_of options.now) columns.now (fields_of row.now)) [] }
+{
+    match row_model(options, columns, row) {
+        Some(model) => cells_of(model),
+        None => &[],
+    }
+}
 
 /// The cells that a day of `model` has besides its number and its model.
 pub fn cells_of(model: Model) -> &'static [Cell]
@@ -72,6 +85,29 @@ pub fn cells_of(model: Model) -> &'static [Cell]
         Family::Rotor => &ROTOR_CELLS,
         Family::Pin => &PIN_CELLS,
     }
+}
+
+/// The model of `row`; `None` if the model's name can't be read.
+pub fn row_model(
+    options: &TableOptions<&[u8]>,
+    columns: &Columns,
+    row: &ByteRecord,
+) -> Option<Model>
+    ensures { result ≡ row_model (texts_of options.now) columns.now (fields_of row.now) }
+{
+    model_named(text_of(options, columns, row, Cell::Model))
+}
+
+/// The text of `cell` or, if `cell` is blank, the text of its option, such as `--model`.
+pub fn text_of<'a>(
+    options: &TableOptions<&'a [u8]>,
+    columns: &Columns,
+    row: &'a ByteRecord,
+    cell: Cell,
+) -> &'a [u8]
+    ensures { result.now ≡ text_of (texts_of options.now) columns.now (fields_of row.now) cell }
+{
+    cell_or(option_of(options, cell), row, column_of(columns, cell))
 }
 
 /// The place of the column of `cell`; `None` if the table has no such column.
@@ -110,56 +146,70 @@ pub fn option_of<'a>(options: &TableOptions<&'a [u8]>, cell: Cell) -> &'a [u8]
     }
 }
 
-/// The text of `cell` or, if `cell` is blank, the text of its option, such as `--model`.
-pub fn text_of<'a>(
-    options: &TableOptions<&'a [u8]>,
-    columns: &Columns,
-    row: &'a ByteRecord,
-    cell: Cell,
-) -> &'a [u8]
-    ensures { result.now ≡ text_of (texts_of options.now) columns.now (fields_of row.now) cell }
-{
-    cell_or(option_of(options, cell), row, column_of(columns, cell))
-}
-
-/// Whether the table has the column of `cell`, or the option of `cell` (such as `--model`) isn't blank.
-pub fn has_text(options: &TableOptions<&[u8]>, columns: &Columns, cell: Cell) -> bool
-    ensures { result ≡ has_text (texts_of options.now) columns.now cell }
-{
-    column_of(columns, cell).is_some() || !is_blank(option_of(options, cell))
-}
-
-/// The model of `row`; `None` if the model's name can't be read.
-pub fn row_model(
-    options: &TableOptions<&[u8]>,
-    columns: &Columns,
-    row: &ByteRecord,
-) -> Option<Model>
-    ensures { result ≡ row_model (texts_of options.now) columns.now (fields_of row.now) }
-{
-    model_named(text_of(options, columns, row, Cell::Model))
-}
-
-/// The cells of `row` that depend on its model. No cells if the model's name can't be read.
-pub fn known_cells(
-    options: &TableOptions<&[u8]>,
-    columns: &Columns,
-    row: &ByteRecord,
-) -> &'static [Cell]
-    ensures { result.now ≡ option_map_or cells_of
-        (row_model (texts_of options.now) columns.now (fields_of row.now)) [] }
-{
-    match row_model(options, columns, row) {
-        Some(model) => cells_of(model),
-        None => &[],
-    }
-}
-
 /// Whether the table may lack the column of `cell`. This is so only for the column of groups.
 pub fn is_optional(cell: Cell) -> bool
     ensures { result ≡ is_optional cell }
 {
     matches!(cell, Cell::Groups)
+}
+
+/// Whether the text of `cell` can be read, in a row of this model.
+pub fn is_read(model: Option<Model>, cell: Cell, text: &[u8]) -> bool
+    ensures { result ≡ is_read model cell text.now }
+{
+    match cell {
+        Cell::Day => day_in(text).is_some(),
+        Cell::Model => model_named(text).is_some(),
+        Cell::Reflector => names_reflector(model, text),
+        Cell::Wheels => are_exactly(&values_in::<Option<Wheel>>(text), slots(model)),
+        Cell::Rings => has_letters(text, slots(model)),
+        Cell::Window => has_letters(text, windows(model)),
+        Cell::Plugs => values_in::<(Letter, Letter)>(text).is_some(),
+        Cell::Groups => values_in::<[Letter; 3]>(text).is_some(),
+        Cell::List => has_letters(text, 2),
+        Cell::Pins1 => are_pins(&ring1(), text),
+        Cell::Pins2 => are_pins(&ring2(), text),
+        Cell::Pins3 => are_pins(&ring3(), text),
+        Cell::Pins4 => are_pins(&ring4(), text),
+        Cell::Pins5 => are_pins(&ring5(), text),
+        Cell::Pins6 => are_pins(&ring6(), text),
+        Cell::Bars => are_exactly(&values_in::<Reading>(text), 27),
+    }
+}
+
+/// The day's number in the cell `text`; `None` if `text` isn't a number from 1 to 31.
+pub fn day_in(text: &[u8]) -> Option<u8>
+    ensures { result ≡ day_in text.now }
+{
+    let number = number_in(text)?;
+    if 1 <= number && number <= 31 {
+        Some(number)
+    } else {
+        None
+    }
+}
+
+/// How many window letters a machine of this model has; 0 if the model isn't known.
+pub fn windows(model: Option<Model>) -> usize
+    ensures { result ≡ windows model }
+{
+    match model {
+        Some(model) => match model.family() {
+            Family::Rotor => usize::from(model.slots()),
+            Family::Pin => 6,
+        },
+        None => 0,
+    }
+}
+
+/// How many slots a machine of this model has; 0 if the model isn't known.
+pub fn slots(model: Option<Model>) -> usize
+    ensures { result ≡ slots model }
+{
+    match model {
+        Some(model) => usize::from(model.slots()),
+        None => 0,
+    }
 }
 
 /// Whether the table has the column of `cell`, has an option in its place, or doesn't need the column.
@@ -183,53 +233,43 @@ fn has_each_column(options: &TableOptions<&[u8]>, columns: &Columns, cells: &[Ce
     }
 }
 
-/// Whether, for each column that the model of `row` needs, the table has the column, or an option replaces it.
-pub fn has_columns(options: &TableOptions<&[u8]>, columns: &Columns, row: &ByteRecord) -> bool
-    ensures { result ≡ has_columns (texts_of options.now) columns.now (fields_of row.now) }
-{
-    let known = known_cells(options, columns, row);
-    if !has_column(options, columns, Cell::Day) {
-        return false;
-    }
-    if !has_column(options, columns, Cell::Model) {
-        return false;
-    }
-    has_each_column(options, columns, known)
-}
+/// The cells that a Converter's day has besides its number and its model.
+static PIN_CELLS: [Cell; 9] = [
+    Cell::List,
+    Cell::Window,
+    Cell::Pins1,
+    Cell::Pins2,
+    Cell::Pins3,
+    Cell::Pins4,
+    Cell::Pins5,
+    Cell::Pins6,
+    Cell::Bars,
+];
 
-/// The day's number in the cell `text`; `None` if `text` isn't a number from 1 to 31.
-pub fn day_in(text: &[u8]) -> Option<u8>
-    ensures { result ≡ day_in text.now }
-{
-    let number = number_in(text)?;
-    if 1 <= number && number <= 31 {
-        Some(number)
-    } else {
-        None
-    }
-}
+/// The cells that a rotor machine's day has besides its number and its model.
+static ROTOR_CELLS: [Cell; 6] = [
+    Cell::Reflector,
+    Cell::Wheels,
+    Cell::Rings,
+    Cell::Window,
+    Cell::Plugs,
+    Cell::Groups,
+];
 
-/// How many slots a machine of this model has; 0 if the model isn't known.
-pub fn slots(model: Option<Model>) -> usize
-    ensures { result ≡ slots model }
+fn names_reflector(model: Option<Model>, text: &[u8]) -> bool
+    ensures { result ≡ is_some (option_and_then (λ known. reflector_named known text.now) model) }
 {
     match model {
-        Some(model) => usize::from(model.slots()),
-        None => 0,
+        Some(model) => reflector_named(model, text).is_some(),
+        None => false,
     }
 }
 
-/// How many window letters a machine of this model has; 0 if the model isn't known.
-pub fn windows(model: Option<Model>) -> usize
-    ensures { result ≡ windows model }
+/// Whether `text` can be read as exactly `count` letters.
+fn has_letters(text: &[u8], count: usize) -> bool
+    ensures { result ≡ is_some (option_and_then (exactly count) (letters_in text.now)) }
 {
-    match model {
-        Some(model) => match model.family() {
-            Family::Rotor => usize::from(model.slots()),
-            Family::Pin => 6,
-        },
-        None => 0,
-    }
+    are_exactly(&values_in::<Letter>(text), count)
 }
 
 fn are_exactly<T>(values: &Option<Values<T>>, count: usize) -> bool
@@ -248,39 +288,6 @@ fn are_pins<const N: usize>(ring: &Ring<N>, text: &[u8]) -> bool
 {
     match joined(text) {
         Some(letters) => pins_of_text(ring, letters.as_slice()).is_some(),
-        None => false,
-    }
-}
-
-/// Whether the text of `cell` can be read, in a row of this model.
-pub fn is_read(model: Option<Model>, cell: Cell, text: &[u8]) -> bool
-    ensures { result ≡ is_read model cell text.now }
-{
-    match cell {
-        Cell::Day => day_in(text).is_some(),
-        Cell::Model => model_named(text).is_some(),
-        Cell::Reflector => names_reflector(model, text),
-        Cell::Wheels => are_exactly(&values_in::<Option<Wheel>>(text), slots(model)),
-        Cell::Rings => are_exactly(&values_in::<Letter>(text), slots(model)),
-        Cell::Window => are_exactly(&values_in::<Letter>(text), windows(model)),
-        Cell::Plugs => values_in::<(Letter, Letter)>(text).is_some(),
-        Cell::Groups => values_in::<[Letter; 3]>(text).is_some(),
-        Cell::List => are_exactly(&values_in::<Letter>(text), 2),
-        Cell::Pins1 => are_pins(&ring1(), text),
-        Cell::Pins2 => are_pins(&ring2(), text),
-        Cell::Pins3 => are_pins(&ring3(), text),
-        Cell::Pins4 => are_pins(&ring4(), text),
-        Cell::Pins5 => are_pins(&ring5(), text),
-        Cell::Pins6 => are_pins(&ring6(), text),
-        Cell::Bars => are_exactly(&values_in::<Reading>(text), 27),
-    }
-}
-
-fn names_reflector(model: Option<Model>, text: &[u8]) -> bool
-    ensures { result ≡ is_some (option_and_then (λ known. reflector_named known text.now) model) }
-{
-    match model {
-        Some(model) => reflector_named(model, text).is_some(),
         None => false,
     }
 }

@@ -1,8 +1,7 @@
 //! The columns of a table, found by their names in the table's first row.
-ghost use Rattle.std.specs.Prelude.{◌≡◌, ◌≤◌, ◌+◌, Some, find, length};
-ghost use Rattle.std.specs.List.{range_with_len};
+ghost use Rattle.std.specs.Prelude.{◌≡◌, ◌≤◌, ◌+◌, length};
 ghost use Rattle.csv.specs.Records.{fields_of};
-ghost use Rattle.kd_table.specs.Columns.{cell_at, cell_or, column_named, columns_of, english_name, german_name};
+ghost use Rattle.kd_table.specs.Columns.{cell_at, cell_or, column_from, column_named, columns_of, english_name, german_name};
 ghost use Rattle.kd_table.specs.Columns.{names_column, pin_columns, short_name};
 
 use crate::cell::Cell;
@@ -31,13 +30,26 @@ pub struct Columns {
     pub bars: Option<usize>,
 }
 
-/// The text of `row` in `column`. Empty if the table has no such column, or the row is too short.
-pub fn cell_at(row: &ByteRecord, column: Option<usize>) -> &[u8]
-    ensures { result.now ≡ cell_at column (fields_of row.now) }
-{
-    match column {
-        Some(place) => row.get(place).unwrap_or(&[]),
-        None => &[],
+impl Columns {
+    /// The columns of a table whose first row is `head`.
+    #[tactic(auto, unfolding(crate::specs::Columns::columns_of))]
+    pub fn of_head(head: &ByteRecord) -> Self
+        ensures { result ≡ columns_of (fields_of head.now) }
+    {
+        Columns {
+            count: head.len(),
+            day: column_named(head, Cell::Day),
+            model: column_named(head, Cell::Model),
+            reflector: column_named(head, Cell::Reflector),
+            wheels: column_named(head, Cell::Wheels),
+            rings: column_named(head, Cell::Rings),
+            plugs: column_named(head, Cell::Plugs),
+            window: column_named(head, Cell::Window),
+            groups: column_named(head, Cell::Groups),
+            list: column_named(head, Cell::List),
+            pins: pin_columns(head),
+            bars: column_named(head, Cell::Bars),
+        }
     }
 }
 
@@ -49,7 +61,16 @@ pub fn cell_or<'a>(otherwise: &'a [u8], row: &'a ByteRecord, column: Option<usiz
     if is_blank(cell) { otherwise } else { cell }
 }
 
-/// The English name of the column of `cell`.
+/// The text of `row` in `column`. Empty if the table has no such column, or the row is too short.
+pub fn cell_at(row: &ByteRecord, column: Option<usize>) -> &[u8]
+    ensures { result.now ≡ cell_at column (fields_of row.now) }
+{
+    match column {
+        Some(place) => row.get(place).unwrap_or(&[]),
+        None => &[],
+    }
+}
+
 pub fn english_name(cell: Cell) -> &'static str
     ensures name { result.now ≡ english_name cell }
     ensures short { length result.now ≤ 32 }
@@ -74,7 +95,20 @@ pub fn english_name(cell: Cell) -> &'static str
     }
 }
 
-/// The German name of the column of `cell`.
+/// The short German name of the column of `cell`. If it has no short name, its German name.
+pub fn short_name(cell: Cell) -> &'static str
+    ensures name { result.now ≡ short_name cell }
+    ensures short { length result.now ≤ 32 }
+{
+    match cell {
+        Cell::Reflector => "UKW",
+        Cell::Wheels => "Walzen",
+        Cell::Rings => "Ringe",
+        Cell::Plugs => "Stecker",
+        _ => german_name(cell),
+    }
+}
+
 pub fn german_name(cell: Cell) -> &'static str
     ensures name { result.now ≡ german_name cell }
     ensures short { length result.now ≤ 32 }
@@ -99,34 +133,18 @@ pub fn german_name(cell: Cell) -> &'static str
     }
 }
 
-/// The short German name of the column of `cell`. If it has no short name, its German name.
-pub fn short_name(cell: Cell) -> &'static str
-    ensures name { result.now ≡ short_name cell }
-    ensures short { length result.now ≤ 32 }
+/// The place of the column of `cell`: the first column with one of its three names, among the table's first 64 columns.
+fn column_named(head: &ByteRecord, cell: Cell) -> Option<usize>
+    ensures { result ≡ column_named cell (fields_of head.now) }
 {
-    match cell {
-        Cell::Reflector => "UKW",
-        Cell::Wheels => "Walzen",
-        Cell::Rings => "Ringe",
-        Cell::Plugs => "Stecker",
-        _ => german_name(cell),
-    }
-}
-
-/// Whether `text` is one of the three names of the column of `cell`.
-fn names_column(cell: Cell, text: &[u8]) -> bool
-    ensures { result ≡ names_column cell text.now }
-{
-    is_named(english_name(cell), text)
-        || is_named(german_name(cell), text)
-        || is_named(short_name(cell), text)
+    column_from(head, cell, 0, COLUMNS)
 }
 
 /// The first of `count` columns, from `place` on, whose name is one of the three names for `cell`.
+#[tactic(auto, unfolding(crate::specs::Columns::column_from))]
 fn column_from(head: &ByteRecord, cell: Cell, place: usize, count: usize) -> Option<usize>
     requires { place + count ≤ 64 }
-    ensures { result ≡ find (λ at. names_column cell (cell_at (Some at) (fields_of head.now)))
-        (range_with_len place count) }
+    ensures { result ≡ column_from cell (fields_of head.now) place count }
 {
     if count == 0 {
         return None;
@@ -137,11 +155,14 @@ fn column_from(head: &ByteRecord, cell: Cell, place: usize, count: usize) -> Opt
     column_from(head, cell, place + 1, count - 1)
 }
 
-/// The place of the column of `cell`: the first column with one of its three names, among the table's first 64 columns.
-fn column_named(head: &ByteRecord, cell: Cell) -> Option<usize>
-    ensures { result ≡ column_named cell (fields_of head.now) }
+/// Whether `text` is one of the three names of the column of `cell`.
+#[tactic(auto, unfolding(crate::specs::Columns::names_column))]
+fn names_column(cell: Cell, text: &[u8]) -> bool
+    ensures { result ≡ names_column cell text.now }
 {
-    column_from(head, cell, 0, COLUMNS)
+    is_named(english_name(cell), text)
+        || is_named(german_name(cell), text)
+        || is_named(short_name(cell), text)
 }
 
 /// The columns of a Converter's pins, wheel by wheel.
@@ -156,27 +177,4 @@ fn pin_columns(head: &ByteRecord) -> [Option<usize>; 6]
         column_named(head, Cell::Pins5),
         column_named(head, Cell::Pins6),
     ]
-}
-
-impl Columns {
-    /// The columns of a table whose first row is `head`.
-    #[tactic(auto, unfolding(crate::specs::Columns::columns_of))]
-    pub fn of_head(head: &ByteRecord) -> Self
-        ensures { result ≡ columns_of (fields_of head.now) }
-    {
-        Columns {
-            count: head.len(),
-            day: column_named(head, Cell::Day),
-            model: column_named(head, Cell::Model),
-            reflector: column_named(head, Cell::Reflector),
-            wheels: column_named(head, Cell::Wheels),
-            rings: column_named(head, Cell::Rings),
-            plugs: column_named(head, Cell::Plugs),
-            window: column_named(head, Cell::Window),
-            groups: column_named(head, Cell::Groups),
-            list: column_named(head, Cell::List),
-            pins: pin_columns(head),
-            bars: column_named(head, Cell::Bars),
-        }
-    }
 }

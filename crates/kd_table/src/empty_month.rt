@@ -12,6 +12,75 @@ use kd_sheet::writing::item_text::ItemString;
 use kd_sheet::writing::lines::{FileString, push_list_line, push_text_line};
 use kd_tables::{Device, Family, Model, Sink, put_all};
 
+/// Writes a key sheet to fill in. It has `days` days of `model`. In it, `?` stands for each missing letter and number.
+///
+/// A day that still has a `?` is refused. On the fault `Device`, the sink has taken a prefix of the text.
+#[tactic(auto, unfolding(crate::specs::EmptySheet::empty_month_text))]
+pub fn write_empty_month<W: Sink>(sink: &mut W, model: Model, days: u8) -> Result<(), Device>
+    requires { days ≤ 31 }
+    ensures text { Writes (W.taken sink.old) (W.taken sink.new) (empty_month_text model days) result }
+    ensures failed { W.has_failed sink.new ≡ (W.has_failed sink.old || is_err result) }
+{
+    put_empty(sink, false, model, 1, days)
+}
+
+/// Writes the sections of `count` days from number `number` on.
+fn put_empty<W: Sink>(
+    sink: &mut W,
+    started: bool,
+    model: Model,
+    number: u8,
+    count: u8,
+) -> Result<(), Device>
+    requires { number + count < 256 }
+    ensures text { Writes (W.taken sink.old) (W.taken sink.new)
+        (sections_text started (map (empty_day_lines model) (range_with_len number count))) result }
+    ensures failed { W.has_failed sink.new ≡ (W.has_failed sink.old || is_err result) }
+{
+    if count == 0 {
+        return Ok(());
+    }
+    let section = empty_section(started, model, number);
+    match put_all(sink, section.as_str().as_bytes()) {
+        Ok(()) => put_empty(sink, true, model, number + 1, count - 1),
+        Err(Device) => Err(Device),
+    }
+}
+
+/// The section of a day to fill in: `[[day]]` and the day's lines. If `started` is true, an empty line stands before
+/// the section.
+fn empty_section(started: bool, model: Model, number: u8) -> FileString
+    ensures { result.bytes ≡ section_text started (empty_day_lines model number) }
+{
+    let mut text = FileString::new();
+    text.push_str(if started { "\n[[day]]\n" } else { "[[day]]\n" });
+    push_empty_day(&mut text, model, number);
+    text
+}
+
+/// Appends all lines of a day of this model.
+fn push_empty_day(text: &mut FileString, model: Model, number: u8)
+    requires { array_string_len text.old ≤ 16 }
+    ensures { text.new.bytes ≡ text.old.bytes ++ concat (empty_day_lines model number) }
+{
+    push_day_head(text, number, model);
+    match model.family() {
+        Family::Rotor => push_empty_rotor(text, model),
+        Family::Pin => push_empty_pin(text),
+    }
+}
+
+/// Appends the lines of a Converter's day, after the day's number and model.
+fn push_empty_pin(text: &mut FileString)
+    requires { array_string_len text.old ≤ 64 }
+    ensures { text.new.bytes ≡ text.old.bytes ++ concat empty_pin_lines }
+{
+    push_unknown(text, Key::List, 2);
+    push_unknown_items::<6>(text, Key::Pins, "?");
+    push_unknown(text, Key::Window, 6);
+    push_unknown_items::<27>(text, Key::Rows, "?-?");
+}
+
 /// Appends the line of the TOML key `key`. Its value is a text of `count` question marks.
 #[tactic(auto, unfolding(crate::specs::EmptySheet::unknown_line))]
 fn push_unknown(text: &mut FileString, key: Key, count: u8)
@@ -61,73 +130,4 @@ fn push_empty_rotor(text: &mut FileString, model: Model)
     push_unknown(text, Key::Window, slots);
     push_unknown_items::<10>(text, Key::Plugs, "??");
     push_unknown_items::<4>(text, Key::Groups, "???");
-}
-
-/// Appends the lines of a Converter's day, after the day's number and model.
-fn push_empty_pin(text: &mut FileString)
-    requires { array_string_len text.old ≤ 64 }
-    ensures { text.new.bytes ≡ text.old.bytes ++ concat empty_pin_lines }
-{
-    push_unknown(text, Key::List, 2);
-    push_unknown_items::<6>(text, Key::Pins, "?");
-    push_unknown(text, Key::Window, 6);
-    push_unknown_items::<27>(text, Key::Rows, "?-?");
-}
-
-/// Appends all lines of a day of this model.
-fn push_empty_day(text: &mut FileString, model: Model, number: u8)
-    requires { array_string_len text.old ≤ 16 }
-    ensures { text.new.bytes ≡ text.old.bytes ++ concat (empty_day_lines model number) }
-{
-    push_day_head(text, number, model);
-    match model.family() {
-        Family::Rotor => push_empty_rotor(text, model),
-        Family::Pin => push_empty_pin(text),
-    }
-}
-
-/// The section of a day to fill in: `[[day]]` and the day's lines. If `started` is true, an empty line stands before
-/// the section.
-fn empty_section(started: bool, model: Model, number: u8) -> FileString
-    ensures { result.bytes ≡ section_text started (empty_day_lines model number) }
-{
-    let mut text = FileString::new();
-    text.push_str(if started { "\n[[day]]\n" } else { "[[day]]\n" });
-    push_empty_day(&mut text, model, number);
-    text
-}
-
-/// Writes the sections of `count` days from number `number` on.
-fn put_empty<W: Sink>(
-    sink: &mut W,
-    started: bool,
-    model: Model,
-    number: u8,
-    count: u8,
-) -> Result<(), Device>
-    requires { number + count < 256 }
-    ensures text { Writes (W.taken sink.old) (W.taken sink.new)
-        (sections_text started (map (empty_day_lines model) (range_with_len number count))) result }
-    ensures failed { W.has_failed sink.new ≡ (W.has_failed sink.old || is_err result) }
-{
-    if count == 0 {
-        return Ok(());
-    }
-    let section = empty_section(started, model, number);
-    match put_all(sink, section.as_str().as_bytes()) {
-        Ok(()) => put_empty(sink, true, model, number + 1, count - 1),
-        Err(Device) => Err(Device),
-    }
-}
-
-/// Writes a key sheet to fill in. It has `days` days of `model`. In it, `?` stands for each missing letter and number.
-///
-/// A day that still has a `?` is refused. On the fault `Device`, the sink has taken a prefix of the text.
-#[tactic(auto, unfolding(crate::specs::EmptySheet::empty_month_text))]
-pub fn write_empty_month<W: Sink>(sink: &mut W, model: Model, days: u8) -> Result<(), Device>
-    requires { days ≤ 31 }
-    ensures text { Writes (W.taken sink.old) (W.taken sink.new) (empty_month_text model days) result }
-    ensures failed { W.has_failed sink.new ≡ (W.has_failed sink.old || is_err result) }
-{
-    put_empty(sink, false, model, 1, days)
 }

@@ -17,6 +17,45 @@ use kd_sheet::pins_of_text;
 use kd_state::SheetDay;
 use kd_tables::{Letter, Reading, Ring, ring1, ring2, ring3, ring4, ring5, ring6};
 
+/// Reads a row as a Converter's day. `None` if the row doesn't have a legal day.
+#[tactic(auto, unfolding(crate::specs::PinRow::pin_values))]
+pub fn pin_day(
+    options: &TableOptions<&[u8]>,
+    columns: &Columns,
+    row: &ByteRecord,
+) -> Option<SheetDay>
+    ensures { MatchOption result
+        (IsNoDay (option_map Pin (pin_values (texts_of options.now) columns.now (fields_of row.now))))
+        (λ day. option_map Pin (pin_values (texts_of options.now) columns.now (fields_of row.now))
+        ≡ Some day) }
+{
+    let number = number_in(cell_at(row, columns.day))?;
+    let list = letters_in::<2>(cell_at(row, columns.list))?;
+    let pins = pins_in(columns, row)?;
+    let window = letters_in::<6>(cell_or(options.window, row, columns.window))?;
+    let rows = bars_in(cell_at(row, columns.bars))?;
+    SheetDay::pin(number, rows, pins, window, list)
+}
+
+/// The letters in a cell, if there are exactly `N` of them.
+fn letters_in<const N: usize>(text: &[u8]) -> Option<[Letter; N]>
+    ensures { result ≡ option_and_then (exactly N) (letters_in text.now) }
+{
+    let letters = values_in::<Letter>(text)?;
+    <[Letter; N]>::try_from(letters.as_slice()).ok()
+}
+
+/// The pins of all six wheels in a row; `None` if the pins of a wheel can't be read.
+#[tactic(auto, unfolding(crate::specs::PinRow::pins_in))]
+fn pins_in(columns: &Columns, row: &ByteRecord) -> Option<PinSet>
+    ensures { result ≡ pins_in columns.now.pins (fields_of row.now) }
+{
+    let w1 = pins_at(&ring1(), columns.pins[0], row)?;
+    let w2 = pins_at(&ring2(), columns.pins[1], row)?;
+    let w3 = pins_at(&ring3(), columns.pins[2], row)?;
+    pins_after(columns, row, w1, w2, w3)
+}
+
 /// The pins of the wheel with the letters `ring`. The cell in column `column` has the letters of the wheel's effective
 /// pins.
 fn pins_at<const N: usize>(
@@ -54,49 +93,10 @@ fn pins_after(
     })
 }
 
-/// The pins of all six wheels in a row; `None` if the pins of a wheel can't be read.
-#[tactic(auto, unfolding(crate::specs::PinRow::pins_in))]
-fn pins_in(columns: &Columns, row: &ByteRecord) -> Option<PinSet>
-    ensures { result ≡ pins_in columns.now.pins (fields_of row.now) }
-{
-    let w1 = pins_at(&ring1(), columns.pins[0], row)?;
-    let w2 = pins_at(&ring2(), columns.pins[1], row)?;
-    let w3 = pins_at(&ring3(), columns.pins[2], row)?;
-    pins_after(columns, row, w1, w2, w3)
-}
-
-/// The letters in a cell, if there are exactly `N` of them.
-fn letters_in<const N: usize>(text: &[u8]) -> Option<[Letter; N]>
-    ensures { result ≡ option_and_then (exactly N) (letters_in text.now) }
-{
-    let letters = values_in::<Letter>(text)?;
-    <[Letter; N]>::try_from(letters.as_slice()).ok()
-}
-
 /// The readings in a cell, if there is a reading for each bar.
 fn bars_in(text: &[u8]) -> Option<[Reading; 27]>
     ensures { result ≡ option_and_then (exactly 27) (readings_in text.now) }
 {
     let rows = values_in::<Reading>(text)?;
     <[Reading; 27]>::try_from(rows.as_slice()).ok()
-}
-
-/// Reads a row as a Converter's day. `None` if the row doesn't have a legal day.
-#[tactic(auto, unfolding(crate::specs::PinRow::pin_values))]
-pub fn pin_day(
-    options: &TableOptions<&[u8]>,
-    columns: &Columns,
-    row: &ByteRecord,
-) -> Option<SheetDay>
-    ensures { MatchOption result
-        (IsNoDay (option_map Pin (pin_values (texts_of options.now) columns.now (fields_of row.now))))
-        (λ day. option_map Pin (pin_values (texts_of options.now) columns.now (fields_of row.now))
-        ≡ Some day) }
-{
-    let number = number_in(cell_at(row, columns.day))?;
-    let list = letters_in::<2>(cell_at(row, columns.list))?;
-    let pins = pins_in(columns, row)?;
-    let window = letters_in::<6>(cell_or(options.window, row, columns.window))?;
-    let rows = bars_in(cell_at(row, columns.bars))?;
-    SheetDay::pin(number, rows, pins, window, list)
 }

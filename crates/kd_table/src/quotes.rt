@@ -19,55 +19,18 @@ pub enum Quoting {
     Wrong,
 }
 
-/// Whether `byte` may separate cells.
-fn is_separator(byte: u8) -> bool
-    ensures { result ≡ is_separator byte }
-{
-    byte == b',' || byte == b';' || byte == b'\t'
-}
-
-/// The separator of the cells of `table`: its first comma, semicolon or tab. If `table` has none of these, a comma.
-pub fn separator_of(table: &[u8]) -> u8
-    ensures { result ≡ separator_of table.now }
-{
-    for byte in table {
-        if is_separator(*byte) {
-            return *byte;
-        }
-    }
-    b','
-}
-
-fn ends_cell(separator: u8, byte: u8) -> bool
-    ensures { result ≡ ends_cell separator byte }
-{
-    byte == separator || byte == 13 || byte == 10
-}
-
-/// The state of quotes after `byte`, which isn't in a quoted cell. `CellStart` if `byte` ends the cell; if not, the
-/// state `otherwise`.
-fn after_unquoted(separator: u8, byte: u8, otherwise: Quoting) -> Quoting
-    ensures { result ≡ (if ends_cell separator byte then Quoting.CellStart else otherwise) }
-{
-    if ends_cell(separator, byte) {
-        Quoting::CellStart
-    } else {
-        otherwise
-    }
-}
-
 impl Quoting {
     /// The state of quotes after one more byte.
     pub fn after_byte(self, separator: u8, byte: u8) -> Self
         ensures { result ≡ quoting_after_byte separator self byte }
     {
         match self {
-            Quoting::CellStart if byte == 34 => Quoting::Quoted,
+            Quoting::CellStart if byte == b'"' => Quoting::Quoted,
             Quoting::CellStart => after_unquoted(separator, byte, Quoting::Unquoted),
             Quoting::Unquoted => after_unquoted(separator, byte, Quoting::Unquoted),
-            Quoting::Quoted if byte == 34 => Quoting::Closed,
+            Quoting::Quoted if byte == b'"' => Quoting::Closed,
             Quoting::Quoted => Quoting::Quoted,
-            Quoting::Closed if byte == 34 => Quoting::Quoted,
+            Quoting::Closed if byte == b'"' => Quoting::Quoted,
             Quoting::Closed => after_unquoted(separator, byte, Quoting::Wrong),
             Quoting::Wrong => Quoting::Wrong,
         }
@@ -82,6 +45,25 @@ impl Quoting {
             Quoting::Quoted | Quoting::Wrong => false,
         }
     }
+}
+
+/// Whether each quoted cell of `table` is closed, and ends with its closing quote.
+pub fn is_well_quoted(table: &[u8]) -> bool
+    ensures { result ≡ is_well_quoted table.now }
+{
+    quoting_after(separator_of(table), strip_bom(table)).may_end()
+}
+
+/// The separator of the cells of `table`: its first comma, semicolon or tab. If `table` has none of these, a comma.
+pub fn separator_of(table: &[u8]) -> u8
+    ensures { result ≡ separator_of table.now }
+{
+    for byte in table {
+        if is_separator(*byte) {
+            return *byte;
+        }
+    }
+    b','
 }
 
 /// `table` without a byte order mark at its start.
@@ -100,6 +82,24 @@ pub fn strip_bom(table: &[u8]) -> &[u8]
     }
 }
 
+/// The state of quotes after `byte`, which isn't in a quoted cell. `CellStart` if `byte` ends the cell; if not, the
+/// state `otherwise`.
+fn after_unquoted(separator: u8, byte: u8, otherwise: Quoting) -> Quoting
+    ensures { result ≡ (if ends_cell separator byte then Quoting.CellStart else otherwise) }
+{
+    if ends_cell(separator, byte) {
+        Quoting::CellStart
+    } else {
+        otherwise
+    }
+}
+
+fn ends_cell(separator: u8, byte: u8) -> bool
+    ensures { result ≡ ends_cell separator byte }
+{
+    byte == separator || byte == b'\r' || byte == b'\n'
+}
+
 /// The state of quotes at the end of `text`.
 fn quoting_after(separator: u8, text: &[u8]) -> Quoting
     ensures { result ≡ quoting_after separator Quoting.CellStart text.now }
@@ -111,9 +111,9 @@ fn quoting_after(separator: u8, text: &[u8]) -> Quoting
     quoting
 }
 
-/// Whether each quoted cell of `table` is closed, and ends with its closing quote.
-pub fn is_well_quoted(table: &[u8]) -> bool
-    ensures { result ≡ is_well_quoted table.now }
+/// Whether `byte` may separate cells.
+fn is_separator(byte: u8) -> bool
+    ensures { result ≡ is_separator byte }
 {
-    quoting_after(separator_of(table), strip_bom(table)).may_end()
+    byte == b',' || byte == b';' || byte == b'\t'
 }

@@ -21,14 +21,22 @@ pub struct Reading {
     pub refused: bool,
 }
 
-/// Whether one of `days` has this number.
-fn is_taken(days: &[SheetDay], number: u8) -> bool
-    ensures { result ≡ is_taken days.now number }
+/// Reads the rows under the first row: their days, and whether one of the rows is refused.
+pub fn read_body(
+    alloc: Global,
+    options: &TableOptions<&[u8]>,
+    columns: &Columns,
+    rows: &[ByteRecord],
+) -> Result<Reading, SpreadsheetFault>
+    ensures { IfOk result (λ reading. IsBodyRead (texts_of options.now) columns.now
+        (map fields_of rows.now) reading.days.items reading.refused) }
 {
-    match days {
-        [day, rest @ ..] => day.day() == number || is_taken(rest, number),
-        [] => false,
+    let mut days = Vec::new(alloc);
+    let mut refused = false;
+    for row in rows {
+        refused = read_body_row(&mut days, refused, options, columns, row)?;
     }
+    Ok(Reading { days, refused })
 }
 
 /// Reads a row under the first row, and appends its day. Returns whether this row or an earlier row is refused.
@@ -60,20 +68,12 @@ fn read_body_row(
     Ok(refused)
 }
 
-/// Reads the rows under the first row: their days, and whether one of the rows is refused.
-pub fn read_body(
-    alloc: Global,
-    options: &TableOptions<&[u8]>,
-    columns: &Columns,
-    rows: &[ByteRecord],
-) -> Result<Reading, SpreadsheetFault>
-    ensures { IfOk result (λ reading. IsBodyRead (texts_of options.now) columns.now
-        (map fields_of rows.now) reading.days.items reading.refused) }
+/// Whether one of `days` has this number.
+fn is_taken(days: &[SheetDay], number: u8) -> bool
+    ensures { result ≡ is_taken days.now number }
 {
-    let mut days = Vec::new(alloc);
-    let mut refused = false;
-    for row in rows {
-        refused = read_body_row(&mut days, refused, options, columns, row)?;
+    match days {
+        [day, rest @ ..] => day.day() == number || is_taken(rest, number),
+        [] => false,
     }
-    Ok(Reading { days, refused })
 }

@@ -24,7 +24,6 @@ pub fn read_records(alloc: Global, table: &[u8]) -> Result<Vec<ByteRecord>, Spre
     Ok(rows)
 }
 
-/// An iterator over the rows of a table.
 fn records_of(alloc: Global, table: &[u8]) -> ByteRecordsIntoIter<&[u8]>
     ensures { IsReadTo table.now result [] }
 {

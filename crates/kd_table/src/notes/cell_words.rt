@@ -57,7 +57,7 @@ fn has_told_words<T: FromWord + Copy>(lines: &mut Words, text: &[u8], what: &str
         return false;
     }
     let mut items = ArrayVec::new();
-    push_item_text::<T>(&mut items, text);
+    push_item_text(&mut items, T::rule(), text);
     match split_words::<192>(items.as_slice()) {
         Some(words) => {
             tell_words::<T>(lines, words.as_slice(), what);

@@ -51,7 +51,6 @@ impl<'a> Head<'a> {
         }
     }
 
-    /// The allocator for notes.
     pub fn alloc(&self) -> Global {
         self.alloc
     }

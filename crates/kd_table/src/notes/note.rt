@@ -12,37 +12,6 @@ use itoa::Buffer;
 use kd_state::split_once;
 use std::alloc::Global;
 
-/// Appends `bytes`.
-pub fn push_bytes(note: &mut Vec<u8>, bytes: &[u8]) -> Result<(), SpreadsheetFault>
-    ensures { IfOk result (λ _. note.new.items ≡ note.old.items ++ bytes.now) }
-{
-    note.extend_from_slice(bytes)?;
-    Ok(())
-}
-
-/// Appends a line: a place, then words about this place.
-pub fn push_line(note: &mut Vec<u8>, place: &[u8], words: &[u8]) -> Result<(), SpreadsheetFault>
-    ensures { IfOk result (λ _. note.new.items ≡ note.old.items ++ line_at place.now words.now) }
-{
-    push_bytes(note, place)?;
-    push_bytes(note, words)?;
-    push_bytes(note, b"\n")
-}
-
-/// Appends the lines of `words`, with the place before each line.
-pub fn push_lines(note: &mut Vec<u8>, place: &[u8], words: &[u8]) -> Result<(), SpreadsheetFault>
-    ensures { IfOk result (λ _. (lines : List (List ℕ)) × (0 < length lines)
-        × (note.new.items ≡ note.old.items ++ flat_map (line_at place.now) lines)) }
-{
-    match split_once(words, b'\n') {
-        Some((line, rest)) => {
-            push_line(note, place, line)?;
-            push_lines(note, place, rest)
-        }
-        None => push_line(note, place, words),
-    }
-}
-
 /// Appends the lines of `words`, with the place before each line. If there are no words, appends nothing.
 pub fn push_words(note: &mut Vec<u8>, place: &[u8], words: &Words) -> Result<(), SpreadsheetFault>
     ensures { IfOk result (λ _. (lines : List (List ℕ))
@@ -76,17 +45,49 @@ pub fn push_due_words(
     Ok(())
 }
 
-/// Appends `bytes`, with `?` for each byte that can't be printed. If `is_long`, `?` also stands for each byte outside
-/// of ASCII.
-fn push_shown_bytes(note: &mut Vec<u8>, is_long: bool, bytes: &[u8]) -> Result<(), SpreadsheetFault>
-    ensures { IfOk result (λ _. note.new.items
-        ≡ note.old.items ++ map (shown_byte is_long) bytes.now) }
+/// Appends the lines of `words`, with the place before each line.
+pub fn push_lines(note: &mut Vec<u8>, place: &[u8], words: &[u8]) -> Result<(), SpreadsheetFault>
+    ensures { IfOk result (λ _. (lines : List (List ℕ)) × (0 < length lines)
+        × (note.new.items ≡ note.old.items ++ flat_map (line_at place.now) lines)) }
 {
-    if let [byte, rest @ ..] = bytes {
-        push_bytes(note, &[shown_byte(is_long, *byte)])?;
-        return push_shown_bytes(note, is_long, rest);
+    match split_once(words, b'\n') {
+        Some((line, rest)) => {
+            push_line(note, place, line)?;
+            push_lines(note, place, rest)
+        }
+        None => push_line(note, place, words),
     }
-    Ok(())
+}
+
+/// Appends a line: a place, then words about this place.
+pub fn push_line(note: &mut Vec<u8>, place: &[u8], words: &[u8]) -> Result<(), SpreadsheetFault>
+    ensures { IfOk result (λ _. note.new.items ≡ note.old.items ++ line_at place.now words.now) }
+{
+    push_bytes(note, place)?;
+    push_bytes(note, words)?;
+    push_bytes(note, b"\n")
+}
+
+/// The words for a row's place: the row's number and, if the row's day is known, this day.
+pub fn row_place(alloc: Global, number: u64, day: Option<u8>) -> Result<Vec<u8>, SpreadsheetFault>
+    ensures { IfOk result (λ place. place.items ≡ row_place number day) }
+{
+    let mut place = Vec::new(alloc);
+    push_bytes(&mut place, b"row ")?;
+    push_row_number(&mut place, number, day)?;
+    Ok(place)
+}
+
+/// The words for a cell's place: the words `row` for the row's place, and the name of the cell's column.
+pub fn cell_place(head: &Head<'_>, row: &[u8], cell: Cell) -> Result<Vec<u8>, SpreadsheetFault>
+    ensures { IfOk result (λ place. place.items
+        ≡ cell_place head.now.columns head.now.names row.now cell) }
+{
+    let mut place = Vec::new(head.alloc());
+    push_bytes(&mut place, row)?;
+    push_cell_name(&mut place, head, cell)?;
+    push_bytes(&mut place, b": ")?;
+    Ok(place)
 }
 
 /// Appends the text of `cell`, with `?` for each byte that can't be printed. Of a cell with more than 60 bytes, appends
@@ -102,12 +103,24 @@ pub fn push_shown(note: &mut Vec<u8>, cell: &[u8]) -> Result<(), SpreadsheetFaul
     push_shown_bytes(note, false, cell)
 }
 
-/// Appends a number, then `after`.
-fn push_number(note: &mut Vec<u8>, number: u64, after: &[u8]) -> Result<(), SpreadsheetFault>
-    ensures { IfOk result (λ _. note.new.items ≡ note.old.items ++ (decimal number ++ after.now)) }
+/// Appends `bytes`.
+pub fn push_bytes(note: &mut Vec<u8>, bytes: &[u8]) -> Result<(), SpreadsheetFault>
+    ensures { IfOk result (λ _. note.new.items ≡ note.old.items ++ bytes.now) }
 {
-    push_bytes(note, Buffer::new().format(number).as_bytes())?;
-    push_bytes(note, after)
+    note.extend_from_slice(bytes)?;
+    Ok(())
+}
+
+/// The name of the option that replaces a blank `cell`, such as `--model`; empty if `cell` has no option.
+pub fn option_name(cell: Cell) -> &'static str
+    ensures { result.now ≡ option_name cell }
+{
+    match cell {
+        Cell::Model => "--model",
+        Cell::Reflector => "--reflector",
+        Cell::Window => "--window",
+        _ => "",
+    }
 }
 
 /// Appends the words for a row's number and, if the row's day is known, for this day.
@@ -127,26 +140,12 @@ fn push_row_number(
     }
 }
 
-/// The words for a row's place: the row's number and, if the row's day is known, this day.
-pub fn row_place(alloc: Global, number: u64, day: Option<u8>) -> Result<Vec<u8>, SpreadsheetFault>
-    ensures { IfOk result (λ place. place.items ≡ row_place number day) }
+/// Appends a number, then `after`.
+fn push_number(note: &mut Vec<u8>, number: u64, after: &[u8]) -> Result<(), SpreadsheetFault>
+    ensures { IfOk result (λ _. note.new.items ≡ note.old.items ++ (decimal number ++ after.now)) }
 {
-    let mut place = Vec::new(alloc);
-    push_bytes(&mut place, b"row ")?;
-    push_row_number(&mut place, number, day)?;
-    Ok(place)
-}
-
-/// The name of the option that replaces a blank `cell`, such as `--model`; empty if `cell` has no option.
-pub fn option_name(cell: Cell) -> &'static str
-    ensures { result.now ≡ option_name cell }
-{
-    match cell {
-        Cell::Model => "--model",
-        Cell::Reflector => "--reflector",
-        Cell::Window => "--window",
-        _ => "",
-    }
+    push_bytes(note, Buffer::new().format(number).as_bytes())?;
+    push_bytes(note, after)
 }
 
 /// Appends the name of the cell's column in the table. If the table lacks the column, appends the name of the cell's
@@ -161,14 +160,15 @@ fn push_cell_name(place: &mut Vec<u8>, head: &Head<'_>, cell: Cell) -> Result<()
     }
 }
 
-/// The words for a cell's place: the words `row` for the row's place, and the name of the cell's column.
-pub fn cell_place(head: &Head<'_>, row: &[u8], cell: Cell) -> Result<Vec<u8>, SpreadsheetFault>
-    ensures { IfOk result (λ place. place.items
-        ≡ cell_place head.now.columns head.now.names row.now cell) }
+/// Appends `bytes`, with `?` for each byte that can't be printed. If `is_long`, `?` also stands for each byte outside
+/// of ASCII.
+fn push_shown_bytes(note: &mut Vec<u8>, is_long: bool, bytes: &[u8]) -> Result<(), SpreadsheetFault>
+    ensures { IfOk result (λ _. note.new.items
+        ≡ note.old.items ++ map (shown_byte is_long) bytes.now) }
 {
-    let mut place = Vec::new(head.alloc());
-    push_bytes(&mut place, row)?;
-    push_cell_name(&mut place, head, cell)?;
-    push_bytes(&mut place, b": ")?;
-    Ok(place)
+    if let [byte, rest @ ..] = bytes {
+        push_bytes(note, &[shown_byte(is_long, *byte)])?;
+        return push_shown_bytes(note, is_long, rest);
+    }
+    Ok(())
 }

@@ -41,25 +41,6 @@ impl<'a> RowNumbers<'a> {
     }
 }
 
-/// The bytes after the line end at the start of `rest`: CR, LF or both. `None` if `rest` doesn't begin with a line end.
-fn after_line_end(rest: &[u8]) -> Option<&[u8]>
-    ensures { MatchOption result
-        (StartsRow rest.now)
-        (λ left. AreLineEnds rest.now 1 left.now) }
-{
-    match rest {
-        [13, 10, left @ ..] => Some(left),
-        [13 | 10, left @ ..] => Some(left),
-        _ => None,
-    }
-}
-
-fn ends_line(byte: u8) -> bool
-    ensures { result ≡ ends_line byte }
-{
-    byte == 13 || byte == 10
-}
-
 /// The number of empty rows at the start of `rest`, and the bytes after these rows.
 fn skip_empty(rest: &[u8]) -> (u64, &[u8])
     ensures skipped { AreLineEnds rest.now result.0 result.1.now }
@@ -72,6 +53,19 @@ fn skip_empty(rest: &[u8]) -> (u64, &[u8])
         skipped += 1;
     }
     (skipped, left)
+}
+
+/// The bytes after the line end at the start of `rest`: CR, LF or both. `None` if `rest` doesn't begin with a line end.
+fn after_line_end(rest: &[u8]) -> Option<&[u8]>
+    ensures { MatchOption result
+        (StartsRow rest.now)
+        (λ left. AreLineEnds rest.now 1 left.now) }
+{
+    match rest {
+        [b'\r', b'\n', left @ ..] => Some(left),
+        [b'\r' | b'\n', left @ ..] => Some(left),
+        _ => None,
+    }
 }
 
 /// The bytes after the first row of `rest` and its line end.
@@ -88,4 +82,10 @@ fn skip_row(separator: u8, rest: &[u8]) -> &[u8]
         quoting = quoting.after_byte(separator, *byte);
     }
     &[]
+}
+
+fn ends_line(byte: u8) -> bool
+    ensures { result ≡ ends_line byte }
+{
+    byte == b'\r' || byte == b'\n'
 }

@@ -13,28 +13,6 @@ use kd_slips::counts::{DayCounts, counts_of, few_lines};
 use kd_state::SheetDay;
 use std::alloc::Global;
 
-/// For each of `days`, its number of pairs and its number of groups.
-fn counts_of_days(alloc: Global, days: &[SheetDay]) -> Result<Vec<DayCounts>, SpreadsheetFault>
-    ensures { IfOk result (λ counts. counts.items ≡ map counts_of days.now) }
-{
-    let mut counts = Vec::new(alloc);
-    for day in days {
-        if counts.push(counts_of(day)).is_err() {
-            return Err(SpreadsheetFault::NoMemory);
-        }
-    }
-    Ok(counts)
-}
-
-/// The warnings about days that have fewer pairs, or fewer groups, than another day of their model.
-fn few_note(alloc: Global, days: &[SheetDay]) -> Result<String, SpreadsheetFault>
-    ensures { IfOk result (λ lines. string_bytes lines
-        ≡ few_lines (codes "warning: ") (map counts_of days.now)) }
-{
-    let counts = counts_of_days(alloc, days)?;
-    Ok(few_lines(alloc, "warning: ", counts.as_slice())?)
-}
-
 /// The note on a table that isn't refused, with the first row `names` and the days `days`.
 #[tactic(auto, unfolding(crate::specs::Notes::taken_note))]
 pub fn taken_note(
@@ -48,4 +26,26 @@ pub fn taken_note(
     let few = few_note(alloc, days)?;
     push_bytes(&mut note, few.as_bytes())?;
     Ok(note)
+}
+
+/// The warnings about days that have fewer pairs, or fewer groups, than another day of their model.
+fn few_note(alloc: Global, days: &[SheetDay]) -> Result<String, SpreadsheetFault>
+    ensures { IfOk result (λ lines. string_bytes lines
+        ≡ few_lines (codes "warning: ") (map counts_of days.now)) }
+{
+    let counts = counts_of_days(alloc, days)?;
+    Ok(few_lines(alloc, "warning: ", counts.as_slice())?)
+}
+
+/// For each of `days`, its number of pairs and its number of groups.
+fn counts_of_days(alloc: Global, days: &[SheetDay]) -> Result<Vec<DayCounts>, SpreadsheetFault>
+    ensures { IfOk result (λ counts. counts.items ≡ map counts_of days.now) }
+{
+    let mut counts = Vec::new(alloc);
+    for day in days {
+        if counts.push(counts_of(day)).is_err() {
+            return Err(SpreadsheetFault::NoMemory);
+        }
+    }
+    Ok(counts)
 }

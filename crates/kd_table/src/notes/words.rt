@@ -5,15 +5,6 @@ ghost use Rattle.kd_table.specs.Notes.{shown_byte};
 use arrayvec::ArrayVec;
 use itoa::Buffer;
 
-/// The greatest number of bytes that are shown of a cell.
-const SHOWN: usize = 60;
-
-/// If the lines have this many bytes, further lines are left out.
-const ROOM: usize = 2048;
-
-/// The last line, if further lines are left out because there is no room.
-const MORE: &[u8] = b"\nfurther faults aren't told";
-
 /// Lines of words, with line ends between them. If there is no room for a line, this line and all later lines are left
 /// out.
 #[derive(Drop)]
@@ -120,9 +111,18 @@ impl Words {
 pub fn shown_byte(is_long: bool, byte: u8) -> u8
     ensures { result ≡ shown_byte is_long byte }
 {
-    if byte < 32 || byte == 127 || is_long && 127 < byte {
+    if byte < b' ' || byte == 127 || is_long && 127 < byte {
         b'?'
     } else {
         byte
     }
 }
+
+/// If the lines have this many bytes, further lines are left out.
+const ROOM: usize = 2048;
+
+/// The last line, if further lines are left out because there is no room.
+const MORE: &[u8] = b"\nfurther faults aren't told";
+
+/// The greatest number of bytes that are shown of a cell.
+const SHOWN: usize = 60;
