@@ -24,30 +24,46 @@ pub struct NamedFile<'f> {
     pub bytes: &'f [u8],
 }
 
-/// Appends the report on `file` to `text`, and the file's content to `known`.
-fn push_report<'f>(
-    text: &mut String,
-    known: &mut Vec<ReadFile<'f>>,
+/// Describes `files` in words, or names their faults.
+pub fn look_at<W: Sink>(
     alloc: Global,
-    file: NamedFile<'f>,
-) -> Result<Outcome, AllocError>
-    ensures report { OnOk result (AppendsText (IsReport file.entry.name.now file.entry.bytes.now)
-        (string_bytes text.old) (string_bytes text.new)) }
-    ensures found { IfOk result (λ found. found ≡ outcome_of (file_of file.entry.bytes.now)) }
-    ensures known { OnOk result (map known_of known.new.items
-        ≡ map known_of known.old.items ++ known_text (named_text file.entry) ∷ []) }
+    files: &[NamedFile<'_>],
+    sink: &mut W,
+) -> Result<Outcome, WriteFault<AllocError>>
+    ensures looks { IsLookAnswer (map named_text files.now)
+        (port W.taken W.has_failed sink.old sink.new) result }
+    ensures untouched { IsErr result → is_device result ≡ false → sink.new ≡ sink.old }
+    ensures failed { W.has_failed sink.new ≡ (W.has_failed sink.old || is_device result) }
 {
-    let Report {
-        text: report,
-        outcome,
-        file: said,
-    } = make_report(alloc, file.bytes, file.name)?;
-    text.push_str(report.as_str())?;
-    known.push(ReadFile {
-        name: file.name,
-        file: said,
-    })?;
-    Ok(outcome)
+    let WholeReport { text, outcome } = match report_all(alloc, files) {
+        Ok(report) => report,
+        Err(fault) => return Err(WriteFault::Unwritten(fault)),
+    };
+    match put_all(sink, text.as_bytes()) {
+        Ok(()) => Ok(outcome),
+        Err(_) => Err(WriteFault::Device),
+    }
+}
+
+/// The report on several files.
+#[derive(Drop)]
+struct WholeReport {
+    text: String,
+    outcome: Outcome,
+}
+
+/// Makes the report on `files`: a report on each file, then the warnings about missing days.
+fn report_all(alloc: Global, files: &[NamedFile<'_>]) -> Result<WholeReport, AllocError>
+    ensures report { IfOk result (λ made.
+        IsWholeReport (map named_text files.now) (string_bytes made.text)) }
+    ensures found { IfOk result (λ made. made.outcome ≡ outcome_of_all (map named_text files.now)) }
+{
+    let mut text = String::new(alloc);
+    let mut known = Vec::new(alloc);
+    let outcome = push_reports(&mut text, &mut known, alloc, files)?;
+    let missing = missing_day_warnings(alloc, known.as_slice())?;
+    text.push_str(missing.as_str())?;
+    Ok(WholeReport { text, outcome })
 }
 
 /// Appends the reports on `files` to `text`, and the files' contents to `known`.
@@ -73,44 +89,28 @@ fn push_reports<'f>(
     }
 }
 
-/// The report on several files.
-#[derive(Drop)]
-struct WholeReport {
-    text: String,
-    outcome: Outcome,
-}
-
-/// Makes the report on `files`: a report on each file, then the warnings about missing days.
-fn report_all(alloc: Global, files: &[NamedFile<'_>]) -> Result<WholeReport, AllocError>
-    ensures report { IfOk result (λ made.
-        IsWholeReport (map named_text files.now) (string_bytes made.text)) }
-    ensures found { IfOk result (λ made. made.outcome ≡ outcome_of_all (map named_text files.now)) }
-{
-    let mut text = String::new(alloc);
-    let mut known = Vec::new(alloc);
-    let outcome = push_reports(&mut text, &mut known, alloc, files)?;
-    let missing = missing_day_warnings(alloc, known.as_slice())?;
-    text.push_str(missing.as_str())?;
-    Ok(WholeReport { text, outcome })
-}
-
-/// Describes `files` in words, or names their faults.
-pub fn look_at<W: Sink>(
+/// Appends the report on `file` to `text`, and the file's content to `known`.
+fn push_report<'f>(
+    text: &mut String,
+    known: &mut Vec<ReadFile<'f>>,
     alloc: Global,
-    files: &[NamedFile<'_>],
-    sink: &mut W,
-) -> Result<Outcome, WriteFault<AllocError>>
-    ensures looks { IsLookAnswer (map named_text files.now)
-        (port W.taken W.has_failed sink.old sink.new) result }
-    ensures untouched { IsErr result → is_device result ≡ false → sink.new ≡ sink.old }
-    ensures failed { W.has_failed sink.new ≡ (W.has_failed sink.old || is_device result) }
+    file: NamedFile<'f>,
+) -> Result<Outcome, AllocError>
+    ensures report { OnOk result (AppendsText (IsReport file.entry.name.now file.entry.bytes.now)
+        (string_bytes text.old) (string_bytes text.new)) }
+    ensures found { IfOk result (λ found. found ≡ outcome_of (file_of file.entry.bytes.now)) }
+    ensures known { OnOk result (map known_of known.new.items
+        ≡ map known_of known.old.items ++ known_text (named_text file.entry) ∷ []) }
 {
-    let WholeReport { text, outcome } = match report_all(alloc, files) {
-        Ok(report) => report,
-        Err(fault) => return Err(WriteFault::Unwritten(fault)),
-    };
-    match put_all(sink, text.as_bytes()) {
-        Ok(()) => Ok(outcome),
-        Err(_) => Err(WriteFault::Device),
-    }
+    let Report {
+        text: report,
+        outcome,
+        file: said,
+    } = make_report(alloc, file.bytes, file.name)?;
+    text.push_str(report.as_str())?;
+    known.push(ReadFile {
+        name: file.name,
+        file: said,
+    })?;
+    Ok(outcome)
 }
