@@ -1,4 +1,4 @@
--- How many comparisons of a column with a row are made, while `n` trees give `n` rows their columns.
+-- How often a column is compared with a row while `n` trees give `n` rows their columns.
 use Rattle.std.specs.Prelude.{ℕ, zero, suc, ◌+◌, ◌-◌, ◌*◌, ◌/◌, ◌≤◌}
 
 -- The number of comparisons, `scans`, is at least `n * n`: one for each cell of the table. It is at most 1 + 4 + ... +

@@ -1,4 +1,4 @@
--- The plans of several days: each plan starts from the machine as the previous plan leaves it.
+-- The plans of several days: each plan starts from the machine to which the previous plan leads.
 -- Code: `add_plans` plans one day after another, and stops at the first day that can't be planned.
 -- Test: tests/cases/curator-pages.toml
 use Rattle.std.specs.Prelude.{◌≡◌, ◌≢◌, ◌⊎◌, ℕ, List, [], ◌∷◌, ◌++◌, Option, Some, None}
@@ -26,8 +26,7 @@ ArePlanned month m (number ∷ numbers) (plan ∷ plans) =
     (n : Parts) × IsPlanOf month m number plan n × ArePlanned month n numbers plans
 ArePlanned month m numbers plans = ⊥
 
--- The reason why a day can't be planned: the sheet doesn't have the day, or the day and the machine are of different
--- models.
+-- Why day `number` can't be planned: `month` doesn't have the day, or the day is for another model than `model`.
 abbrev pub LacksDay : Model → List (Option Day) → ℕ → NoPlan → Type 0
 LacksDay model month number NoSuchDay = day_of month number ≡ None
 LacksDay model month number OtherModel = (s : Day) × (day_of month number ≡ Some s) × (model ≢ day_model s)
@@ -36,7 +35,7 @@ pub record IsDayFault (model : Model) (month : List (Option Day)) (number : ℕ)
   pub day : fault.day ≡ number
   pub lacks : LacksDay model month number fault.why
 
--- The fault names the first day that can't be planned.
+-- `fault` names the first day of a list that can't be planned, and says why.
 abbrev pub IsFirstFault : Model → List (Option Day) → List ℕ → DayFault → Type 0
 IsFirstFault model month [] fault = ⊥
 IsFirstFault model month (number ∷ numbers) fault =

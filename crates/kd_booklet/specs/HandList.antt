@@ -8,8 +8,8 @@ use Rattle.kd_card.specs.declared.prices.PriceParts.{PriceParts}
 use Rattle.kd_plan.specs.Planned.{IsProvedPlannedCard}
 use Rattle.kd_booklet.specs.HandOrder.{in_hand_order}
 
--- The settings are a planned card's settings in another order: rings come first, window letters last. In this order,
--- too, the settings lead to the day. No shorter list leads to the day.
+-- `settings` are the settings of a planned card in the operator's order: rings come first, window letters last. They
+-- lead to day `s`, and no shorter list does.
 pub record IsHandList (m : Parts) (s : Day) (settings : List Setting) : Type 0 where
   pub planned : List Setting
   pub prices : PriceParts

@@ -44,8 +44,8 @@ seats_before_turning (x ∷ xs) =
 abbrev pub HandOrderIsPermutation : Type 0
 HandOrderIsPermutation = (xs : List Setting) → IsPermutation xs (in_hand_order xs)
 
--- Suppose that no setting of a list seats a wheel after an earlier setting has turned a window. Then the list leads to
--- the same machine in its own order and in the operator's order.
+-- Suppose that no setting of `xs` seats a wheel after an earlier setting has turned a window. If `xs` lead to machine
+-- `n`, they lead to `n` in the operator's order, too.
 abbrev pub HandOrderLeads : Type 0
 HandOrderLeads =
     (m n : Parts) (xs : List Setting) → IsTrue (seats_before_turning xs) → Leads m xs n → Leads m (in_hand_order xs) n

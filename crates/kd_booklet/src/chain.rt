@@ -1,4 +1,4 @@
-//! The plans of several days: each plan starts from the machine as the previous plan leaves it.
+//! The plans of several days: each plan starts from the machine to which the previous plan leads.
 ghost use Rattle.std.specs.Prelude.{◌≡◌, ◌+◌, ◌≤◌, length, IfErr, IfOk, OnOk};
 ghost use Rattle.arrayvec.specs.ArrayVec.{array_vec_len};
 ghost use Rattle.kd_state.specs.Machine.{model_of};
@@ -15,8 +15,8 @@ use kd_state::{Machine, SheetDay};
 /// The plans of at most 31 days, one after another.
 pub type DayPlans = ArrayVec<DayPlan, 31>;
 
-/// Plans the days `numbers`. The first plan starts from `machine`, each later plan from the machine as the previous
-/// plan leaves it.
+/// Plans the days `numbers`. The first plan starts from `machine`, each later plan from the machine to which the
+/// previous plan leads.
 ///
 /// The fault names the first day that the sheet doesn't have, or that is for another model than the machine's.
 pub fn plan_days(machine: &Machine, sheet: &Sheet, numbers: &[u8]) -> Result<DayPlans, DayFault>

@@ -64,7 +64,7 @@ IsLineAnswer line bytes = do
 
 -- ---- the head and the settings
 
--- `bytes` are a card's first line with this version and day, such as `CARD 2 DAY 31`, and then `rest`.
+-- `bytes` are a card's first line with `version` and `day`, such as `CARD 2 DAY 31`, and then `rest`.
 pub record BeginsWithHead (bytes : List ℕ) (version : Version) (day : ℕ) (rest : List ℕ) : Type 0 where
   pub text : bytes ≡ line_then (head_words version day) rest
   pub of_month : IsDayNumber day

@@ -39,7 +39,7 @@ card_text day settings prices = lines_text (
     ++ (codes "SETTINGS" ∷ decimal (length settings) ∷ []) ∷ price_lines prices
     ++ (codes "SUM" ∷ signed_decimal (price_sum prices) ∷ []) ∷ [])
 
--- `bytes` are the text of the card with this day, these settings and these prices, all of which are valid.
+-- `bytes` are the text of the card with `day`, `settings` and `prices`, all of which are valid.
 pub record IsCard (bytes : List ℕ) (day : ℕ) (settings : List Setting) (prices : PriceParts) : Type 0 where
   pub text : bytes ≡ card_text day settings prices
   pub of_month : IsDayNumber day

@@ -1,5 +1,5 @@
--- Kinds: equal cables are one kind, and so are equal columns, equal bars or equal rows. A kind has a count, and the
--- price of a single cable, column, bar or row.
+-- A kind is a set of equal cables, equal columns, equal bars or equal rows. It has a count, and the price of a single
+-- member.
 use Rattle.kd_card.specs.{declared.kinds.CableKind.CableKind, declared.kinds.PairKind.PairKind}
 use Rattle.kd_card.specs.{declared.kinds.BarKind.BarKind, declared.kinds.RowKind.RowKind, declared.kinds.KindOf.KindOf}
 use Rattle.kd_state.specs.{Costs.{column_letters, one_unless}, LineWords.line_of, Machine.cable_letters}
@@ -95,7 +95,7 @@ row_format = record {
 abbrev pub key_cmp : {K X : Type 0} → KindFormat K X → X → X → Ordering
 key_cmp format x y = slice_cmp nat_cmp (format.order x) (format.order y)
 
--- The first key comes before the second in the order of a card's lines.
+-- The key `x` comes before the key `y` in the order of a card's lines.
 abbrev pub KeyComesBefore : {K X : Type 0} → KindFormat K X → X → X → Type 0
 KeyComesBefore format x y = key_cmp format x y ≡ Less
 
@@ -143,10 +143,10 @@ pub record IsGroup {K X : Type 0} (format : KindFormat K X) (number : ℕ) (kind
 abbrev pub expansion : {X : Type 0} → List (KindOf X) → List (X × ℤ)
 expansion kinds = flat_map (λ kind. replicate kind.count (kind.key, kind.price)) kinds
 
--- Each kind's key and price are repeated as often as the kind's count says. The result is `keys` with their `prices`,
--- in some order.
--- Code: `kinds_of` sorts keys with their prices, and counts equal neighbours. For each key, `prices_of` takes its
--- kind's price, and lowers the kind's count.
+-- `keys` and `prices` are the keys and prices of `kinds`, in some order. Each kind's key and price are repeated as
+-- often as the kind's count says.
+-- Code: `kinds_of` sorts keys with their prices, and counts equal neighbours. For each key, `prices_of` takes the price
+-- of the key's kind, and lowers the kind's count.
 pub record AreKindsOf {K X : Type 0} (format : KindFormat K X) (keys : List X) (prices : List ℤ) (kinds : List K)
     : Type 0 where
   pub number : length prices ≡ length keys
@@ -154,7 +154,7 @@ pub record AreKindsOf {K X : Type 0} (format : KindFormat K X) (keys : List X) (
 
 -- ---- lines
 
--- the words of a kind's line
+-- the words of the line of kind `k`
 abbrev pub kind_words : {K X : Type 0} → KindFormat K X → K → List (List ℕ)
 kind_words format k =
     kind_line format.word (format.text (format.kind k).key) (format.kind k).count (format.kind k).price

@@ -95,7 +95,7 @@ CardsHaveNoFault =
     (bytes : List ℕ) (day : ℕ) (xs : List Setting) (prices : PriceParts) (fault : CardFault)
     → IsCard bytes day xs prices → ¬ (IsCardFault bytes fault)
 
--- Bytes that are read as a card have at most one first fault.
+-- Bytes have at most one first fault if they are read as a card.
 abbrev pub OneCardFault : Type 0
 OneCardFault =
     (bytes : List ℕ) (fault other : CardFault) → IsCardFault bytes fault → IsCardFault bytes other → fault ≡ other

@@ -12,8 +12,7 @@ use Rattle.std.specs.Prelude.{ℕ, nat_eq, Bool, false, not, List, [], ◌∷◌
 use Rattle.std.specs.Prelude.{if◌then◌else◌}
 use Rattle.std.specs.Option.{option_map_or}
 
--- the setting, as a list; an empty list if the first argument is `true`, because the machine is then already as the
--- setting says
+-- a list with only the setting `x`; empty if `already`, because the machine is then already as `x` says
 abbrev pub setting_unless : Bool → Setting → List Setting
 setting_unless already x = if already then [] else x ∷ []
 

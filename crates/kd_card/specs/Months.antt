@@ -30,9 +30,9 @@ DayAfterDay Sets machine days lists = ⊥
 abbrev pub total_length : List (List Setting) → ℕ
 total_length lists = sum (map length lists)
 
--- Suppose that a rotor machine has a card for each of several days, and each card proves itself. Then no other lists
--- for these days have fewer settings in total. The other lists reach the same days, in the same order and from the same
--- first machine.
+-- Suppose that a rotor machine has a card for each of several days, and each card proves itself. Then the cards have
+-- the fewest settings in total. Other lists that reach these days, in this order and from the same first machine, have
+-- no fewer settings.
 abbrev pub CardsAreFewestInAll : Type 0
 CardsAreFewestInAll =
     (machine : Parts) (days : List Day) (cards lists : List (List Setting)) → IsMachine machine

@@ -22,8 +22,7 @@ abbrev pub head_prefix : Version → List ℕ
 head_prefix ByNumber = codes "CARD 1 DAY "
 head_prefix ByKind = codes "CARD 2 DAY "
 
--- The first line of `bytes`, line `line` of a card, can't be read as `word` and then prices. If the reader expects at
--- least one price, it finds the fault `fault`.
+-- `bytes` begin at line `line` of a card. Reading this line as `word` and one or more prices gives the fault `fault`.
 abbrev pub IsNoPriceLine : List ℕ → ℕ → List ℕ → CardFault → Type 0
 IsNoPriceLine word line bytes fault =
     (number : ℕ) → 0 < number → IsPriceLineAnswer word number line bytes (Err fault)

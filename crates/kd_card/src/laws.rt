@@ -56,9 +56,9 @@ pub fn proving_cards_are_shortest()
     ensures { ProvingCardsAreShortest }
 {}
 
-/// If prices by kind show that a list of settings is shortest, no shorter list reaches the day.
+/// Prices by kind can show that no shorter list of settings reaches the day.
 ///
-/// Prices show this if they fit, and if their sum plus the number of loose things is the number of settings.
+/// They show this if they fit, and if their sum plus the number of loose things is the number of the list's settings.
 pub fn shown_lists_are_shortest()
     ensures { ShownListsAreShortest }
 {}
@@ -77,10 +77,10 @@ pub fn proving_prices_are_tight()
     ensures { ProvingPricesAreTight }
 {}
 
-/// If a rotor machine's cards for several days prove themselves, no other lists have fewer settings in total.
+/// If a rotor machine's cards for several days prove themselves, they have the fewest settings in total.
 ///
-/// Each card starts from the machine that the previous card has reached. The other lists reach the same days, in the
-/// same order and from the same first machine.
+/// Each card starts from the machine that the previous card has reached. Other lists that reach these days, in this
+/// order and from the same first machine, have no fewer settings.
 #[tactic(auto, using(crate::proofs::Months::cards_are_fewest_in_all))]
 pub fn cards_are_fewest_in_all()
     ensures { CardsAreFewestInAll }

@@ -50,7 +50,7 @@ pub(crate) enum CostTable {
     Bars,
 }
 
-/// The prices of a card: a list for the rows of the table of costs, and one for its columns.
+/// The prices of a card: a list for the rows of the table of costs, and a list for its columns.
 #[derive(Drop)]
 pub enum PriceParts {
     /// A price for each cable, and a price for each column (a pair or an empty column).

@@ -61,8 +61,7 @@ desk_grammar = record {
 -- Code: `Command` has two type parameters: for files that are read whole, and for a file that is streamed.
 -- Test: tests/cases/desk-program.toml
 
--- the task, with the first function applied to a file that is read whole, and the second function applied to a file
--- that is streamed
+-- the task, with `f` applied to a file that is read whole, and `g` applied to a file that is streamed
 abbrev pub with_task_files : {F G O P : Type 0} → (F → G) → (O → P) → Task F O → Task G P
 with_task_files f g tasks.Card = tasks.Card
 with_task_files f g (tasks.Check card) = tasks.Check (f card)
@@ -80,7 +79,7 @@ with_files f g command = record { machine = f command.machine; action = with_act
 abbrev pub unborrowed_command : Command (Bor (List ℕ)) (Bor (List ℕ)) → Command (List ℕ) (List ℕ)
 unborrowed_command command = with_files (λ name. name.now) (λ name. name.now) command
 
--- the command, with the function applied to its streamed file, if it has one
+-- the command, with `g` applied to its streamed file, if it has one
 abbrev pub with_command_stream : {F O P : Type 0} → (O → P) → Command F O → Command F P
 with_command_stream g command = with_files (λ file. file) g command
 

@@ -28,7 +28,7 @@ pub record IsMadeOf (grammar : Grammar) (name : List ℕ) (words : List (Bor (Li
   pub shape : app_of grammar ≡ app_without_subcommands (borrowed_shape name words)
   pub local : (out-Command grammar).has_globals ≡ false
 
--- No command has this name and these values for its arguments.
+-- No command has the name and the argument values in `said`.
 abbrev pub IsNoCommand : List ℕ × List Row → Type 0
 IsNoCommand said = (command : NamedCommand) → ¬ (IsCommandOf said command)
 

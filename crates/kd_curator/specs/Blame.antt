@@ -28,12 +28,12 @@ remark_words MachineForSheet = codes ": a key sheet is needed here, not the mach
 remark_words Order = codes ": in the order "
 remark_words Named = codes ": "
 
--- a remark on one of the command's files; the number is the file's place among these files, counted from 0
+-- a remark on the file at place `place` among the command's files, counted from 0
 abbrev pub blame_on : ℕ → Remark → Option Blame
 blame_on place remark = Some (record { place = place; remark = remark })
 
--- The remark on a file that couldn't be read, for the reason `why`. The number is the file's place among the command's
--- files. `None` if memory ran out.
+-- The remark on the file at place `place` among the command's files, which couldn't be read for the reason `why`.
+-- `None` if memory ran out.
 abbrev pub unread_blame : ℕ → FileFault → WhyUnread → Option Blame
 unread_blame place files.Device why = blame_on place (Unread why)
 unread_blame place files.ReadTooLong why = blame_on place TooLong

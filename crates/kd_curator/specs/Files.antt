@@ -19,7 +19,7 @@ names_of (commands.Sheet table options) = table ∷ []
 names_of (commands.Look files) = files.items
 names_of (commands.EmptySheet model days) = []
 
--- the bytes of the files with these names, or the fault of the first file that can't be read
+-- the bytes of the named files, or the fault of the first file that can't be read
 abbrev pub contents_of : (List ℕ → Option (List ℕ)) → List (List ℕ) → Result (List (List ℕ)) FileFault
 contents_of held [] = Ok []
 contents_of held (name ∷ names) = do
@@ -27,7 +27,7 @@ contents_of held (name ∷ names) = do
   rest ← contents_of held names
   Ok (bytes ∷ rest)
 
--- the text at this place of a list, counted from 0; empty if the list has no such place. The texts are the bytes of
+-- the text at place `place` in `texts`, counted from 0; empty if there is no such place. `texts` are the bytes of
 -- files, or the names of files.
 abbrev pub text_at : List (List ℕ) → ℕ → List ℕ
 text_at texts place = get_or texts place []

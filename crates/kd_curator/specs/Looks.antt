@@ -12,7 +12,7 @@ use Rattle.kd_curator.specs.Refusals.{refused_device, refused_memory, refused_wh
 use Rattle.kd_curator.specs.declared.fault.PageFault.TheVariants.{FaultyFile}
 use Rattle.kd_curator.specs.declared.fault.Refused.{Refused}
 
--- the list of files with these names and these bytes
+-- a `NamedText` for each file, from the names and the bytes
 abbrev pub named_texts : List (List ℕ) → List (List ℕ) → List NamedText
 named_texts (name ∷ names) (bytes ∷ texts) = record { name = name; bytes = bytes } ∷ named_texts names texts
 named_texts [] texts = []

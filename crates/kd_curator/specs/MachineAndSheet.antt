@@ -38,15 +38,15 @@ holds_of test (Err fault) = false
 unfoldable pub is_other_file : Needed → List ℕ → Bool
 is_other_file needed bytes = holds_of (is_other_document needed) (document_of bytes)
 
--- The remark on a file with a fault. The first argument says which sort of file is needed: a machine file or a key
--- sheet. The second argument says whether the file is of the other sort.
+-- The remark on a file with a fault. It depends on the needed sort, a machine file or a key sheet, and on whether the
+-- file is of the other sort.
 abbrev pub file_remark : Needed → Bool → Remark
 file_remark needs.Machine false = MachineFile
 file_remark needs.Machine true = SheetForMachine
 file_remark needs.Sheet false = KeySheet
 file_remark needs.Sheet true = MachineForSheet
 
--- the refusal for the first fault of the file at this place among the command's files
+-- the refusal for `fault`, the first fault of the file at place `place` among the command's files
 abbrev pub refused_file : Needed → ℕ → List ℕ → SheetFault → Refused
 refused_file needed place bytes fault = refused_in place (file_remark needed (is_other_file needed bytes)) (File fault)
 
@@ -57,7 +57,7 @@ or_refused refused read = result_map_both (λ value. value) refused read
 abbrev pub machine_in : List ℕ → Result Parts Refused
 machine_in bytes = or_refused (refused_file needs.Machine 0 bytes) (machine_of bytes)
 
--- the month in a key sheet, which is at this place among the command's files; or the refusal for the sheet's first
+-- the month in a key sheet, which is at place `place` among the command's files; or the refusal for the sheet's first
 -- fault
 abbrev pub month_in : ℕ → List ℕ → Result (List (Option Day)) Refused
 month_in place bytes = or_refused (refused_file needs.Sheet place bytes) (sheet_of bytes)

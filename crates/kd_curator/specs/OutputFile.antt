@@ -1,5 +1,5 @@
 -- The output file that the option `-o` names: the file is there exactly if the whole output was written.
--- Code: the command writes to a new file under another name. This file then gets its own name, or is removed.
+-- Code: the command writes to a new file under another name. This file then gets the output file's name, or is removed.
 -- Test: tests/new-files
 use Rattle.std.specs.Prelude.{codes, ◌≡◌, ◌⊎◌, ℕ, Bool, true, false, List, [], ◌∷◌, ◌++◌, Option, Some, None, option_map}
 use Rattle.std.specs.Prelude.{Result, Ok, Err}
@@ -37,8 +37,8 @@ pub record IsRunToFile (l : Language) (words : List (List ℕ)) (known : Option 
   pub fresh : written.had_failed ≡ false
   pub run : IsRun l words known asked written (Unit {0}) errors left answer
 
--- Why there is no output file `name`, though a new file was begun. `before` are the files before. `whole` says whether
--- the command's whole output was written, and `failed` whether the new file has failed.
+-- Why there is no output file `name`, though a new file was begun. `before` are the files before. If the whole output
+-- was written, the new file couldn't get its name. Otherwise a write to the new file has failed (`failed`).
 abbrev pub IsWhyUnwritten : Option FilesByName → List ℕ → Bool → Bool → NewFileFault → Type 0
 IsWhyUnwritten before name true failed fault = IsWhyUnnamed before name fault
 IsWhyUnwritten before name false failed fault = (failed ≡ true) × (fault ≡ new_files.Device)
@@ -93,14 +93,13 @@ pub data RunsTo (l : Language) (words : List (List ℕ)) (known : Option (List �
 
 -- ---- What inner functions require and answer. No public contract cites these definitions.
 
--- There is a command line that means this command.
+-- There is a command line that means `command`.
 abbrev pub IsMeantBySome : NamedCommand → Type 0
 IsMeantBySome command = (words : List (List ℕ)) × IsCommandLineOf words command
 
--- How the files change by a command that wrote `bytes` to a new file. The first truth value, `failed`, says whether a
--- write failed. The second truth value says whether the whole output was written. If the second is `true` and the
--- result is `Ok`, there is a new file `name` with these bytes. Otherwise, the files are as before, and the fault in the
--- result says why.
+-- How the files change by a command that wrote `bytes` to a new file. `failed` says whether a write failed. The truth
+-- value after `failed` says whether the whole output was written. If it was, and the result is `Ok`, there is a new
+-- file `name` with these bytes. Otherwise, the files are as before. A fault in the result says why.
 abbrev pub EndsFile : Option FilesByName → Option FilesByName → List ℕ → Option (List ℕ) → Bool → Bool
     → Result (Unit {0}) NewFileFault → Type 0
 EndsFile before after name bytes failed true (Ok done) = AddsFile before after name bytes

@@ -66,15 +66,16 @@ WritesMessage Send results l month m number order sink answer =
 WritesMessage Receive results l month m number form sink answer =
     WritesReceivePage results l month m number form sink answer
 
--- The task writes its output and gives this answer, if the machine file, the key sheet and the message have these
--- bytes. Words are in language `l`, unless the task asks for another language.
+-- The task writes its output to `sink`, and its answer is `answer`. `machine`, `sheet` and `message` are the bytes of
+-- the machine file, the key sheet and the message. Words are in language `l`, unless the task asks for another
+-- language.
 abbrev pub WorksMessage : Language → MessageTask → List ℕ → List ℕ → List ℕ → Port → Result (Unit {0}) Refused → Type 0
 WorksMessage l task machine sheet message sink answer = IsAnswerOnSheet machine sheet
     (λ m month. WritesMessage task.direction task.results (unwrap_or task.language l) month m task.day message sink answer)
     answer
 
--- The command writes its output and gives this answer, if its files have the bytes `texts`, in the order of the files.
--- Words are in language `l`, unless the command asks for another language.
+-- The command writes its output to `sink`, and its answer is `answer`. `texts` are the bytes of the command's files, in
+-- the order of the files. Words are in language `l`, unless the command asks for another language.
 abbrev pub DoesCommand : Language → NamedCommand → List (List ℕ) → Port → Result (Unit {0}) Refused → Type 0
 DoesCommand l (commands.OnMachine machine sheet task) texts sink answer =
     DoesTask l task sheet (text_at texts 0) (text_at texts 1) sink answer
@@ -110,9 +111,9 @@ abbrev pub IsFlushed : List ℕ → Result (Unit {0}) Stop → Result (Unit {0})
 IsFlushed left first answer =
     ((answer ≡ first) × (left ≡ [])) ⊎ ((answer ≡ Err (stops.Refused refused_device)) × (1 ≤ length left))
 
--- The program's answer after a command that gave the answer `first`. The first argument says whether the gathered bytes
--- were then passed on to the sink. If bytes were passed on, and the sink didn't take all of them, the answer is
--- `Device`. Otherwise, the answer is `first`.
+-- The program's answer after a command that gave the answer `first`. The truth value says whether the gathered bytes
+-- were then passed on to the sink. If they were, and the sink didn't take all of them, the answer is `Device`.
+-- Otherwise, the answer is `first`.
 abbrev pub AnswersAfter : Bool → List ℕ → Result (Unit {0}) Stop → Result (Unit {0}) Stop → Type 0
 AnswersAfter true left first answer = IsFlushed left first answer
 AnswersAfter false left first answer = answer ≡ first
@@ -223,7 +224,7 @@ AreNamesFor words names answer =
 
 -- `IsSo` holds of the program's answer, and the program ends with the text and the exit status for this answer. The
 -- sink didn't take the gathered bytes `left`. When the answer was known, standard error had taken the bytes `told`, and
--- `failed` says whether it had failed. `names` are the names of the command's files.
+-- `failed` says whether standard error had failed. `names` are the names of the command's files.
 pub record HasEnded (words : List (List ℕ)) (IsSo : Port → List ℕ → Result (Unit {0}) Stop → Type 0) (errors : Port)
     (status : ℕ) : Type 0 where
   pub left : List ℕ

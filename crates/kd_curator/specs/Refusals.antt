@@ -48,12 +48,11 @@ refused_whole fault = record { day = None; blame = None; fault = fault }
 abbrev pub refused_memory : Refused
 refused_memory = refused_whole (faults.File NoMemory)
 
--- a refusal for this fault, with a remark on the file at this place among the command's files
+-- a refusal for `fault`, with `remark` on the file at place `place` among the command's files
 abbrev pub refused_in : ℕ → Remark → PageFault → Refused
 refused_in place remark fault = record { day = None; blame = blame_on place remark; fault = fault }
 
--- the refusal for a file that couldn't be read for the reason `why`; the number is the file's place among the command's
--- files
+-- the refusal for the file at place `place` among the command's files, which couldn't be read for the reason `why`
 abbrev pub refused_unread : ℕ → FileFault → WhyUnread → Refused
 refused_unread place fault why = record { day = None; blame = unread_blame place fault why; fault = faults.Unread fault }
 
@@ -69,12 +68,13 @@ message_blame _ = blame_on 2 Order
 abbrev pub refused_message : FormFault → Refused
 refused_message fault = record { day = None; blame = message_blame fault; fault = faults.Message fault }
 
--- the fault that a refusal names if a day can't be planned for this reason
+-- the fault that a refusal names, made from the reason why a day can't be planned
 abbrev pub fault_of_plan : NoPlan → PageFault
 fault_of_plan plans.NoSuchDay = faults.NoSuchDay
 fault_of_plan plans.OtherModel = faults.OtherModel
 
--- The refusal of a day that can't be planned. If the command is for several days, the refusal names the day.
+-- The refusal of a day that can't be planned. If the command is for several days (`several`), the refusal names the
+-- day.
 abbrev pub day_refusal : Bool → DayFault → Refused
 day_refusal several fault = record {
   day = if several then Some fault.day else None;

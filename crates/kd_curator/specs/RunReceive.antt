@@ -25,8 +25,8 @@ pub record IsFormRead (m : Parts) (s : Day) (form : List ℕ) (parts : List Dama
   pub read : AreFormParts s form parts
   pub few : length (damaged_parts_of form) ≤ 255
 
--- The answer after the page of these parts was written. The command succeeds exactly if the parts are one whole message
--- of the day.
+-- `answer` is the answer after the page of `parts` was written. The command succeeds exactly if `parts` are one whole
+-- message of the day.
 abbrev pub IsReceivedAs : List DamagedPart → Result (Unit {0}) Refused → Type 0
 IsReceivedAs parts answer =
     (IsWhole parts × (answer ≡ Ok tt)) ⊎ (¬ (IsWhole parts) × (answer ≡ Err (refused_whole NotWhole)))

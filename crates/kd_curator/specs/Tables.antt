@@ -10,7 +10,7 @@ use Rattle.kd_curator.specs.Refusals.{refused_device}
 use Rattle.kd_curator.specs.declared.fault.Refused.{Refused}
 
 -- One of these is so:
--- - The tables of the sheet's month were written, in this form and in language `l`. If the sink failed, only a prefix
+-- - The tables of the sheet's month were written, as `form` says and in language `l`. If the sink failed, only a prefix
 --   was written.
 -- - The answer is the refusal for the sheet's first fault.
 -- - The answer is that memory ran out.

@@ -94,7 +94,7 @@ impl Refused {
         }
     }
 
-    /// The refusal for this fault, with a remark on the file at this place among the command's files.
+    /// The refusal for `fault`, with `remark` on the file at place `place` among the command's files.
     pub(crate) fn of_file(fault: PageFault, place: usize, remark: Remark) -> Refused
         ensures { result ≡ refused_in place remark fault }
     {

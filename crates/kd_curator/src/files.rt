@@ -86,7 +86,7 @@ fn listed<'n>(names: &[&'n str]) -> Names<'n>
     listed
 }
 
-/// Reads the files with these names, one after another, and appends their bytes to `contents`.
+/// Reads the files `names`, one after another, and appends their bytes to `contents`.
 ///
 /// After a fault, `contents` has the bytes of the files before the file that can't be read.
 pub(crate) fn read_contents<'n, F: Files<'n>>(

@@ -14,7 +14,7 @@ use kd_sheet::SheetFault;
 use kd_tables::{Sink, WriteFault};
 use std::alloc::{AllocError, Global};
 
-/// Describes the files with these names and contents in words, or names their faults.
+/// Describes the files `names`, whose bytes are `contents`, in words, or names their faults.
 pub(crate) fn look_at_files<W: Sink>(
     alloc: Global,
     names: &[&str],
@@ -29,7 +29,7 @@ pub(crate) fn look_at_files<W: Sink>(
     answer_of(look_at_all(alloc, names, contents, sink))
 }
 
-/// Describes the files with these names and contents in words, or names their faults.
+/// Does what `look_at_files` does, but returns the result of `look_at`.
 fn look_at_all<W: Sink>(
     alloc: Global,
     names: &[&str],

@@ -35,7 +35,7 @@ pub(crate) fn read_one(alloc: Global, machine: &[u8]) -> Result<Machine, Refused
     }
 }
 
-/// Reads the key sheet `sheet`, which is at this place among the command's files.
+/// Reads the key sheet `sheet`, which is at place `place` among the command's files.
 pub(crate) fn read_month(alloc: Global, place: usize, sheet: &[u8]) -> Result<Sheet, Refused>
     ensures found { (result ≡ month_in place sheet.now) ⊎ LacksMemory result }
     ensures fault { IfErr result (λ refused. is_device_fault refused.fault ≡ false) }

@@ -49,8 +49,8 @@ use std::convert::AsStr;
 /// refusal. With status 1 or 2, a text that says why is written to `errors`. If the text is about a file, it ends with
 /// the file's name as in `words`. Before this text, notes may be written to `errors`: by the command `sheet` on a
 /// table, and by the command `receive` on a form. Each file is read once, in the order of the command line. If a file
-/// can't be read, `new_files` is asked for the reason. In this case, no later file is asked for, and nothing is written
-/// to `sink`.
+/// can't be read, no later file is asked for, and nothing is written to `sink`. If a read failed, `new_files` is asked
+/// for the reason.
 ///
 /// If the words name an output file, nothing is written to `sink`. The output goes to a new file in `new_files`. The
 /// new file gets the output file's name exactly if the whole output was written.
@@ -208,7 +208,8 @@ fn run_command<'n, F: Files<'n>, N: NewFiles, W: Sink, E: Sink>(
     Stop::of_answer(answer)
 }
 
-/// The refusal for the file at place `place` of `names`, which couldn't be read. `folders` gives the reason.
+/// The refusal for the file at place `place` of `names`, which couldn't be read. If `fault` is `Device`, `folders`
+/// gives the reason.
 fn refused_unread<N: NewFiles>(
     names: &[&str],
     place: usize,

@@ -1,5 +1,5 @@
 //! The command `page`: writes an HTML page for each day. The first page starts from the machine file's machine, each
-//! later page from the machine as the previous page leaves it.
+//! later page from the machine to which the previous page leads.
 ghost use Rattle.std.specs.Prelude.{◌≡◌, ◌||◌, ◌+◌, ◌-◌, ◌≤◌, ◌++◌, filter, false, IfErr, IfOk, IsErr, length};
 ghost use Rattle.std.specs.List.{range_with_len};
 ghost use Rattle.kd_state.specs.Machine.{model_of};

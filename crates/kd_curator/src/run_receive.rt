@@ -1,4 +1,4 @@
-//! The command `receive`: writes an HTML page that shows how to decipher a form by hand, and the form's text.
+//! The command `receive`: writes an HTML page that shows a form's text, and how to decipher the form by hand.
 ghost use Rattle.std.specs.Prelude.{◌≡◌, ◌||◌, false, IsErr};
 ghost use Rattle.kd_tables.specs.Ports.{port};
 ghost use Rattle.kd_curator.specs.Refusals.{has_written, is_device};

@@ -160,17 +160,17 @@ unborrowed_command (commands.Sheet table options) = commands.Sheet table.now (te
 unborrowed_command (commands.Look files) = commands.Look (record { items = unborrowed_names files.items })
 unborrowed_command (commands.EmptySheet model days) = commands.EmptySheet model days
 
--- The argument DAYS names these days. `None` means that the argument isn't given.
+-- `days` are the days that the argument DAYS names. `None` means that the argument isn't given.
 abbrev pub HasDays : List Row → Option (List ℕ) → Type 0
 HasDays rows None = first_of (codes "DAYS") rows ≡ None
 HasDays rows (Some days) =
     (word : List ℕ) × (first_of (codes "DAYS") rows ≡ Some word) × AreDays word days
 
--- The argument DAY is the decimal number of this day, from 1 to 31.
+-- The argument DAY is the decimal number of the day `day`, from 1 to 31.
 abbrev pub HasDay : List Row → ℕ → Type 0
 HasDay rows day = (first_of (codes "DAY") rows ≡ Some (decimal day)) × IsDayNumber day
 
--- The value of the option `--in` is the code of this language. `None` means that the option isn't used.
+-- The value of the option `--in` is the code of `language`. `None` means that the option isn't used.
 abbrev pub HasLanguage : List Row → Option Language → Type 0
 HasLanguage rows language = first_of (codes "in") rows ≡ option_map language_code language
 
@@ -178,7 +178,7 @@ abbrev pub task_name : Task → List ℕ
 task_name (tasks.Page days language) = codes "page"
 task_name (tasks.List day) = codes "list"
 
--- The command's arguments ask for this task. For pages, they name the days and the language; for a list, they name the
+-- The arguments in `rows` ask for the task. For pages, they name the days and the language; for a list, they name the
 -- day.
 abbrev pub HasArguments : List Row → Task → Type 0
 HasArguments rows (tasks.Page days language) = HasDays rows days × HasLanguage rows language
@@ -189,8 +189,8 @@ pub record IsTaskOf (said : List ℕ × List Row) (task : Task) : Type 0 where
   pub name : said.0 ≡ task_name task
   pub arguments : HasArguments said.1 task
 
--- The command name and the argument values in `said` ask for the task `its_task`, with this machine file and this key
--- sheet.
+-- The command name and the argument values in `said` ask for the task `its_task`, with the files `machine_file` and
+-- `key_sheet`.
 pub record IsTaskWith (said : List ℕ × List Row) (machine_file key_sheet : List ℕ) (its_task : Task) : Type 0 where
   pub machine : first_of (codes "MACHINE") said.1 ≡ Some machine_file
   pub sheet : first_of (codes "SHEET") said.1 ≡ Some key_sheet
@@ -200,7 +200,8 @@ pub record IsTaskWith (said : List ℕ × List Row) (machine_file key_sheet : Li
 abbrev pub IsUsed : List ℕ → List Row → Type 0
 IsUsed name rows = first_of name rows ≡ Some (codes "true")
 
--- The arguments ask for tables in this form: with the option `--csv` as CSV, without the option as a page.
+-- The arguments in `rows` ask for tables in one of two forms: with the option `--csv` as CSV, without the option as a
+-- page.
 abbrev pub HasForm : List Row → TableForm → Type 0
 HasForm rows forms.Csv = IsUsed (codes "csv") rows
 HasForm rows forms.Page = ¬ (IsUsed (codes "csv") rows)
@@ -210,7 +211,8 @@ abbrev pub HasResults : List Row → Results → Type 0
 HasResults rows LeftOpen = IsUsed (codes "blank") rows
 HasResults rows Shown = ¬ (IsUsed (codes "blank") rows)
 
--- The command's name and arguments in `said` mean the command `send` or `receive`, with these files and this task.
+-- The command's name and arguments in `said` mean the command `send` or `receive`, with the task `its_task` and the
+-- files `machine_file`, `key_sheet` and `its_message`.
 pub record IsMessageOf (said : List ℕ × List Row) (machine_file key_sheet its_message : List ℕ) (its_task : MessageTask)
     : Type 0 where
   pub name : said.0 ≡ direction_name its_task.direction
@@ -221,15 +223,14 @@ pub record IsMessageOf (said : List ℕ × List Row) (machine_file key_sheet its
   pub results : HasResults said.1 its_task.results
   pub language : HasLanguage said.1 its_task.language
 
--- The command's name and arguments in `said` mean the command `type`, with this machine file and this language.
+-- The command's name and arguments in `said` mean the command `type`, with `machine_file` and `its_language`.
 pub record IsTypingPageOf (said : List ℕ × List Row) (machine_file : List ℕ) (its_language : Option Language)
     : Type 0 where
   pub name : said.0 ≡ codes "type"
   pub machine : first_of (codes "MACHINE") said.1 ≡ Some machine_file
   pub language : HasLanguage said.1 its_language
 
--- The command's name and arguments in `said` mean the command `table`, with this key sheet, this form and this
--- language.
+-- The command's name and arguments in `said` mean the command `table`, with `key_sheet`, `its_form` and `its_language`.
 pub record IsTableOf (said : List ℕ × List Row) (key_sheet : List ℕ) (its_form : TableForm)
     (its_language : Option Language) : Type 0 where
   pub name : said.0 ≡ codes "table"
@@ -237,7 +238,7 @@ pub record IsTableOf (said : List ℕ × List Row) (key_sheet : List ℕ) (its_f
   pub form : HasForm said.1 its_form
   pub language : HasLanguage said.1 its_language
 
--- the value of an option; empty if the option isn't used
+-- the value of the option `name`; empty if the option isn't used
 abbrev pub option_text : List ℕ → List Row → List ℕ
 option_text name rows = unwrap_or (first_of name rows) []
 
@@ -254,21 +255,21 @@ abbrev pub are_blank : OptionTexts → Bool
 are_blank options =
     (length options.model == 0) && (length options.reflector == 0) && (length options.window == 0)
 
--- The command's name and arguments in `said` mean the command `sheet` without `--empty`, with this table and these
--- options.
+-- The command's name and arguments in `said` mean the command `sheet` without `--empty`, with the table `its_table` and
+-- the options `its_options`.
 pub record IsSheetOf (said : List ℕ × List Row) (its_table : List ℕ) (its_options : OptionTexts) : Type 0 where
   pub name : said.0 ≡ codes "sheet"
   pub filled : first_of (codes "empty") said.1 ≡ None
   pub table : first_of (codes "TABLE") said.1 ≡ Some its_table
   pub options : its_options ≡ option_texts said.1
 
--- `model_word` is the name of the model. `days_word` is the number of days, from 1 to 31.
+-- `model_word` is the name of `model`. `days_word` is the number `days` in decimal, from 1 to 31.
 pub record IsMonthNamed (model_word days_word : List ℕ) (model : Model) (days : ℕ) : Type 0 where
   pub named : model_text model ≡ model_word
   pub numbered : decimal days ≡ days_word
   pub within : IsDayNumber days
 
--- The command's name and arguments in `said` mean `sheet --empty`, with this model and this number of days. The options
+-- The command's name and arguments in `said` mean `sheet --empty`, for `model` and a month of `days` days. The options
 -- `--model`, `--reflector` and `--window` aren't used, or are empty.
 pub record IsEmptySheetOf (said : List ℕ × List Row) (model : Model) (days : ℕ) : Type 0 where
   pub name : said.0 ≡ codes "sheet"
@@ -289,7 +290,7 @@ pub record IsLookOf (said : List ℕ × List Row) (its_files : List (List ℕ)) 
   pub first : IsSome (first_of (codes "FILE") said.1)
   pub files : its_files ≡ files_said said.1
 
--- The name and the arguments on the command line mean this command.
+-- The name and the arguments in `said` mean the command.
 abbrev pub IsCommandOf : List ℕ × List Row → NamedCommand → Type 0
 IsCommandOf said (commands.OnMachine machine sheet task) = IsTaskWith said machine sheet task
 IsCommandOf said (commands.Message machine sheet message task) = IsMessageOf said machine sheet message task
@@ -299,7 +300,7 @@ IsCommandOf said (commands.Sheet table options) = IsSheetOf said table options
 IsCommandOf said (commands.Look files) = IsLookOf said files.items
 IsCommandOf said (commands.EmptySheet model days) = IsEmptySheetOf said model days
 
--- The command line has the name of a command. This name and its arguments mean this command.
+-- `said` has the name of a command. This name and its arguments mean `command`.
 abbrev pub IsMeant : Option (List ℕ × List Row) → NamedCommand → Type 0
 IsMeant said command = IsSomeAnd said (λ x. IsCommandOf x command)
 
@@ -347,7 +348,7 @@ HasNoCommand words NoMemory = Unit {0}
 
 -- ---- What inner functions make of grammars and errors. No public contract cites these definitions.
 
--- the rule of an argument with this name and of this sort
+-- the rule of an argument with the name `name`, by the argument's sort
 abbrev pub rule_of_sort : List ℕ → Sort → Rule
 rule_of_sort name sorts.Needed = needed name
 rule_of_sort name sorts.Optional = new_rule name
@@ -362,7 +363,7 @@ rule_of_argument argument = rule_of_sort argument.name.now argument.sort
 abbrev pub shape_of : CommandWords → Shape
 shape_of words = record (new_shape words.name.now) { rules = map rule_of_argument words.arguments.now }
 
--- the grammar `app`, with these commands added
+-- the grammar `app`, with `commands` added
 abbrev pub with_commands : App → List CommandWords → App
 with_commands app commands = fold (λ a words. with_subcommand a (shape_of words)) app commands
 
@@ -378,7 +379,8 @@ pub record IsMessageTask (rows : List Row) (direction : Direction) (task : Messa
   pub results : HasResults rows task.results
   pub language : HasLanguage rows task.language
 
--- For an error of this kind from `clap`, the program may give this reason why there is no command.
+-- For an error of the kind `kind` from `clap`, the program may give this `NoCommand` as the reason why there is no
+-- command.
 abbrev pub IsToldAs : ErrorKind → NoCommand → Type 0
 IsToldAs kind (Asked text) = IsTrue (is_help kind)
 IsToldAs kind (Usage text) = (is_help kind ≡ false) × (kind ≢ OutOfMemory)

@@ -11,11 +11,11 @@ is_comma byte = byte == 44
 abbrev pub is_hyphen : ℕ → Bool
 is_hyphen byte = byte == 45
 
--- the day, from 1 to 31, whose decimal number is this text
+-- the day, from 1 to 31, whose decimal number is `text`
 unfoldable pub day_named : List ℕ → Option ℕ
 day_named text = find (λ day. bytes_eq (decimal day) text) (range_with_len 1 31)
 
--- all days from the first argument to the second
+-- all days from `first` to `last`
 abbrev pub days_from : ℕ → ℕ → List ℕ
 days_from first last = range_with_len first (last + 1 - first)
 
@@ -47,15 +47,14 @@ abbrev pub has_twice : List ℕ → Bool
 has_twice [] = false
 has_twice (day ∷ days) = list_any (λ other. other == day) days || has_twice days
 
--- The word names these days, in this order. There are at most 31 days, and no day comes twice.
+-- `word` names `days`, in this order. There are at most 31 days, and no day comes twice.
 pub record AreDays (word : List ℕ) (days : List ℕ) : Type 0 where
   pub named : days_named word ≡ Some days
   pub few : length days ≤ 31
   pub once : has_twice days ≡ false
 
--- The new list has the days of the old list, then the added days. The arguments are the added days, the old list, the
--- new list, and the result. The result is `None` if the added days are `None`, or if the new list would have more than
--- 31 days.
+-- The list `new` has the days of `old`, then the added days `more`. The result is `None` if `more` is `None`, or if
+-- `new` would have more than 31 days.
 abbrev pub AddsDays : Option (List ℕ) → List ℕ → List ℕ → Option (Unit {0}) → Type 0
 AddsDays more old new (Some done) = (option_map (λ days. old ++ days) more ≡ Some new) × (length new ≤ 31)
 AddsDays more old new None = IfSome more (λ days. 31 < length (old ++ days))

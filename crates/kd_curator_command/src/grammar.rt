@@ -254,7 +254,7 @@ fn command_grammar<'a>(alloc: Global, words: &CommandWords<'a>) -> Result<Gramma
     Ok(command)
 }
 
-/// The argument, in the form that clap needs.
+/// Converts `argument` to the form that clap needs.
 fn argument_of<'a>(alloc: Global, argument: &Argument<'a>) -> Arg<'a>
     ensures rule { rule_of result ≡ rule_of_argument argument.now }
     ensures local { result.global ≡ false }

@@ -17,7 +17,7 @@ pub fn language_of(locale: &str) -> Language
     }
 }
 
-/// The language with this code: `en` for English, `de` for German. `None` if no language has the code.
+/// The language with the code `code`: `en` for English, `de` for German. `None` if no language has this code.
 pub fn language_of_code(code: &str) -> Option<Language>
     ensures said { IfSome result (λ language. language_code language ≡ code.now) }
     ensures none { result ≡ None → (language : Language) → language_code language ≢ code.now }

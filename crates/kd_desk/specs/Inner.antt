@@ -17,11 +17,11 @@ use Rattle.kd_desk.specs.Stops.{stop_after}
 
 -- ---- Reading and carrying out a part of a command. No public contract cites these definitions.
 
--- the task, with the function applied to its streamed file, if it has one
+-- the task, with `g` applied to its streamed file, if it has one
 abbrev pub with_task_stream : {F O P : Type 0} → (O → P) → Task F O → Task F P
 with_task_stream g task = with_task_files (λ file. file) g task
 
--- the action, with the function applied to its streamed file, if it has one
+-- the action, with `g` applied to its streamed file, if it has one
 abbrev pub with_action_stream : {F O P : Type 0} → (O → P) → Action F O → Action F P
 with_action_stream g action = with_action_files (λ file. file) g action
 

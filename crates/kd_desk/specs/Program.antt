@@ -75,19 +75,21 @@ pub record TypesOn (machine : List ℕ) (source sink : Port) (answer : Result (U
   pub refused : IfErr (machine_of machine) (λ fault. AnswersFault answer (File fault))
   pub typed : IfOk (machine_of machine) (λ m. TypesText m source sink answer ⊎ LacksMemory answer)
 
--- Either the bytes `list` were applied to the machine of a machine file, or the file was refused, or memory ran out.
+-- Either the bytes `list` were applied to the machine of a machine file, or the machine file was refused, or memory ran
+-- out.
 pub record AppliesTo (machine list : List ℕ) (sink : Port) (answer : Result (Unit {0}) DeskFault) : Type 0 where
   pub refused : IfErr (machine_of machine) (λ fault. AnswersFault answer (File fault))
   pub applied : IfOk (machine_of machine) (λ m. Applies m list sink answer ⊎ LacksMemory answer)
 
--- A task was carried out with a machine and a day. An order or a form is read from a port.
+-- A task was carried out with the machine `m` and the day `s`, whose number is `number`. An order or a form is read
+-- from a port.
 abbrev pub DoesTask : Task (List ℕ) Port → ℕ → Port → Result (Unit {0}) DeskFault → Parts → Day → Type 0
 DoesTask tasks.Card number sink answer m s = Prints (IsChosenCard m s number) m s number sink answer
 DoesTask (tasks.Check card) number sink answer m s = Checks m s number card sink answer
 DoesTask (tasks.Message Send order) number sink answer m s = Sends m s order sink answer
 DoesTask (tasks.Message Receive form) number sink answer m s = Receives m s form sink answer
 
--- An action was carried out with the machine of a machine file. Only `Type` reads `source`.
+-- An action was carried out with the machine of the machine file `machine`. Only `Type` reads `source`.
 abbrev pub DoesAction : List ℕ → Action (List ℕ) Port → Port → Port → Result (Unit {0}) DeskFault → Type 0
 DoesAction machine actions.Type source sink answer = TypesOn machine source sink answer
 DoesAction machine (actions.Apply list) source sink answer = AppliesTo machine list sink answer × IsUntouched source
@@ -100,7 +102,8 @@ DoesCommand command source sink answer = DoesAction command.machine command.acti
 
 -- ---- How a command is carried out, and what is left of the file that it opened.
 
--- the opened file as a port. `file` is what is known of the file before a call, and `left` is what is known after it.
+-- the opened file as a port. `file` is what is known of the file before a call, and `left` is what is known after the
+-- call.
 abbrev pub file_port : KnownFile → KnownFile → Port
 file_port left file = record { had = file.bytes; has = left.bytes; had_failed = file.failed; has_failed = left.failed }
 
@@ -109,7 +112,7 @@ abbrev pub has_file_failed : Option KnownFile → KnownFile → Bool
 has_file_failed None left = false
 has_file_failed (Some file) left = left.failed
 
--- Memory ran out while the command line or a file was read.
+-- The program's answer is that memory ran out.
 abbrev pub StopsForMemory : Result (Unit {0}) Stop → Type 0
 StopsForMemory answer = (answer ≡ Err (Refused (File NoMemory))) ⊎ (answer ≡ Err (Unread files.NoMemory))
 

@@ -20,7 +20,7 @@ pub record PinKey : Type 0 where
   pub letters : List ℕ
   pub bars : List (ℕ × ℕ)
 
--- the key after the six wheels are turned to other letters
+-- `key`, with the six wheels turned to `letters`
 abbrev pub pin_key_turned : PinKey → List ℕ → PinKey
 pin_key_turned key letters = record key { letters = letters }
 
@@ -50,7 +50,7 @@ bars_met key count =
 abbrev pub converter_cipher : PinKey → List ℕ → List ℕ
 converter_cipher key text = map (λ numbered. (25 + bars_met key numbered.0 - numbered.1) % 26) (enumerate_from 0 text)
 
--- the letter that a wheel shows after `count` letters; the wheel turns by one place for each letter
+-- the letter that wheel `wheel` shows after `count` letters; the wheel turns by one place for each letter
 abbrev pub letter_after : PinKey → ℕ → ℕ → ℕ
 letter_after key count wheel = slice_index (ring_of wheel)
     ((shown_place key.letters wheel + count) % length (ring_of wheel))

@@ -24,7 +24,7 @@ pub record IsPlugboard (plugs : List ℕ) : Type 0 where
   pub permutation : IsPermutation26 plugs
   pub own_inverse : IsOwnInverse plugs
 
--- `key` with other letters in the windows
+-- `key`, with the letters `window` in the windows
 abbrev pub key_turned : RotorKey → List ℕ → RotorKey
 key_turned key window = record key { window = window }
 

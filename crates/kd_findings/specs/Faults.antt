@@ -31,16 +31,15 @@ use Rattle.kd_findings.specs.declared.place.Place.{Place}
 abbrev pub in_file : Key → Place
 in_file key = record { entry = None; day = None; key = key }
 
--- The place of a key in the first argument's entry. If the first argument has no entry, the key is at the top of the
--- file.
+-- The place of `key` in the entry of `place`. If `place` has no entry, `key` is at the top of the file.
 abbrev pub at_key : Place → Key → Place
 at_key place key = record place { key = key }
 
--- a list with the fault at the place; empty if there is no fault
+-- a list with only `fault` and its place `place`; empty if there is no fault
 abbrev pub at_place : Place → Option SheetFault → List (Place × SheetFault)
 at_place place fault = option_to_list (option_map (λ one. (place, one)) fault)
 
--- the fault with which the desk refuses the value at a place; empty if the desk reads the value
+-- the fault with which the desk refuses the value at `place`, as a list; empty if the desk reads the value
 abbrev pub fault_at : {A : Type 0} → Place → Result A SheetFault → List (Place × SheetFault)
 fault_at place reading = at_place place (result_err reading)
 
@@ -94,7 +93,7 @@ first_fault faults = option_map (λ fault. fault.1) (slice_get faults 0)
 
 -- ---- What inner functions answer. No public contract cites this definition.
 
--- the number of the list item in which a check found this fault; `None` if the check found the fault in no item
+-- the number of the list item in which a check found `fault`; `None` if the check found `fault` in no item
 abbrev pub told_item : SheetFault → Result (Unit {0}) Slip → Option ℕ
 told_item fault (Err (slips.Fault found item words)) = if (fault_eq.ghosts).eq found fault then item else None
 told_item fault checked = None

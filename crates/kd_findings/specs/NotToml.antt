@@ -27,14 +27,13 @@ column_at text index = characters_to_feed (reverse (take index text)) + 1
 unfoldable pub place_words : ℕ → ℕ → List ℕ → List ℕ
 place_words line column reason = titled (codes ", line ") line ++ titled (codes ", column ") column ++ codes ": " ++ reason
 
--- The words are the line and the column of the byte at `start`, then a reason without a line end.
+-- `words` are the line and the column of the byte at `start`, then a reason without a line end.
 pub record NamesPlace (text : List ℕ) (start : ℕ) (words : List ℕ) : Type 0 where
   pub reason : List ℕ
   pub plain : IsInOneLine reason
   pub whole : words ≡ place_words (line_at text start) (column_at text start) reason
 
--- The words name a place by its line and column: a byte of the text, or the text's end. Then they have a reason in one
--- line.
+-- `words` have the line and the column of a byte of `text`, or of the text's end. Then they have a reason in one line.
 pub record SaysNotToml (text words : List ℕ) : Type 0 where
   pub start : ℕ
   pub within : start ≤ length text

@@ -27,8 +27,8 @@ use Rattle.kd_findings.specs.Faults.{after_model, at_key, fault_at, in_file, mac
 use Rattle.kd_findings.specs.Kind.{entries_of, is_given, is_machine_file}
 use Rattle.kd_findings.specs.declared.place.Place.{Place}
 
--- The place of a key in a key sheet. The first argument is the number of the entry, counted from 1. The second argument
--- is the entry's day, if it can be read.
+-- The place of `key` in entry `entry` of a key sheet. Entries are counted from 1. `day` is the entry's day, if it can
+-- be read.
 abbrev pub in_entry : ℕ → Option ℕ → Key → Place
 in_entry entry day key = record { entry = Some entry; day = day; key = key }
 
@@ -36,7 +36,7 @@ in_entry entry day key = record { entry = Some entry; day = day; key = key }
 abbrev pub number_in : Members → Result ℕ SheetFault
 number_in table = read_at keys.Day (number_up_to 31) table
 
--- whether the item is an entry for this day
+-- whether `item` is an entry for the day `number`
 abbrev pub has_number : ℕ → Data → Bool
 has_number number item =
     option_map_or (λ day. day == number) (option_and_then (λ table. result_ok (number_in table)) (as_table item)) false
@@ -69,7 +69,7 @@ abbrev pub model_day_faults : Place → Members → Model → List (Place × She
 model_day_faults place table model =
     by_family (rotor_day_faults place model table) (pin_day_faults place table) (family_of model)
 
--- the place of the key `day` in an entry; the first argument has all items of the array `day` before this entry
+-- the place of the key `day` in an entry; `earlier` has all items of the array `day` before this entry
 abbrev pub day_place : List Data → Members → Place
 day_place earlier table = in_entry (length earlier + 1) (result_ok (number_in table)) keys.Day
 
@@ -80,12 +80,12 @@ table_faults earlier table =
     ++ after_model (at_key (day_place earlier table) keys.Model) (model_day_faults (day_place earlier table) table)
     (model_in table)
 
--- the faults of an entry; the first argument has all items of the array `day` before this entry
+-- the faults of an entry; `earlier` has all items of the array `day` before this entry
 abbrev pub entry_faults : List Data → Data → List (Place × SheetFault)
 entry_faults earlier item = option_map_or (table_faults earlier) (as_table item)
     ((in_entry (length earlier + 1) None keys.Day, BadValue keys.Day) ∷ [])
 
--- the faults of the entries in the second list; the first list has the items before these entries
+-- the faults of the entries in a list; `earlier` has the items before these entries
 abbrev pub faults_after : List Data → List Data → List (Place × SheetFault)
 faults_after earlier [] = []
 faults_after earlier (item ∷ rest) = entry_faults earlier item ++ faults_after (earlier ++ item ∷ []) rest
@@ -102,15 +102,15 @@ pub record AreSheetFaults (items : List Data) (faults : List (Place × SheetFaul
 abbrev pub day_fault : Members → SheetFault
 day_fault document = if is_given keys.Day document then BadValue keys.Day else Missing keys.Day
 
--- The list has the faults of the document. The first argument says whether the document is a machine file. The second
--- argument has the items of the document's array `day`, if there is one.
+-- `faults` are the faults of `document`. The truth value says whether the document is a machine file. `items` are the
+-- items of the document's array `day`, if there is one.
 abbrev pub AreFaultsOf : Bool → Option (List Data) → Members → List (Place × SheetFault) → Type 0
 AreFaultsOf true entries document faults = faults ≡ machine_faults document
 AreFaultsOf false (Some items) document faults = AreSheetFaults items faults
 AreFaultsOf false None document faults = faults ≡ (in_file keys.Day, day_fault document) ∷ []
 
--- The list has the faults of the document. The document may be a machine file, a key sheet with entries, or another
--- document without the array `day`.
+-- `faults` are the faults of `document`: a machine file, a key sheet with entries, or another document without the
+-- array `day`.
 abbrev pub AreFaults : Members → List (Place × SheetFault) → Type 0
 AreFaults document faults = AreFaultsOf (is_machine_file document) (entries_of document) document faults
 

@@ -19,7 +19,7 @@ ArePieces IsPiece (first ∷ rest) text = BeginsWith (IsPiece first) (λ others.
 abbrev pub IsInOneLine : List ℕ → Type 0
 IsInOneLine text = EachIndex text (λ index. slice_index text index ≢ 10)
 
--- The line is the text up to the first line feed or, if the text has no line feed, the whole text.
+-- `line` is the whole of `text`, or the part of `text` before a line feed.
 abbrev pub EndsAtFeed : List ℕ → List ℕ → Type 0
 EndsAtFeed text line = (text ≡ line) ⊎ ((rest : List ℕ) × (text ≡ line ++ 10 ∷ rest))
 

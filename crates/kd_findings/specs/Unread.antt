@@ -52,7 +52,7 @@ abbrev pub day_keys : Option Model → List Key
 day_keys (Some model) = by_family rotor_day_keys pin_day_keys (family_of model)
 day_keys None = rotor_day_keys ++ pin_day_keys
 
--- whether one of the keys has this name
+-- whether one of the keys `known` has the name `name`
 abbrev pub is_name_of : List Key → List ℕ → Bool
 is_name_of known name = list_any (λ key. bytes_eq (key_name key) name) known
 
@@ -61,7 +61,8 @@ abbrev pub names_in : Members → List (List ℕ)
 names_in no_members = []
 names_in (member name value rest) = name ∷ names_in rest
 
--- the keys of a table that aren't among the known keys, each with the number and the day of the table's entry
+-- the keys of `table` that aren't among the keys `known`, each with the number `entry` and the day `day` of the table's
+-- entry
 unfoldable pub unread_in : Option ℕ → Option ℕ → List Key → Members → List UnreadKey
 unread_in entry day known table = map (λ name. record { entry = entry; day = day; name = name })
     (filter (λ name. not (is_name_of known name)) (names_in table))
@@ -91,7 +92,7 @@ unread_keys document = option_map_or
 
 -- ---- What inner functions answer. No public contract cites these definitions.
 
--- an unread key that the code found, with the key's name as a list of bytes
+-- the unread key `found`, with the key's name as a list of bytes
 abbrev pub unread_key : Unread → UnreadKey
 unread_key found = record { entry = found.entry; day = found.day; name = found.name.now }
 

@@ -27,8 +27,8 @@ unfoldable pub unread_line : List ℕ → UnreadKey → List ℕ → List ℕ
 unread_line name key advice =
     warning_start name key.day key.entry ++ codes "nobody reads the key " ++ shown_text key.name ++ advice ++ codes "\n"
 
--- `text` is the warning about this unread key of the file `name`. The warning may end with advice, such as a known key
--- to write instead.
+-- `text` is the warning about the unread key `key` of the file `name`. The warning may end with advice, such as a known
+-- key to write instead.
 pub record TellsUnread (name : List ℕ) (key : UnreadKey) (text : List ℕ) : Type 0 where
   pub advice : List ℕ
   pub plain : IsInOneLine advice

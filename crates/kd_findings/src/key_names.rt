@@ -22,7 +22,7 @@ const OTHER_NAMES: [(&str, Key); 12] = [
     ("bars", Key::Rows),
 ];
 
-/// Whether one of `keys` has this name.
+/// Whether one of `keys` has the name `name`.
 pub fn is_known(keys: &[Key], name: &str) -> bool
     ensures { result ≡ is_name_of keys.now name.now }
 {

@@ -76,7 +76,7 @@ fn file_model(table: &Table) -> Result<Model, SheetFault>
     Ok(model)
 }
 
-/// Whether machine files of this version can have `model`. Without a version, `model` may be any model.
+/// Whether a machine file of version `version` can have `model`. Without a version, it can have any model.
 fn has_model(version: Option<u8>, model: Model) -> bool
     ensures { result ≡ option_map_or (nat_le (file_version model)) version true }
 {

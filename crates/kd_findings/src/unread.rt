@@ -163,7 +163,7 @@ fn top_keys(document: &Table) -> &'static [Key]
     }
 }
 
-/// The keys of a machine file of this model. If the model isn't known, the keys of all machine files.
+/// The keys of a machine file of `model`. If the model isn't known, the keys of all machine files.
 fn file_keys(model: Option<Model>) -> &'static [Key]
     ensures { result.now ≡ file_keys model }
 {
@@ -207,7 +207,7 @@ fn push_entry_keys<'t>(
     }
 }
 
-/// The keys of an entry of this model. If the model isn't known, the keys of all entries.
+/// The keys of an entry of `model`. If the model isn't known, the keys of all entries.
 fn day_keys(model: Option<Model>) -> &'static [Key]
     ensures { result.now ≡ day_keys model }
 {

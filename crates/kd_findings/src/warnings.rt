@@ -59,7 +59,7 @@ fn push_unread(
     push_told(text, alloc, name, key, first_line(advice.as_str()))
 }
 
-/// The advice for an unread key. It says what to write in its place.
+/// The advice for an unread key: what to write instead. It is empty for `Unknown`.
 fn advice_of(alloc: Global, meant: Meant) -> Result<String, AllocError> {
     match meant {
         Meant::Key(key) => format!(in alloc; ": write `{}`", key.name()),

@@ -32,8 +32,8 @@ parts_of form = (cut_at_headings form).0 ∷ (cut_at_headings form).1
 
 -- ---- Which headings are valid on a day, and the first line of a part.
 
--- A body may have this number of letters. On rotor machines: two fillers, a group of three, and 1 to 245 letters of
--- text. On the Converter M-209: ten letters of indicators at each end, and 1 to 100 groups of five letters.
+-- A body may have `count` letters. On rotor machines: two fillers, a group of three, and 1 to 245 letters of text. On
+-- the Converter M-209: ten letters of indicators at each end, and 1 to 100 groups of five letters.
 abbrev pub IsLetterCount : Day → ℕ → Type 0
 IsLetterCount (Rotor s) count = (6 ≤ count) × (count ≤ 250)
 IsLetterCount (Pin s) count = (25 ≤ count) × (count ≤ 520) × (count % 5 ≡ 0)

@@ -31,7 +31,7 @@ abbrev pub PartsProperty : Type 1
 PartsProperty = PartStart → List (List ℕ) → Type 0
 
 -- The parts are read in order, from the start `p` on. Reading stops when the remaining parts satisfy `Holds`. `letters`
--- are the deciphered letters of the parts read.
+-- are the deciphered letters of the parts that were read.
 abbrev pub ReadsPartsTo : Day → PartsProperty → PartStart → List (List ℕ) → List ℕ → Type 0
 ReadsPartsTo s Holds p [] letters = Holds p [] × (letters ≡ [])
 ReadsPartsTo s Holds p (part ∷ parts) letters =
@@ -55,7 +55,8 @@ plaintext_bytes s letters = map (plaintext_byte (space_letter s)) letters
 abbrev pub plaintext_with_end : Day → List ℕ → List ℕ
 plaintext_with_end s letters = plaintext_bytes s letters ++ 10 ∷ []
 
--- The form's parts are read in order, until the remaining parts satisfy `Holds`. `text` is the text of the parts read.
+-- The form's parts are read in order, until the remaining parts satisfy `Holds`. `text` is the text of the parts that
+-- were read.
 abbrev pub IsFormReadTo : Day → PartsProperty → List ℕ → List ℕ → Type 0
 IsFormReadTo s Holds form text =
     (letters : List ℕ) × ReadsPartsTo s Holds first_part_start (parts_of form) letters
@@ -81,7 +82,7 @@ abbrev pub IsFormAnswer : Day → List ℕ → AnswerRule FormFault (List ℕ)
 IsFormAnswer s form (Ok text) = (parts : List ℕ) × IsAnswerAfter s form parts (Ok tt) × (text ≡ parts ++ 10 ∷ [])
 IsFormAnswer s form (Err fault) = (text : List ℕ) × IsAnswerAfter s form text (Err fault)
 
--- `text` is the form's text.
+-- Reading `form` gives the text `text`.
 abbrev pub IsTextOf : Day → List ℕ → List ℕ → Type 0
 IsTextOf s form text = IsFormAnswer s form (Ok text)
 

@@ -12,7 +12,7 @@ abbrev pub AreRising : ℕ → ℕ → List ℕ → Type 0
 AreRising first end [] = Unit {0}
 AreRising first end (place ∷ places) = (first ≤ place) × (place < end) × AreRising (place + 1) end places
 
--- The first list comes before the second in lexicographic order, or is equal to it.
+-- In lexicographic order, the list of places comes before `others`, or equals it.
 abbrev pub PrecedesOrEquals : List ℕ → List ℕ → Type 0
 PrecedesOrEquals [] others = Unit {0}
 PrecedesOrEquals (place ∷ places) [] = ⊥

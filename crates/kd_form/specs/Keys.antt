@@ -9,7 +9,7 @@ use Rattle.kd_form.specs.declared.keys.Keys.TheVariants.{Rotor, Pin}
 use Rattle.kd_form.specs.declared.keys.RotorKeys.{RotorKeys}
 use Rattle.kd_form.specs.declared.keys.PinKeys.{PinKeys}
 
--- the words of the line of keys that has these keys; the first word is PART
+-- the words of a line of keys: PART, and then the letters of its keys
 abbrev pub key_words : Keys → List (List ℕ)
 key_words (Rotor k) =
     codes "PART" ∷ letters_text k.ground_setting ∷ letters_text k.message_key ∷ letters_text k.fillers

@@ -42,15 +42,15 @@ IsByteAnswer position byte = Demands (IsTrue (is_text_byte byte)) (BadByte posit
 abbrev pub IsBytesAnswer : ℕ → List ℕ → AnswerRule FormFault (Unit {0})
 IsBytesAnswer position text = InTurn IsByteAnswer position text
 
--- the number of parts for a text with this number of letters
+-- the number of parts for a text of `letters` letters
 abbrev pub parts_needed : Day → ℕ → ℕ
 parts_needed s letters = div_ceil letters (part_size s)
 
 -- ---- The form that a text becomes.
 -- Test: long_texts_are_sent_and_received
 
--- The bytes are successive parts of a form that has `parts` parts; the first of them is part number `part`. Each part
--- is made from its own piece of the text, with its own keys.
+-- `bytes` are successive parts of a form that has `parts` parts, from part number `part` on. Each part is made from its
+-- own piece of the text, with its own keys.
 abbrev pub ArePartTextsMade : Day → ℕ → ℕ → List Keys → List (List ℕ) → List ℕ → Type 0
 ArePartTextsMade s part parts [] [] bytes = bytes ≡ []
 ArePartTextsMade s part parts (k ∷ keys) (piece ∷ pieces) bytes =
@@ -90,7 +90,7 @@ IsHeadAnswer s order = do
   _ ← InTurn (IsKeysAnswer s) 1 parts.keys
   Yields parts
 
--- The result of reading the bytes of an order. The order's head must be right, and each byte of the order's text must
+-- The result of reading the bytes of an order. The head must be right, as in `IsHeadAnswer`. Each byte of the text must
 -- be a capital letter, a space, CR or LF.
 abbrev pub IsReadAnswer : Day → List ℕ → AnswerRule FormFault OrderParts
 IsReadAnswer s order = do

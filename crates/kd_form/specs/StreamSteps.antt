@@ -23,7 +23,7 @@ pub record HasRoom (m : Message) (holds : List ℕ → List ℕ → Type 0) (roo
   pub held : HasReadSoFar m holds bytes text
   pub within : length bytes + room < 2 ^ 63
 
--- `bytes` have `fault`, whatever bytes follow. Before this fault, `text` is written.
+-- `bytes` have `fault`, whatever bytes follow. Before a call returns this fault, it writes `text`.
 pub record HasFaultForGood (m : Message) (bytes text : List ℕ) (fault : FormFault) : Type 0 where
   pub stands : (more : List ℕ) → m.stands (bytes ++ more) fault
   pub refused : (more : List ℕ) → m.refused (bytes ++ more) fault
@@ -56,8 +56,7 @@ is_device_interruption _ = false
 
 -- ---- bytes, one after another
 
--- `text` is incomplete. Once a call has read some prefix of `bytes`, it must have written a longer text, which begins
--- with `text`.
+-- A call that has read the prefix `front` of `bytes` must have written `due`. `text` is only a proper prefix of `due`.
 pub record IsPrefixOfDue (m : Message) (bytes text : List ℕ) : Type 0 where
   pub front : List ℕ
   pub due : List ℕ
@@ -171,6 +170,6 @@ IsWriteMessageAnswer m bytes sink (Ok _) = (text : List ℕ) × m.becomes bytes 
 IsWriteMessageAnswer m bytes sink (Err (Refused fault)) = m.refused bytes fault
 IsWriteMessageAnswer m bytes sink (Err Device) = Unit {0}
 
--- The message has a result.
+-- The whole message `bytes` has a result.
 abbrev pub HasResult : Message → List ℕ → Type 0
 HasResult m bytes = (text : List ℕ) × m.becomes bytes text

@@ -38,8 +38,9 @@ IsMessageAnswer m bytes text answer =
 -- Code: `stream_message` reads a message chunk by chunk. The readers of orders and forms take the chunks byte by byte.
 -- Test: tests/cases/desk-messages.toml
 
--- `text` is all that the call must have written at a certain moment. `ByThen`: the call has read a prefix of `read`,
--- and this prefix has no fault. `ByTheEnd`: the call has read the whole message, because the source ends after `read`.
+-- `text` is all that the call must have written at a certain moment:
+-- - `ByThen`: when the call has read `front`, a prefix of `read` that has no fault.
+-- - `ByTheEnd`: when the call has read the whole message, because the source ends after `read`.
 pub data IsDue (m : Message) (source : Port) (read text : List ℕ) : Type 0 where
   ByThen : (front : List ℕ) → StartsWith read front → IsOpen m front text → IsDue m source read text
   ByTheEnd : (answer : Result (Unit {0}) FormFault) → IsAtEnd source.has → IsMessageAnswer m read text answer

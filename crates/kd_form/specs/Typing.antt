@@ -19,7 +19,7 @@ use Rattle.kd_form.specs.Streams.{Message, StreamsUnlessFault}
 abbrev pub typed_letters : List ℕ → List ℕ
 typed_letters bytes = letters_from None bytes
 
--- the ciphertext of the letters in the bytes, in capital letters
+-- the ciphertext that `enciphers` gives for the letters in `bytes`, as capital letters
 abbrev pub cipher_text : (List ℕ → List ℕ) → List ℕ → List ℕ
 cipher_text enciphers bytes = letters_text (enciphers (typed_letters bytes))
 
@@ -46,13 +46,13 @@ TypesIfReady m source sink answer =
 
 -- ---- What the code holds. No public contract cites these definitions.
 
--- `lamps` is the ciphertext of the letters in `bytes`. The key `left` is the machine's key after these letters were
--- enciphered.
+-- `lamps` is the ciphertext of the letters in `bytes`, enciphered from the key `key`. After these letters, the
+-- machine's key is `left`.
 pub record IsTypedChunk (key left : EngineKey) (bytes lamps : List ℕ) : Type 0 where
   pub cipher : lamps ≡ cipher_text (cipher key) bytes
   pub after : left ≡ engine_key_after key (length (typed_letters bytes))
 
--- The first `front` bytes of `bytes` are allowed in a text. If another byte follows them, this byte isn't allowed.
+-- The first `front` bytes of `bytes` are allowed in a text. The byte after them, if there is one, isn't allowed.
 pub record IsAllowedUpTo (bytes : List ℕ) (front : ℕ) : Type 0 where
   pub within : front ≤ length bytes
   pub allowed : All (λ b. IsTrue (is_text_byte b)) (take front bytes)

@@ -44,9 +44,9 @@ impl<'day> DayMachine<'day> {
         }
     }
 
-    /// Enciphers or deciphers `text` in place. At the start, `window` is in the windows.
+    /// Enciphers or deciphers `text` in place. At the start, the machine's windows show the letters of `window`.
     ///
-    /// Returns whether `window` has one letter for each slot or pin wheel, and each letter is on its wheel.
+    /// Returns whether the machine can show `window`: one letter for each slot, or one letter of each pin wheel.
     pub(crate) fn encipher(&mut self, window: &[Letter], text: &mut [Letter]) -> bool
         ensures day { self.new ≡ self.old }
         ensures window { IsTrue result ↔ IsWindow (sheet_key self.old) window.now }

@@ -26,7 +26,8 @@ pub enum FormFault {
     PartKeys { needed: usize, given: usize },
     /// One of the external letters isn't on its pin wheel.
     KeyNotOnWheel,
-    /// This part's group is none of the day's groups; or, on the Converter M-209, its list letters aren't the day's.
+    /// This part's group isn't one of the day's groups. On the Converter M-209, this part's list letters aren't the
+    /// day's.
     WrongGroup(u8),
     /// The twelve letters from which this part's internal key is picked don't give each wheel a letter.
     IndicatorSpent(u8),
@@ -34,16 +35,16 @@ pub enum FormFault {
     BadHeading(u8),
     /// This part has more or fewer letters than its heading says.
     CountWrong(u8),
-    /// The indicators at the end of this part differ from the indicators at its start, or the first two letters differ.
+    /// The indicators at this part's start and end differ, or the part's first two letters aren't equal.
     IndicatorsDiffer(u8),
-    /// Parts are out of order or missing, or their headings differ in the number of all parts.
+    /// Parts are out of order or missing, or their headings give different numbers of parts.
     PartOrder,
     /// The source has more than `READ_LIMIT` bytes.
     ReadTooLong,
 }
 
 impl FormFault {
-    /// The refusal's text, such as `28 BadByte 5`: number and name, and then the variant's fields.
+    /// The refusal's text, such as `28 BadByte 5`: the refusal's number and name, and then the variant's fields.
     pub fn text(&self) -> Text
         ensures { result.bytes ≡ form_fault_text self.now }
     {

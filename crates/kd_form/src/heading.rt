@@ -15,7 +15,7 @@ pub struct Heading {
     pub indicator: Option<Indicator>,
 }
 
-/// What the heading of a rotor machine's part has besides numbers: the ground setting and the enciphered message key.
+/// The indicator in a rotor machine's heading: the ground setting and the enciphered message key.
 #[derive(Clone, Copy)]
 pub struct Indicator {
     /// The ground setting: the letters in the windows before the message key is deciphered.

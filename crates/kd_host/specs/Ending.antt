@@ -6,7 +6,7 @@ use Rattle.kd_tables.specs.declared.ports.writing.Device.{Device}
 use Rattle.kd_tables.specs.Ports.{Port}
 use Rattle.kd_tables.specs.Writing.{Writes}
 
--- the line on standard error for the refusal with this text
+-- the line on standard error for the refusal `text`
 abbrev pub refused_line : List ℕ → List ℕ
 refused_line text = codes "refused " ++ text ++ 10 ∷ []
 

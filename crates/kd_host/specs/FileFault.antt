@@ -8,7 +8,7 @@ use Rattle.kd_tables.specs.Refusals.{refusal_name}
 use Rattle.kd_host.specs.declared.file_fault.FileFault.{FileFault}
 use Rattle.kd_host.specs.declared.file_fault.FileFault.TheVariants as files
 
--- why a file can't be read, by the kind of the system's error: no memory, or a failed device
+-- the fault for a kind of system error: `NoMemory` if memory ran out, otherwise `Device`
 abbrev pub fault_of_kind : ErrorKind → FileFault
 fault_of_kind OutOfMemory = files.NoMemory
 fault_of_kind _ = files.Device

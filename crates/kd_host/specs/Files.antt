@@ -1,4 +1,4 @@
--- The bytes of files, as far as they are known. A file is either read whole, or opened and then streamed.
+-- The known bytes of files. A file is either read whole, or opened and then streamed.
 -- Code: `read_whole` reads a file chunk by chunk, into a vector that grows.
 -- Test: tests/cases/desk-program.toml, tests/cases/desk-messages.toml
 use Rattle.std.specs.Prelude.{◌≡◌, ℕ, ◌+◌, ◌≤◌, nat_le, Bool, true, false, IsTrue, List, [], ◌∷◌, ◌++◌, map}
@@ -11,7 +11,7 @@ use Rattle.kd_tables.specs.Ports.{read_limit, Port, KeepsFailureFlag}
 use Rattle.kd_host.specs.declared.file_fault.FileFault.{FileFault}
 use Rattle.kd_host.specs.declared.file_fault.FileFault.TheVariants.{NoMemory, Device, ReadTooLong}
 
--- the bytes of a file, or the fault: there is no file, or the file is too long
+-- the bytes of a file; `Device` if there is no file, and `ReadTooLong` if the file is too long
 abbrev pub content_of : Option (List ℕ) → Result (List ℕ) FileFault
 content_of None = Err Device
 content_of (Some bytes) = if nat_le (length bytes) read_limit then Ok bytes else Err ReadTooLong
@@ -29,12 +29,11 @@ abbrev pub opening_of : Option (List ℕ) → Result KnownFile FileFault
 opening_of None = Err Device
 opening_of (Some bytes) = Ok (record { bytes = Some bytes; failed = false })
 
--- the bytes of the first of `files` with the name `name`; `files` are pairs of a name and bytes
+-- the bytes of the first file called `name`; each of `files` is a pair of a name and bytes
 abbrev pub bytes_in_files : List (Bor (List ℕ) × Bor (List ℕ)) → List ℕ → Option (List ℕ)
 bytes_in_files files name = option_map (λ file. file.1.now) (find (λ file. bytes_eq file.0.now name) files)
 
--- Opening a file gave the expected answer: the expected fault, or an opened file with the expected unread bytes and
--- failure flag.
+-- `answer` agrees with `meant`: both are the same fault, or `known` maps the opened file to the file in `meant`.
 abbrev pub IsOpenAnswer : {O : Type 0} → Result KnownFile FileFault → (O → KnownFile) → Result O FileFault → Type 0
 IsOpenAnswer meant known answer = result_map_both known (λ fault. fault) answer ≡ meant
 
@@ -84,7 +83,7 @@ AreAskedFor names old new false = MissesOne names old new
 
 -- ---- What an inner function answers that reads or opens several files. No public contract cites this definition.
 
--- Either the answer is `NoMemory`, or it agrees with the expected answer: both are the same fault, or the function maps
--- the value read to the expected value.
+-- Either `answer` is `NoMemory`, or it agrees with `meant`: both are the same fault, or `known` maps the value of
+-- `answer` to the value of `meant`.
 abbrev pub IsReadAnswer : {X Y : Type 0} → Result Y FileFault → (X → Y) → Result X FileFault → Type 0
 IsReadAnswer meant known answer = AgreesOrNoMemory NoMemory meant (result_map_both known (λ fault. fault) answer)

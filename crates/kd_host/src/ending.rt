@@ -9,7 +9,7 @@ use kd_tables::{Sink, Text, put_all};
 /// A line on standard error.
 pub type Line = ArrayString<80>;
 
-/// The line on standard error for the refusal with this text.
+/// The line on standard error for the refusal `text`.
 pub fn refused_line(text: Text) -> Line
     ensures { result.bytes ≡ refused_line text.bytes }
 {

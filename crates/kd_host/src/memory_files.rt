@@ -33,7 +33,7 @@ impl<'n> MemoryFiles<'n> {
         }
     }
 
-    /// The bytes of the first file with this name.
+    /// The bytes of the first file called `name`.
     fn find(&self, name: &str) -> Option<&'n [u8]>
         ensures { option_map (λ bytes. bytes.now) result ≡ bytes_in_files self.now.files.now name.now }
     {
@@ -41,7 +41,7 @@ impl<'n> MemoryFiles<'n> {
         Some(*bytes)
     }
 
-    /// The content of the first file with this name.
+    /// The content of the first file called `name`.
     fn content(&self, alloc: Global, name: &str) -> Result<Content, FileFault>
         ensures { AgreesOrNoMemory FileFault.NoMemory
             (content_of (bytes_in_files self.now.files.now name.now)) result }

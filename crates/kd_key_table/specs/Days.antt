@@ -10,8 +10,7 @@ use Rattle.kd_key_table.specs.declared.days.TheConstants.{DAYS, LAST_DAY_FIRST}
 abbrev pub days_of : Model → List (Option Day) → List ℕ
 days_of model month = filter (has_day_of model month) LAST_DAY_FIRST
 
--- The earliest of some days. The first argument is the latest of these days. The list has all other days, in falling
--- order.
+-- the earliest of some days; `last` is the latest of these days, and the list has the other days in falling order
 abbrev pub first_of : ℕ → List ℕ → ℕ
 first_of last [] = last
 first_of last (day ∷ earlier) = first_of day earlier

@@ -9,7 +9,7 @@ use Rattle.kd_table.specs.Table.{IsRefusedTable, TableMeans}
 use Rattle.kd_key_table.specs.CsvTable.{csv_text}
 use Rattle.kd_key_table.specs.Days.{has_days}
 
--- The table means the days of this month, and no other days.
+-- `table` means the days of `month`, and no other days.
 pub record MeansMonth (options : OptionTexts) (table : List ℕ) (month : List (Option Day)) : Type 0 where
   pub days : List Day
   pub means : TableMeans options table days

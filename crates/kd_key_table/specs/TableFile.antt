@@ -16,7 +16,7 @@ use Rattle.kd_key_table.specs.Days.{has_days}
 use Rattle.kd_key_table.specs.KeyList.{key_list_of}
 use Rattle.kd_key_table.specs.MonthTable.{month_table}
 
--- the sentence that there are no days; empty if the month has days
+-- the sentence for a month without days; empty if the month has days
 abbrev pub no_days : Language → Bool → List ℕ
 no_days l has_days = if has_days then [] else text_in l NO_DAYS
 
@@ -32,7 +32,7 @@ page_text l month =
     file_head l ++ text_in l TITLE ++ STYLE.now ++ MORE_STYLE.now ++ WIDE_BODY.now ++ no_days l (has_days month)
     ++ tables_of l month ++ FOOT.now
 
--- the file with the tables, in this form; a page is in this language, a CSV table is the same in all languages
+-- the file with the tables: a page in the language `l`, or a CSV table, which is the same in all languages
 abbrev pub file_text : Language → TableForm → List (Option Day) → List ℕ
 file_text l Page month = page_text l month
 file_text l Csv month = csv_text month

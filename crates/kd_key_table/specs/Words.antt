@@ -20,13 +20,13 @@ ground_text wheel = letter_text wheel.letter
 abbrev pub name_text : SheetWheel → List ℕ
 name_text wheel = wheel_text wheel.wheel
 
--- the ring of a wheel, as a number or as a letter
+-- the ring of a wheel: a number if `is_number`, otherwise a letter
 abbrev pub ring_text : Bool → SheetWheel → List ℕ
 ring_text is_number wheel = if is_number then ordinal_text wheel.ring else letter_text wheel.ring
 
 -- ---- Words in a cell.
 
--- a space, and the word after it
+-- a space, and then the text of `word`
 abbrev pub spaced : {X : Type 0} → (X → List ℕ) → X → List ℕ
 spaced text word = SPACE.now ++ text word
 

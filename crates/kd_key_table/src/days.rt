@@ -9,13 +9,13 @@ use arrayvec::ArrayVec;
 use kd_sheet::Sheet;
 use kd_tables::Model;
 
-/// The days of a month, in rising order.
+/// The day numbers of a month, in rising order.
 pub static DAYS: [u8; 31] = [
     1, 2, 3, 4, 5, 6, 7, 8, 9, 10, 11, 12, 13, 14, 15, 16, 17, 18, 19, 20, 21, 22, 23, 24, 25, 26,
     27, 28, 29, 30, 31,
 ];
 
-/// The days of a month, in falling order.
+/// The day numbers of a month, in falling order.
 pub static LAST_DAY_FIRST: [u8; 31] = [
     31, 30, 29, 28, 27, 26, 25, 24, 23, 22, 21, 20, 19, 18, 17, 16, 15, 14, 13, 12, 11, 10, 9, 8,
     7, 6, 5, 4, 3, 2, 1,
@@ -30,7 +30,7 @@ pub(crate) fn days_of(model: Model, sheet: &Sheet) -> ArrayVec<u8, 31>
     days
 }
 
-/// The first of some days. `last` is the last of these days, and `earlier` has all others in falling order.
+/// The earliest of some days. `last` is the latest of these days, and `earlier` has the others in falling order.
 pub(crate) fn first_of(last: u8, earlier: &[u8]) -> u8
     ensures { result ≡ first_of last earlier.now }
 {

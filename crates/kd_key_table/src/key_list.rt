@@ -117,7 +117,7 @@ fn draw_pins<W: Sink>(sink: &mut W, language: Language, pins: &PinSet, place: u8
     draw_pin(sink, language, &ring6().letters(), &pins.w6, place);
 }
 
-/// Writes the cell of the pin at place `place` of a wheel with these letters and pins.
+/// Writes the cell of the pin at place `place` of a wheel. `letters` and `pins` are the wheel's letters and pins.
 fn draw_pin<W: Sink>(sink: &mut W, language: Language, letters: &[Letter], pins: &[bool], place: u8)
     ensures { Draws W.taken W.has_failed sink.old sink.new
         (pin_shown (slice_get letters.now place) (is_effective pins.now place)) }

@@ -37,8 +37,8 @@ pub record IsLineAt (name : List ℕ) (place : Place) (line : Option ℕ) (fault
   pub plain : IsInOneLine wrong
   pub whole : text ≡ fault_line name place line wrong fault
 
--- The text is the report's line about this fault at this place. If the fault's line in the file is known, the text has
--- this line's number.
+-- `text` is the report's line about `fault` at `place` in the file `name`. `text` has the number of the fault's line in
+-- `bytes`, if this line is known.
 abbrev pub IsFaultLine : List ℕ → List ℕ → Place → SheetFault → List ℕ → Type 0
 IsFaultLine name bytes place fault text = IsLineAt name place (line_of_fault bytes place fault) fault text
 

@@ -25,8 +25,8 @@ use Rattle.kd_look.specs.declared.line.Sought.TheVariants as soughts
 abbrev pub entry_of : List Data → ℕ → Option Members
 entry_of items entry = option_and_then as_table (numbered_item items entry)
 
--- the table that has a value: the document itself or, if there is a number, the item with this number in the document's
--- array `day`
+-- the table that has a value: `document` itself or, if there is a number `entry`, item `entry` of the document's array
+-- `day`
 unfoldable pub table_at : Members → Option ℕ → Option Members
 table_at document None = Some document
 table_at document (Some entry) = option_and_then (λ items. entry_of items entry) (entries_of document)
@@ -55,8 +55,8 @@ ends_line text index = slice_index text index == 10 || index + 1 == length text
 unfoldable pub has_value_at : List ℕ → Sought → ℕ → Bool
 has_value_at text sought index = ends_line text index && reads_value sought (take (index + 1) text)
 
--- The number of the first line that gives a document with the entry or key to look for. The text is cut off after each
--- line in turn. The second argument is an index: only lines that end before the byte at this index are tried.
+-- The number of the first line such that `text`, cut off after this line, is a document with the entry or key `sought`.
+-- Only lines that end before the byte at index `end` are tried.
 abbrev pub line_before : List ℕ → ℕ → Sought → Option ℕ
 line_before text end sought = option_map (line_at text) (find (has_value_at text sought) (range_with_len 0 end))
 
@@ -65,8 +65,8 @@ line_before text end sought = option_map (line_at text) (find (has_value_at text
 abbrev pub is_too_long : List ℕ → Bool
 is_too_long text = nat_lt 65536 (length text) || nat_lt 2048 (count_by (λ byte. byte == 10) text)
 
--- The number of the first line that gives a document with the entry or key to look for. The text is cut off after each
--- line in turn. `None` if there is no such line, or the text is too long.
+-- The number of the first line such that `text`, cut off after this line, is a document with the entry or key `sought`.
+-- `None` if there is no such line, or `text` is too long.
 abbrev pub line_number : List ℕ → Sought → Option ℕ
 line_number text sought = if is_too_long text then None else line_before text (length text) sought
 
@@ -94,11 +94,11 @@ line_of_fault text place fault = option_and_then (line_number text) (sought_for 
 abbrev pub line_of : List ℕ → Finding → Option ℕ
 line_of text finding = line_of_fault text finding.place finding.fault
 
--- the line of a finding, if this line ends before the byte whose index is the second argument
+-- the line of `finding`, if this line ends before the byte at index `end`
 unfoldable pub line_so_far : List ℕ → ℕ → Finding → Option ℕ
 line_so_far text end finding = option_and_then (line_before text end) (sought_for finding.place finding.fault)
 
--- the line in the first argument or, if this argument is `None`, the line in the second argument
+-- the first line or, if it is `None`, `later`
 abbrev pub or_line : Option ℕ → Option ℕ → Option ℕ
 or_line (Some line) later = Some line
 or_line None later = later

@@ -39,7 +39,7 @@ slot_words machine slot = option_map_or
     (λ held. label (codes "slot") slot ++ option_map_or (wheel_words machine) held (codes "empty\n"))
     (machine_slot machine slot) []
 
--- the line of a cable with these ends; empty if neither end has a letter
+-- the line of cable `cable`, from the letters at its two ends; empty if neither end has a letter
 unfoldable pub cable_line : ℕ → Option ℕ → Option ℕ → List ℕ
 cable_line cable (Some one) (Some other) =
     label (codes "cable") cable ++ letters_text (one ∷ []) ++ letters_text (other ∷ []) ++ codes "\n"
@@ -50,7 +50,7 @@ cable_line cable None None = []
 unfoldable pub cable_words : Parts → ℕ → List ℕ
 cable_words machine cable = option_map_or (λ ends. cable_line cable ends.0 ends.1) (machine_cable machine cable) []
 
--- a space and the letter, if the pin at this letter is effective; otherwise nothing
+-- a space and `letter`, if the pin at this letter is effective; otherwise nothing
 unfoldable pub pin_words : Parts → ℕ → ℕ → List ℕ
 pin_words machine wheel letter =
     if option_map_or (λ effective. effective) (machine_pin machine wheel letter) false
@@ -68,15 +68,14 @@ unfoldable pub bar_words : Parts → ℕ → List ℕ
 bar_words machine bar = option_map_or (λ standing. label (codes "bar") bar ++ standing_text standing ++ codes "\n")
     (machine_standing machine bar) []
 
--- the line of a thing, which is a slot, cable, pin wheel or bar; empty if the machine doesn't have a thing with this
--- number
+-- the line of the slot, cable, pin wheel or bar `number`; empty if the machine doesn't have this thing
 unfoldable pub thing_words : Parts → Thing → ℕ → List ℕ
 thing_words machine things.Slot number = slot_words machine number
 thing_words machine things.Cable number = cable_words machine number
 thing_words machine things.PinWheel number = pin_wheel_words machine number
 thing_words machine things.Bar number = bar_words machine number
 
--- the lines of all things of a sort, with the numbers from 1 to `count`
+-- the lines of all things of the sort `thing`, with the numbers from 1 to `count`
 abbrev pub things_words : Parts → Thing → ℕ → List ℕ
 things_words machine thing count = flat_map (thing_words machine thing) (range_with_len 1 count)
 

@@ -16,7 +16,7 @@ use Rattle.kd_look.specs.declared.sheet_words.Sort.TheVariants as sorts
 abbrev pub lacks_groups : Day → Bool
 lacks_groups day = option_map_or (λ values. length values.groups == 0) (rotor_day day) false
 
--- whether the sheet has the day `number`, and the day is of this sort
+-- whether the sheet has the day `number`, and the day is of the sort `sort`
 unfoldable pub has_day : List (Option Day) → Sort → ℕ → Bool
 has_day month (sorts.Of model) number = has_day_of model month number
 has_day month sorts.WithoutGroups number = option_map_or lacks_groups (day_of month number) false
@@ -36,7 +36,7 @@ numbered_day_words month title sort number =
     if has_day month sort number
     then day_words title (has_day month sort (number - 1)) (has_day month sort (number + 1)) number else []
 
--- the lines for the days of this sort; each line begins with `title`
+-- the lines for the days of the sort `sort`; each line begins with `title`
 unfoldable pub sort_words : List (Option Day) → List ℕ → Sort → List ℕ
 sort_words month title sort = flat_map (numbered_day_words month title sort) (range_with_len 1 31)
 

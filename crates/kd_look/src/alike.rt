@@ -42,7 +42,7 @@ fn push_alike(
     push_day_line(lines, name, words.as_str())
 }
 
-/// Finds the first earlier day that differs from the day `number` only in its number.
+/// Finds the first day before the day `number` that differs from it only in the number.
 fn first_alike(sheet: &Sheet, number: u8) -> Option<u8> {
     let day = sheet.day(number)?;
     for earlier in 1..number {

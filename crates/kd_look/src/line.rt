@@ -14,11 +14,10 @@ use kd_sheet::{Key, SheetFault};
 use std::alloc::{AllocError, Global};
 use toml::{Table, Value};
 
-/// The most bytes that a file may have, so that its faults get line numbers.
+/// The greatest number of bytes for which a file's faults get line numbers.
 const MOST_BYTES: usize = 65_536;
 
-/// The most line ends that a file may have, so that its faults get line numbers. The file is parsed up to each line
-/// end.
+/// The greatest number of line ends for which a file's faults get line numbers. The file is parsed up to each line end.
 const MOST_LINES: usize = 2_048;
 
 /// The entry or key to look for in a document, to find the line of a fault.
@@ -88,7 +87,8 @@ fn no_lines(alloc: Global, findings: &[Finding]) -> Result<Vec<Option<usize>>, A
     Ok(lines)
 }
 
-/// The lines of `findings` that end at the byte at `index` or earlier. `lines` has the lines that end earlier.
+/// The lines of `findings`, with `None` for each line that ends after the byte at `index`. `lines` has the lines that
+/// end before this byte.
 fn lines_after(
     alloc: Global,
     text: &[u8],
@@ -223,7 +223,7 @@ fn has_value(document: &Table, sought: Sought) -> bool
     }
 }
 
-/// Whether a table has `key`: the entry with the number `entry` or, if `entry` is `None`, `document` itself.
+/// Whether entry `entry` of `document` has `key`. If `entry` is `None`, whether `document` itself has `key`.
 fn has_key(document: &Table, entry: Option<usize>, key: Key) -> bool
     ensures { result
         ≡ option_map_or (is_given key) (table_at (table_view document.now) entry) false }
@@ -234,7 +234,7 @@ fn has_key(document: &Table, entry: Option<usize>, key: Key) -> bool
     }
 }
 
-/// The table that has a value: `document` itself or, if `entry` is a number, the item with this number in its array
+/// The table that has a value: `document` itself or, if `entry` is a number, item `entry` of the document's array
 /// `day`.
 #[tactic(auto, unfolding(crate::specs::Line::table_at))]
 fn table_at(document: &Table, entry: Option<usize>) -> Option<&Table>

@@ -36,7 +36,7 @@ pub fn push_machine(text: &mut String, machine: &Machine) -> Result<(), AllocErr
     push_things(text, machine, Thing::Bar, 27)
 }
 
-/// Appends the lines of all things of this sort, with the numbers from 1 to `count`.
+/// Appends the lines of all things of the sort `thing`, with the numbers from 1 to `count`.
 fn push_things(
     text: &mut String,
     machine: &Machine,
@@ -53,7 +53,7 @@ fn push_things(
     Ok(())
 }
 
-/// Appends the line of the thing of this sort with the number `number`, if the machine has this thing.
+/// Appends the line of the slot, cable, pin wheel or bar `number`, if the machine has this thing.
 #[tactic(auto, unfolding(crate::specs::MachineWords::thing_words))]
 fn push_thing(
     text: &mut String,

@@ -73,7 +73,7 @@ fn serves(model: Model, file: &ReadFile<'_>) -> bool
     }
 }
 
-/// Appends, for each key sheet of `files`, the warning that it has no day for the machine in the file `name`.
+/// Appends a warning for each key sheet of `files`: the sheet has no day for the machine in the file `name`.
 #[tactic(auto, using(std::proofs::Common::append_assoc))]
 fn push_no_days(
     lines: &mut String,
@@ -143,7 +143,7 @@ fn push_no_day_end(lines: &mut String, model: &str) -> Result<(), AllocError>
     push_three(lines, " has no day for ", model, "\n")
 }
 
-/// Appends three texts.
+/// Appends `first`, `second` and `third`.
 #[tactic(auto, using(std::proofs::Common::append_assoc))]
 fn push_three(lines: &mut String, first: &str, second: &str, third: &str) -> Result<(), AllocError>
     ensures { OnOk result (string_bytes lines.new

@@ -49,7 +49,7 @@ fn push_model(text: &mut String, sheet: &Sheet, model: Model) -> Result<(), Allo
     push_sort(text, sheet, model.text().as_str(), Sort::Of(model))
 }
 
-/// Appends the lines for the days of this sort. Each line begins with `title`.
+/// Appends the lines for the days of the sort `sort`. Each line begins with `title`.
 #[tactic(auto, unfolding(crate::specs::SheetWords::sort_words))]
 fn push_sort(text: &mut String, sheet: &Sheet, title: &str, sort: Sort) -> Result<(), AllocError>
     ensures { OnOk result
@@ -61,7 +61,7 @@ fn push_sort(text: &mut String, sheet: &Sheet, title: &str, sort: Sort) -> Resul
     Ok(())
 }
 
-/// Appends the words for the day `number` to the lines of this sort, if the day is of this sort.
+/// Appends the words for the day `number` to the lines of the sort `sort`, if the day is of this sort.
 #[tactic(auto, unfolding(crate::specs::SheetWords::numbered_day_words))]
 fn push_day(
     text: &mut String,
@@ -85,7 +85,7 @@ fn push_day(
     }
 }
 
-/// Whether `sheet` has the day `number`, and the day is of this sort.
+/// Whether `sheet` has the day `number`, and the day is of the sort `sort`.
 #[tactic(auto, unfolding(crate::specs::SheetWords::has_day))]
 fn has_day(sheet: &Sheet, sort: Sort, number: u8) -> bool
     ensures { result ≡ has_day sheet.now sort number }

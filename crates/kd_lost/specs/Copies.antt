@@ -29,14 +29,14 @@ AreKeyLettersAnswer number (one ∷ start) (other ∷ end) = do
 AreKeyLettersAnswer number [] end = Yields []
 AreKeyLettersAnswer number (one ∷ start) [] = Yields []
 
--- the copies of the chosen letter: the first two letters of both copies of the keys
+-- the four copies of the chosen letter: the first two letters of `start`, and the first two letters of `end`
 abbrev pub chosen_copies : List (Option ℕ) → List (Option ℕ) → List (Option ℕ)
 chosen_copies start end =
     slice_index_or start 0 None ∷ slice_index_or start 1 None ∷ slice_index_or end 0 None ∷ slice_index_or end 1 None
     ∷ []
 
--- The answer for the keys of a Converter's part, from their copies before and after the text. The chosen letter comes
--- first, as number 0. The external letters follow, with the numbers of their wheels.
+-- The answer for the keys of a Converter's part, from their copies `start` before the text and `end` after the text.
+-- The chosen letter comes first, as number 0. The external letters follow, with the numbers of their wheels.
 abbrev pub IsKeysAnswer : List (Option ℕ) → List (Option ℕ) → AnswerRule PartDamage PinKeys
 IsKeysAnswer start end = do
   chosen ← IsKeyLetterAnswer 0 (chosen_copies start end)

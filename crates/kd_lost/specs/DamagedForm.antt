@@ -39,7 +39,7 @@ cut_at_heading_lines (byte ∷ bytes) =
     if ends_part byte bytes then (byte ∷ [], (cut_at_heading_lines bytes).0 ∷ (cut_at_heading_lines bytes).1)
     else (byte ∷ (cut_at_heading_lines bytes).0, (cut_at_heading_lines bytes).1)
 
--- all parts of these bytes; each part but the first begins with a line that is taken for a heading
+-- all parts of `bytes`; each part but the first begins with a line that is taken for a heading
 abbrev pub parts_cut : List ℕ → List (List ℕ)
 parts_cut bytes = (cut_at_heading_lines bytes).0 ∷ (cut_at_heading_lines bytes).1
 
@@ -100,7 +100,7 @@ pub record IsReadOf (s : Day) (part : List ℕ) (read : DamagedPart) : Type 0 wh
 abbrev pub IsReadAt : Day → PlacedPart → DamagedPart → Type 0
 IsReadAt s part read = IsReadOf s part.bytes read × (read.line ≡ part.line)
 
--- The second list has what can be read of each part in the first list, in the same order.
+-- `reads` has what can be read of each of `parts`, in the same order.
 abbrev pub AreReadOf : Day → List PlacedPart → List DamagedPart → Type 0
 AreReadOf s [] [] = Unit {0}
 AreReadOf s (part ∷ parts) (read ∷ reads) = IsReadAt s part read × AreReadOf s parts reads
@@ -149,7 +149,7 @@ abbrev pub shown_byte : Option ℕ → Option ℕ → ℕ
 shown_byte for_space None = 63
 shown_byte for_space (Some letter) = plaintext_byte for_space letter
 
--- Why a form with these parts isn't read: it has more than 255 parts, or memory is short.
+-- Why a form with the parts `parts` isn't read: it has more than 255 parts, or memory is short.
 pub data IsFormFault (parts : List PlacedPart) (fault : DamagedFormFault) : Type 0 where
   TooMany : 255 < length parts → fault ≡ faults.TooManyParts → IsFormFault parts fault
   NoMemory : fault ≡ faults.NoMemory → IsFormFault parts fault

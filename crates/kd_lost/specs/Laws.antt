@@ -18,8 +18,8 @@ use Rattle.kd_lost.specs.DamagedPart.{AreNumbersRead, IsDamagedTextAnswer, first
 use Rattle.kd_lost.specs.OneMessage.{are_of_one_message, bodies_agree}
 use Rattle.kd_lost.specs.Tidy.{tidied}
 
--- If two texts have the same letter at a place, their ciphertexts have equal letters at this place. Both texts are
--- enciphered with one key. At other places, they may differ.
+-- Two texts are enciphered with one key. Where they have the same letter, so do their ciphertexts. The texts may differ
+-- at all other places.
 abbrev pub CiphersAgreeWhereTextsDo : Type 0
 CiphersAgreeWhereTextsDo =
     (key : EngineKey) (text other : List ℕ) (place : ℕ) → slice_get text place ≡ slice_get other place

@@ -23,8 +23,8 @@ pub data MayHaveBeen (byte sent : ℕ) : Type 0 where
   AnyLetter : IsTrue (is_lost byte) → IsTrue (is_capital sent) → MayHaveBeen byte sent
   AsReceived : IsFalse (is_lost byte) → sent ≡ meant_byte byte → MayHaveBeen byte sent
 
--- `whole` is a completion of the bytes `received`. At each place, the byte of `whole` may have been sent where the byte
--- of `received` was received.
+-- `whole` is a completion of the bytes `received`. For each byte received, `whole` has a byte that may have been sent
+-- at this place.
 abbrev pub IsCompletion : List ℕ → List ℕ → Type 0
 IsCompletion [] [] = Unit {0}
 IsCompletion (byte ∷ received) (sent ∷ whole) = MayHaveBeen byte sent × IsCompletion received whole
@@ -41,7 +41,7 @@ received_letter byte = if is_lost byte then Some None else option_map Some (lett
 abbrev pub received_letters : List ℕ → List (Option ℕ)
 received_letters body = filter_map received_letter body
 
--- The letter is the received letter or, if the received letter is lost, any letter.
+-- `letter` is the received letter or, if the received letter is lost, any letter.
 abbrev pub IsLetterFor : Option ℕ → ℕ → Type 0
 IsLetterFor None letter = letter < 26
 IsLetterFor (Some got) letter = letter ≡ got

@@ -140,12 +140,12 @@ headings_agree None other agree = true
 abbrev pub parts_agree : DamagedPart → DamagedPart → Bool
 parts_agree one other = headings_agree one.numbers other.numbers (may_repeat one other)
 
--- whether the part can be of one message with each part of the list
+-- whether `part` can be of one message with each of the other parts
 abbrev pub agrees_with_each : DamagedPart → List DamagedPart → Bool
 agrees_with_each part [] = true
 agrees_with_each part (other ∷ others) = parts_agree part other && agrees_with_each part others
 
--- whether any two of the parts can be of one message
+-- whether every two of the parts can be of one message
 abbrev pub are_of_one_message : List DamagedPart → Bool
 are_of_one_message [] = true
 are_of_one_message (part ∷ parts) = agrees_with_each part parts && are_of_one_message parts

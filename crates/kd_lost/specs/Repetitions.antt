@@ -25,8 +25,8 @@ abbrev pub has_keys_of : DamagedText → DamagedText → Bool
 has_keys_of one other =
     same_keys one.keys other.keys && length one.received.items == length other.received.items
 
--- The letter at `place` of the text in the last argument. `None` if the letter is lost, or this text isn't a copy of
--- the text `shown`. `same` says whether the parts of the two texts have the same number.
+-- The letter at `place` of the text `text`. `None` if the letter is lost, or `text` isn't a copy of the text `shown`.
+-- `same` says whether the parts of the two texts have the same number.
 abbrev pub letter_of_copy : Bool → DamagedText → ℕ → Option DamagedText → Option ℕ
 letter_of_copy same shown place None = None
 letter_of_copy same shown place (Some text) =
@@ -43,7 +43,7 @@ abbrev pub letter_or : Option ℕ → Option ℕ → Option ℕ
 letter_or (Some letter) other = Some letter
 letter_or None other = other
 
--- the letter at this place in the first copy that didn't lose it
+-- the letter at `place` in the first copy of the part `read` that didn't lose this letter
 abbrev pub known_letter : List DamagedPart → DamagedPart → DamagedText → ℕ → Option ℕ
 known_letter [] read shown place = None
 known_letter (copy ∷ copies) read shown place =
@@ -51,7 +51,7 @@ known_letter (copy ∷ copies) read shown place =
 
 -- ---- A part with the letters of its copies.
 
--- the copy's letter, if the byte stands for a lost letter and a copy has this letter; otherwise the byte
+-- the copy's letter, if `byte` stands for a lost letter that a copy has; otherwise `byte`
 abbrev pub completed_byte : Option ℕ → ℕ → ℕ
 completed_byte (Some letter) byte = if is_lost byte then letter + 65 else byte
 completed_byte None byte = byte
@@ -71,8 +71,8 @@ completed_with copies read None part = part
 completed_with copies read (Some shown) part =
     first_line part ++ completed_from copies read shown 0 (from_line_end part)
 
--- The part, with letters from its copies in place of lost letters. `copies` are all parts of the form, each read
--- without the others. The second argument is the result of reading this part without the others.
+-- The part `part`, with letters from its copies in place of lost letters. `copies` are all parts of the form, each read
+-- without the others. `read` is the result of reading `part` without the others.
 abbrev pub completed_of : List DamagedPart → Option DamagedPart → List ℕ → List ℕ
 completed_of copies None part = part
 completed_of copies (Some read) part = completed_with copies read (shown_text read) part

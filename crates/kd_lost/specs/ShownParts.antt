@@ -46,19 +46,18 @@ times_of parts number = count_by (λ part. is_number number part.numbers) parts
 
 -- ---- Repetitions.
 
--- Whether the second text is better than the first text. It is better in these cases:
--- - There is a second text, but no first text.
--- - The second text has fewer lost letters.
--- - Both have equally many lost letters, and `counted` is true: only the second text was read with the heading's count.
+-- Whether the text `other` is better than the text `one`. It is better in these cases:
+-- - There is a text `other`, but no text `one`.
+-- - `other` has fewer lost letters.
+-- - Both have equally many lost letters, and `counted` is true: only `other` was read with the heading's count.
 abbrev pub is_text_worse : Bool → Option DamagedText → Option DamagedText → Bool
 is_text_worse counted (Some one) (Some other) =
     nat_lt (lost_in other) (lost_in one) || (counted && lost_in other == lost_in one)
 is_text_worse counted None (Some other) = true
 is_text_worse counted one None = false
 
--- Whether the text of the second part is better than the text of the first part, or is the only text. A text is better
--- if it has fewer lost letters. With equally many lost letters, a text read with the heading's count is better than a
--- text by count.
+-- Whether the text of `other` is better than the text of `one`, or is the only text. A text is better if it has fewer
+-- lost letters. With equally many lost letters, a text read with the heading's count is better than a text by count.
 abbrev pub is_worse : DamagedPart → DamagedPart → Bool
 is_worse one other = is_text_worse (is_err one.text && is_ok other.text) (shown_text one) (shown_text other)
 
@@ -95,7 +94,7 @@ abbrev pub are_covered : List DamagedPart → List DamagedPart → Bool
 are_covered all [] = true
 are_covered all (part ∷ parts) = is_covered all part && are_covered all parts
 
--- Whether the parts are shown as one message. Any two of them can be of one message. The part that is shown under a
+-- Whether the parts are shown as one message. Every two of them can be of one message. The part that is shown under a
 -- number has all letters of the other parts with this number.
 abbrev pub is_one_message : List DamagedPart → Bool
 is_one_message parts = are_of_one_message parts && are_covered parts parts
@@ -112,7 +111,7 @@ abbrev pub IsReadWhole : DamagedPart → Type 0
 IsReadWhole part =
     (shown : DamagedText) × (part.text ≡ Ok shown) × All (λ got. got ≢ None) shown.letters.items
 
--- A part is shown under this number, and no letter of its text is lost.
+-- A part is shown under `number`. This part is read, and no letter of its text is lost.
 abbrev pub IsNumberWhole : List DamagedPart → ℕ → Type 0
 IsNumberWhole parts number = MatchOption (shown_under parts number) ⊥ IsReadWhole
 

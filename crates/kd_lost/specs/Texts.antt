@@ -48,8 +48,8 @@ letters_within [] other = true
 letters_within (letter ∷ one) (again ∷ other) = letter_within letter again && letters_within one other
 letters_within (letter ∷ one) [] = is_none letter && letters_within one []
 
--- Whether the second text has each letter of the first text, and at most as many lost letters. True if there is no
--- first text.
+-- Whether the text `other` has each letter of the text `one`, and at most as many lost letters. True if there is no
+-- text `one`.
 abbrev pub text_within : Option DamagedText → Option DamagedText → Bool
 text_within None other = true
 text_within (Some one) (Some other) =

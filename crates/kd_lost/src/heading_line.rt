@@ -228,7 +228,7 @@ fn are_right(least: usize, word: &[u8], bytes: &[u8]) -> bool
     right_signs(word, bytes) >= least
 }
 
-/// Whether at least `least` places of `word` have the same sign in `bytes`, or a lost sign in `bytes`.
+/// Whether `bytes` has the right sign or a lost sign for at least `least` signs of `word`.
 fn are_fitting(least: usize, word: &[u8], bytes: &[u8]) -> bool
     ensures { result ≡ nat_le least (fitting_signs word.now bytes.now) }
 {

@@ -2,9 +2,9 @@
 ghost use Rattle.kd_lost.specs.Laws.{CiphersAgreeWhereTextsDo, PartsReadAreShownWhole, PartsReadHaveNumbers};
 ghost use Rattle.kd_lost.specs.Laws.{FormsReadAreShownWhole, FormsReadAreTidy, FormsReadHaveTheirParts, RepetitionsAgree};
 
-/// If two texts have the same letter at a place, their ciphertexts have equal letters at this place.
+/// Two texts are enciphered with one key. Where they have the same letter, so do their ciphertexts.
 ///
-/// Both texts are enciphered with one key. At other places, they may differ.
+/// The texts may differ at all other places.
 #[tactic(auto, using(crate::proofs::Ciphers::ciphers_agree))]
 pub fn ciphers_agree_where_texts_do()
     ensures { CiphersAgreeWhereTextsDo }

@@ -34,8 +34,8 @@ use kd_tables::Letter;
 /// The result of reading one part of a form. Letters of the part may be lost.
 #[derive(Drop)]
 pub struct DamagedPart {
-    /// The numbers in the heading. If only its count is damaged, and the part is read by count, `letters` is the number
-    /// of received letters. For any other damaged heading, `None`.
+    /// The numbers in the heading. If only the letter count is damaged, and the part is read by count, `letters` is the
+    /// number of received letters. With any other damage of the heading, `None`.
     pub numbers: Option<PartNumbers>,
     /// The first signs of the received heading line, at most 64. `?` stands for each sign that may not be in a heading.
     pub heading: ArrayString<64>,
@@ -53,7 +53,8 @@ pub struct DamagedPart {
     /// The text by count, if the heading's count may be wrong. It is read with the number of received letters in place
     /// of the heading's count.
     pub by_count: Option<DamagedText>,
-    /// The first line of the body that has letters, but not 50, though letters follow it. `None` if there is none.
+    /// The first line of the body that has letters, but not 50, though letters follow it. `None` if there is no such
+    /// line.
     pub short_line: Option<ShortLine>,
     /// The number of the first group that doesn't have five letters, though letters follow the group. `None` if each group
     /// but the last has five letters.

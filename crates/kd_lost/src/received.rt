@@ -42,7 +42,8 @@ fn filled_byte(byte: u8) -> u8
     }
 }
 
-/// The first bytes of a heading line, as capital letters, with B in place of each lost letter.
+/// The first bytes of a heading line, at most 64, with B in place of each lost letter. A small letter means its capital
+/// letter, and a tab means a space.
 #[tactic(auto, using(crate::proofs::Bytes::filled_more))]
 pub(crate) fn filled_line(line: &[u8]) -> ArrayVec<u8, 64>
     ensures { result.items ≡ take 64 (map filled_byte line.now) }

@@ -61,7 +61,7 @@ fn push_completed(
     Ok(())
 }
 
-/// The copy's letter, if `byte` stands for a lost letter and a copy has this letter; otherwise `byte`.
+/// The copy's letter, if `byte` stands for a lost letter that a copy has; otherwise `byte`.
 fn completed_byte(
     copies: &[DamagedPart],
     read: &DamagedPart,
@@ -80,7 +80,7 @@ fn completed_byte(
     }
 }
 
-/// The letter at `place` in the first copy that didn't lose it.
+/// The letter at `place` in the first copy of the part `read` that didn't lose this letter.
 fn known_letter(
     copies: &[DamagedPart],
     read: &DamagedPart,

@@ -99,8 +99,8 @@ fn is_worse(one: &DamagedPart, other: &DamagedPart) -> bool
 
 /// Whether the parts are shown as one message.
 ///
-/// Any two of them can be of one message. The part that is shown under a number has all letters of the other parts with
-/// this number.
+/// Every two of them can be of one message. The part that is shown under a number has all letters of the other parts
+/// with this number.
 pub fn is_one_message(parts: &[DamagedPart]) -> bool
     ensures { result ≡ is_one_message parts.now }
 {

@@ -51,7 +51,7 @@ fn place_at(body: &[u8], index: usize) -> usize
     letter_count(before) + 1
 }
 
-/// The number of the line on which the next byte stands, if `byte` stands on line `line`.
+/// The number of the line on which the byte after `byte` stands. `byte` stands on line `line`.
 fn line_after(line: usize, byte: u8) -> usize
     requires { line < 2 ^ 63 + 2 }
     ensures { result ≡ (if byte == 10 then line + 1 else line) }
@@ -59,9 +59,9 @@ fn line_after(line: usize, byte: u8) -> usize
     if byte == b'\n' { line + 1 } else { line }
 }
 
-/// The number that the next letter after `byte` has on its line, counted from 1.
+/// The number that a letter just after `byte` has on its line, counted from 1.
 ///
-/// `letter` is the number that a letter in place of `byte` would have.
+/// `letter` is the number that `byte` has, or would have as a letter.
 fn letter_after(letter: usize, byte: u8) -> usize
     requires { letter < 2 ^ 63 + 2 }
     ensures { result ≡ (if byte == 10 then 1

@@ -42,7 +42,7 @@ letter_of signs.Open = None
 letter_of signs.Lost = None
 letter_of (signs.Letter letter) = Some letter
 
--- only those cells whose letters the operator presses
+-- the cells of the list `cells` whose letters the operator presses
 abbrev pub pressed_of : List Cell → List Cell
 pressed_of cells = filter (λ cell. cell.is_pressed) cells
 

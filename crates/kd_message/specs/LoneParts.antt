@@ -34,7 +34,7 @@ lone_box l came = text_in l texts.LONE_ASK ++ lone_asked l came ++ texts.ASK_END
 abbrev pub lone_ask : Language → DamagedPart → List ℕ
 lone_ask l part = if part.is_order then [] else lone_box l part.came
 
--- an example of a heading on this model
+-- an example of a valid heading, for each model
 abbrev pub heading_example : Model → List ℕ
 heading_example models.EnigmaI = texts.THREE_LETTER_HEADING.now
 heading_example models.M3 = texts.THREE_LETTER_HEADING.now

@@ -46,7 +46,8 @@ lost_note l name letters = if has_lost letters then lost_line l name letters els
 unfoldable pub read_note : Language → PartName → DamagedText → List ℕ
 read_note l name shown = day_note l name shown.group ++ lost_note l name shown.letters.items
 
--- The notes on a part that can't be read with the count in its heading. The last argument is the part's text by count.
+-- The notes on a part that can't be read with the count in its heading. `shown` is the part's text by count, if there
+-- is one.
 abbrev pub damage_note : Language → PartName → DamagedPart → PartDamage → Option DamagedText → List ℕ
 damage_note l name part damage (Some shown) =
     note_line l name (counted_reason l part damage ++ groups_told l part.came part.short_group)

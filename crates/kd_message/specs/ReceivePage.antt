@@ -50,28 +50,28 @@ sheet_to_receive model = if is_converter model then PinReceive else RotorReceive
 abbrev pub listed_unread : Language → PartName → List ℕ
 listed_unread l name = filled (text_in l texts.LISTED_UNREAD) (decimal name.part ∷ decimal name.parts ∷ [])
 
--- the line for a part in the list of the sheets; the last argument is the part's text
+-- the line for a part in the list of the sheets; `shown` is the part's text, if the part is read
 abbrev pub listed_text : Language → PartName → Option DamagedText → List ℕ
 listed_text l name (Some shown) = listed_sheet l name.sheet name.part name.parts
 listed_text l name None = listed_unread l name
 
--- the sheet for a part with this text
+-- the sheet for a part with the text `shown`
 abbrev pub sheet_of_text : Language → Day → PartName → DamagedText → List ℕ
 sheet_of_text l s name shown =
     part_sheet l (sheet_to_receive (day_model s)) s name (warnings_of shown) (received_work s shown)
 
--- the sheet for a part with this text; none if there is no text, not even by count
+-- the sheet for a part with the text `shown`; empty if there is no text, not even by count
 abbrev pub worked_text : Language → Day → PartName → Option DamagedText → List ℕ
 worked_text l s name (Some shown) = sheet_of_text l s name shown
 worked_text l s name None = []
 
--- the text of a part by count; if there is none, the reason why the part isn't read
+-- a part's text by count; if there is no such text, the reason why the part isn't read
 abbrev pub counted_or_damage : Language → Day → PartName → DamagedPart → PartDamage → Option DamagedText → List ℕ
 counted_or_damage l s name part damage (Some shown) =
     counted_text l (sheet_to_receive (day_model s)) s name part damage shown
 counted_or_damage l s name part damage None = damage_text l (sheet_to_receive (day_model s)) name part damage
 
--- the text of a part; if there is none, its text by count, or the reason why the part isn't read
+-- a part's text or, if there is none, its text by count; if both are missing, the reason why the part isn't read
 abbrev pub text_or_damage : Language → Day → PartName → DamagedPart → Result DamagedText PartDamage → List ℕ
 text_or_damage l s name part (Ok shown) = read_text l (sheet_to_receive (day_model s)) s name shown
 text_or_damage l s name part (Err damage) = counted_or_damage l s name part damage part.by_count
@@ -120,15 +120,16 @@ abbrev pub number_or : ℕ → Option PartNumbers → ℕ
 number_or before (Some numbers) = numbers.part
 number_or before None = before
 
--- The words in `section` for some of `parts`: those without a number, if the last numbered part before them has the
--- number `after`. `before` is the number of the last numbered part before `parts`.
+-- The words in `section` for the parts without a number between part `after` and the next numbered part. `before` is
+-- the number of the last numbered part before `parts`.
 abbrev pub lone_after : Section → Language → Day → ℕ → ℕ → List DamagedPart → List ℕ
 lone_after section l s after before [] = []
 lone_after section l s after before (part ∷ parts) =
     (if is_none part.numbers && before == after then lone_in section l s after part else [])
     ++ lone_after section l s after (number_or before part.numbers) parts
 
--- the words in `section` for the part that is shown under a number or, if there is none, for a part that didn't come
+-- the words in `section` for the part that is shown under a number; if no part is shown, the words for a part that
+-- didn't come
 abbrev pub shown_in : Section → Language → Day → PartName → ℕ → Option DamagedPart → List ℕ
 shown_in section l s name times (Some part) = part_in section l s name times part
 shown_in section l s name times None = missing_in section l name

@@ -46,12 +46,12 @@ pin_received s k shown = record {
   body = pin_body s shown;
 }
 
--- the letters that are pressed, and those that light up, for a text with these keys
+-- the letters to press, and the letters that light up, for the text `shown` and its keys
 abbrev pub work_with : Day → TextKeys → DamagedText → Work
 work_with s (text_keys.Rotor i) shown = rotor_received s i shown
 work_with s (text_keys.Pin k) shown = pin_received s k shown
 
--- the letters that are pressed, and those that light up, on the sheet of a received part
+-- the letters to press, and the letters that light up, on the sheet of a received part
 abbrev pub received_work : Day → DamagedText → Work
 received_work s shown = work_with s shown.keys shown
 

@@ -97,8 +97,8 @@ send_text results l s parts works made =
 
 -- ---- What is worked for an order, and its form.
 
--- `works` has, for each part, the letters that are pressed, and those that light up. On a part's sheet, the part's
--- piece of the text is enciphered with the part's keys.
+-- `works` has, for each part, the letters to press and the letters that light up. On a part's sheet, the part's piece
+-- of the text is enciphered with the part's keys.
 abbrev pub AreWorks : Day → List Keys → List (List ℕ) → List Work → Type 0
 AreWorks s [] [] works = works ≡ []
 AreWorks s (k ∷ keys) (piece ∷ pieces) works =
@@ -134,7 +134,7 @@ pub record IsSendPage (results : Results) (l : Language) (s : Day) (order form p
 
 -- ---- What `write_send_page` answers.
 
--- The fault is the one that `send` returns for this order.
+-- `fault` is a fault that `send` can return for `order`.
 abbrev pub IsSendRefusal : Parts → Day → List ℕ → FormFault → Type 0
 IsSendRefusal m s order fault =
     IsKeyFault m s fault
@@ -159,8 +159,8 @@ pub data IsSendPageAnswer (results : Results) (l : Language) (m : Parts) (s : Da
 abbrev pub HasForm : Day → List ℕ → Type 0
 HasForm s order = (form : List ℕ) × IsFormOf s order form
 
--- `keys` are the keys of the parts from number `part` on. The keys are valid on the day, and there is one key for each
--- piece of the text.
+-- `keys` are the keys of the parts from number `part` on, one item for each piece of the text. The keys are valid on
+-- the day.
 pub record AreKeysOfText (s : Day) (part parts : ℕ) (keys : List Keys) (text : List ℕ) : Type 0 where
   pub of_the_day : All (AreKeys s) keys
   pub suited : InTurn (IsKeysAnswer s) part keys (Ok tt)

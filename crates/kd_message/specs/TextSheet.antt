@@ -46,7 +46,7 @@ abbrev pub numbers_after : List ℕ → List ℕ → List ℕ
 numbers_after first [] = []
 numbers_after first (number ∷ numbers) = first ++ decimal number ++ numbers_after COMMA.now numbers
 
--- the sentence that the parts came in the order of these numbers
+-- the sentence that the parts came in the order of `numbers`
 unfoldable pub order_words : Language → List ℕ → List ℕ
 order_words l numbers = text_in l texts.ORDER ++ numbers_after [] numbers ++ text_in l texts.ORDER_END
 
@@ -138,9 +138,9 @@ run_length [] = 0
 run_length (group ∷ groups) = if has_lost group then run_length groups + 1 else 0
 
 -- The words for the groups that lost letters. Successive groups are named together, as *groups 3 to 5*. The list begins
--- with group `number`. `first` stands before the first words, and a comma between the words. `before` says whether the
--- group just before the list lost letters. If it did, groups with lost letters at the start of the list are left out,
--- as they are already named.
+-- with group `number`. `first` stands before the first words, and commas stand between the words. If `before` is true,
+-- the group just before the list lost letters. Then groups with lost letters at the start of the list are left out, as
+-- they are already named.
 abbrev pub lost_groups : Language → List ℕ → Bool → ℕ → List (List (Option ℕ)) → List ℕ
 lost_groups l first before number [] = []
 lost_groups l first before number (group ∷ groups) =
@@ -157,12 +157,12 @@ first_text_group model = if is_converter model then 3 else 2
 abbrev pub indicator_place : ℕ → ℕ
 indicator_place number = if number == 0 then 1 else number + 2
 
--- the number of the group with this key letter, among the first two groups
+-- the number of the group with key letter `number`, among the first two groups
 abbrev pub key_letter_group : ℕ → ℕ
 key_letter_group number = if nat_le (indicator_place number) 5 then 1 else 2
 
--- The words for the two groups with this key letter, in a body of `came` letters. One is among the first two groups,
--- the other among the last two.
+-- The words for the two groups with key letter `number`, in a body of `came` letters. One is among the first two
+-- groups, the other among the last two.
 unfoldable pub key_letter_groups : Language → ℕ → ℕ → List ℕ
 key_letter_groups l came number =
     group_words l (key_letter_group number) ++ COMMA.now ++ group_words l (came / 5 - 2 + key_letter_group number)
@@ -227,7 +227,7 @@ read_text l sheet s name shown =
 abbrev pub line_words : Language → ℕ → ℕ → List ℕ
 line_words l line number = text_in l texts.LINE ++ decimal (line + number - 1)
 
--- the sentence about what is wrong with the heading of a part that begins on line `line` of the form
+-- the sentence that says what is wrong with a heading: the words for line `line` of the form, and then `fault`
 unfoldable pub heading_fault : Language → ℕ → List ℕ → List ℕ
 heading_fault l line fault = line_words l line 1 ++ fault
 
@@ -310,8 +310,9 @@ reason_text l part (damages.KeyLetterLost number) =
 reason_text l part damages.KeyNotOnWheel = text_in l texts.KEY_NOT_ON_WHEEL
 reason_text l part damages.NoInternalKey = text_in l texts.NO_INTERNAL_KEY
 
--- The words for what to ask for if letters of the ground or of the enciphered key are lost: both keys, and all groups of
--- the text with a lost letter or a wrong sign. `body` has the letters of the body. The text begins with the second group.
+-- The words for what to ask for if a letter of the ground setting or of the enciphered key is lost. The words name both
+-- keys, and each group of the text with a lost letter or a wrong sign. `body` has the letters of the body. The text
+-- begins with the second group.
 abbrev pub keys_and_groups : Language → List (Option ℕ) → List ℕ
 keys_and_groups l body = text_in l texts.ITS_KEYS ++ lost_groups l COMMA.now false 2 (pieces 5 (drop 5 body))
 

@@ -18,7 +18,7 @@ use kd_pictures::{Language, draw, draw_in};
 use kd_state::SheetDay;
 use kd_tables::Sink;
 
-/// Writes the text by count. Before it stands what is wrong with the count, and after it what to ask for.
+/// Writes what is wrong with the count, then the text by count, and then what to ask for.
 pub(crate) fn draw_counted_text<W: Sink>(
     sink: &mut W,
     language: Language,
@@ -68,8 +68,10 @@ fn draw_damaged_count<W: Sink>(sink: &mut W, language: Language, line: usize, ca
     draw_in(sink, language, COUNT_DAMAGED_END);
 }
 
-/// Writes the number of the first group that doesn't have five letters. If each group has five, writes that the number
-/// of letters that came may be right.
+/// Writes the number of the first short group. If no group is short, writes that the number of letters that came may be
+/// right.
+///
+/// A short group doesn't have five letters, though letters follow the group.
 pub(crate) fn draw_groups_told<W: Sink>(
     sink: &mut W,
     language: Language,

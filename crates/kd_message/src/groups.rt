@@ -23,8 +23,8 @@ pub(crate) fn has_lost(letters: &[Option<Letter>]) -> bool
 
 /// Writes which groups of `letters` lost letters. `first` stands before the first group that is named.
 ///
-/// `before` says whether the group just before `letters` lost letters. If it did, groups with lost letters at the start
-/// of `letters` are left out, as they are already named.
+/// If `before` is true, the group just before `letters` lost letters. Then groups with lost letters at the start of
+/// `letters` are left out, as they are already named.
 pub(crate) fn draw_lost_groups<W: Sink>(
     sink: &mut W,
     language: Language,

@@ -11,7 +11,7 @@ pub fn rows_are_enciphered()
     ensures { RowsAreEnciphered }
 {}
 
-/// On the sheet of a received part, the letters below the line are the plaintext of those above it.
+/// On the sheet of a received part, the letters below the line are the plaintext of the letters above the line.
 ///
 /// For lost letters, the operator may press any keys.
 pub fn rows_are_deciphered()
@@ -28,14 +28,16 @@ pub fn forms_read_are_whole()
     ensures { FormsReadAreWhole }
 {}
 
-/// If a part can be read, the page shows a text under the part's number, with all of the letters that came in this
-/// part.
+/// If a part can be read, the page shows a text under the part's number. This text has each letter of the part's own
+/// text.
 pub fn nothing_read_is_hidden()
     ensures { NothingReadIsHidden }
 {}
 
-/// In a whole message, all headings give the same number of parts. Parts with the same number have the same letters,
-/// except where a letter was lost.
+/// In a whole message, all headings give the same number of parts.
+///
+/// Take the first part, and another part with the same number. If both are read, they have the same letters, except
+/// where a letter was lost.
 pub fn whole_messages_agree()
     ensures total { WholeMessagesHaveOneTotal }
     ensures repetitions { RepetitionsHaveTheLetters }
@@ -49,8 +51,8 @@ pub fn whole_messages_are_on_the_page()
 /// Take a form that is a whole message, with no lost letter, no small letter, no tab, and no needless blank in a
 /// heading.
 ///
-/// Put its parts in the order of their numbers, with one part for each number. Then `desk receive` gives the text that
-/// the page shows.
+/// Then `desk receive` reads some of its parts: one for each number, in the order of the numbers. From these parts,
+/// `desk receive` gives the text that the page shows.
 pub fn whole_messages_are_read()
     ensures { WholeMessagesAreRead }
 {}

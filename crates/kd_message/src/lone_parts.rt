@@ -104,7 +104,7 @@ fn draw_damaged_heading<W: Sink>(sink: &mut W, language: Language, model: Model,
     draw_in(sink, language, HEADING_LIKE_END);
 }
 
-/// An example of a heading on this model.
+/// An example of a valid heading for `model`.
 fn heading_example(model: Model) -> &'static str
     ensures { result.now ≡ heading_example model }
 {

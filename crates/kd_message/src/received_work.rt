@@ -15,7 +15,7 @@ use kd_part_sheet::cells::{Cell, push_choice, push_pressed, push_received, push_
 use kd_part_sheet::part_work::{PartWork, letters_of};
 use kd_state::SheetDay;
 
-/// The letters that are pressed, and those that light up, when a part is deciphered to `shown`.
+/// The letters to press, and the letters that light up, when a part is deciphered to `shown`.
 pub(crate) fn received_work(day: &SheetDay, shown: &DamagedText) -> PartWork
     requires { AreShowable day.now shown.now.keys }
     ensures work { result ≡ received_work day.now shown.now }
@@ -27,7 +27,7 @@ pub(crate) fn received_work(day: &SheetDay, shown: &DamagedText) -> PartWork
     }
 }
 
-/// The letters that are pressed, and those that light up, on a rotor machine.
+/// The letters to press, and the letters that light up, on a rotor machine.
 #[tactic(auto, using(kd_form::proofs::MadeParts::key_is_window))]
 fn rotor_received(day: &SheetDay, indicator: &Indicator, shown: &DamagedText) -> PartWork
     requires { HasIndicator day.now (Some indicator.now) }

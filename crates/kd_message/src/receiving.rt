@@ -236,8 +236,8 @@ fn draw_number<W: Sink>(
     draw_lone_after(sink, section, language, day, number as u8, 0, parts);
 }
 
-/// Writes the words in `section` for the part that is shown under `number` or, if there is none, for a part that didn't
-/// come.
+/// Writes the words in `section` for the part that is shown under `number`. If no part is shown, writes the words for a
+/// part that didn't come.
 fn draw_shown<W: Sink>(
     sink: &mut W,
     section: Section,
@@ -263,10 +263,9 @@ fn draw_shown<W: Sink>(
     }
 }
 
-/// Writes the words in `section` for some of `parts`: those without a number that come after part `after`.
+/// Writes the words in `section` for the parts without a number between part `after` and the next numbered part.
 ///
-/// The last numbered part before them has the number `after`. `before` is the number of the last numbered part before
-/// `parts`.
+/// `before` is the number of the last numbered part before `parts`.
 fn draw_lone_after<W: Sink>(
     sink: &mut W,
     section: Section,
@@ -287,7 +286,7 @@ fn draw_lone_after<W: Sink>(
     }
 }
 
-/// Whether a part has no number, and the last part number before it, `before`, equals `after`.
+/// Whether a part has no number, and `before`, the last part number before it, equals `after`.
 fn is_lone_after(after: u8, before: u8, numbers: &Option<PartNumbers>) -> bool
     ensures { result ≡ (is_none numbers.now && before == after) }
 {
@@ -478,7 +477,7 @@ fn draw_worked<W: Sink>(
     }
 }
 
-/// Writes the sheet for a part with this text.
+/// Writes the sheet for a part with the text `shown`.
 fn draw_sheet_of_text<W: Sink>(
     sink: &mut W,
     language: Language,

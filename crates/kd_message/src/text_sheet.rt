@@ -159,8 +159,8 @@ fn draw_order_words<W: Sink>(sink: &mut W, language: Language, parts: &[DamagedP
     draw_in(sink, language, ORDER_END);
 }
 
-/// Writes the numbers of the parts that have one. `first` stands before the first number, a comma before each later
-/// one.
+/// Writes the numbers of the parts that have one. `first` stands before the first number, and a comma before each later
+/// number.
 fn draw_numbers<W: Sink>(sink: &mut W, first: &str, parts: &[DamagedPart])
     ensures { Draws W.taken W.has_failed sink.old sink.new
         (numbers_after first.now (numbers_of parts.now)) }

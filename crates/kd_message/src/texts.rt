@@ -3,8 +3,8 @@
 
 use kd_pictures::texts::Text;
 
-/// The title of the page for sending; after it, the title of the page for receiving. The values are the model and the
-/// day.
+/// The title of the page for sending. The next text is the title of the page for receiving. The values are the model
+/// and the day.
 pub const TITLE_TO_SEND: Text = ("~, day ~: send", "~, Tag ~: Verschlüsseln");
 
 pub const TITLE_TO_RECEIVE: Text = ("~, day ~: receive", "~, Tag ~: Entschlüsseln");
@@ -65,7 +65,7 @@ pub const LONE_ASK: Text = (
     "<label><input type=checkbox> diesen Teil wiederholen lassen: <b>",
 );
 
-/// The end of the list of the sheets, with a link to the form; after it, the end with a link to the text.
+/// The end of the list of the sheets, with a link to the form. The next text is the end with a link to the text.
 pub const LIST_END_WITH_FORM: Text = (
     "<li><a href=\"#form\">Form</a>\n</ul>\n</nav>\n",
     "<li><a href=\"#form\">Funkspruch</a>\n</ul>\n</nav>\n",
@@ -76,8 +76,8 @@ pub const LIST_END_WITH_TEXT: Text = (
     "<li><a href=\"#text\">Klartext</a>\n</ul>\n</nav>\n",
 );
 
-/// The head of the sheet with the text; its values are the model and the day. Then the head of each part on this sheet;
-/// its values are the part's number, the number of parts, the model, and the day.
+/// The head of the sheet with the text; its values are the model and the day. The next text is the head of each part on
+/// this sheet; its values are the part's number, the number of parts, the model, and the day.
 pub const TEXT_SHEET: Text = (
     "<article id=text class=form>\n<header>\n<h1>~, day ~: text</h1>\n<p class=fields><span>From</span><span>Time</span><span>Read by</span></p>\n</header>\n",
     "<article id=text class=form>\n<header>\n<h1>~, Tag ~: Klartext</h1>\n<p class=fields><span>Von</span><span>Uhrzeit</span><span>Entschlüsselt durch</span></p>\n</header>\n",
@@ -88,8 +88,8 @@ pub const TEXT_PART: Text = (
     "<section>\n<h2>Teil ~ von ~<span>~, Tag ~: Klartext</span></h2>\n",
 );
 
-/// The start of a text whose lines may break between any letters, and of a text whose lines break between words. Then
-/// the end of either text.
+/// The start of a text whose lines may break between any letters. The next two texts are the start of a text whose
+/// lines break between words, and the end of either text.
 pub const TEXT_LETTERS: &str = "<p class=\"text letters\">";
 
 pub const TEXT_WORDS: &str = "<p class=\"text words\">";

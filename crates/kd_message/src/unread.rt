@@ -104,7 +104,7 @@ pub(crate) fn draw_reason<W: Sink>(
     }
 }
 
-/// Writes what is wrong with the heading of a part that begins on line `line` of the form.
+/// Writes what is wrong with a heading: the words for line `line` of the form, and then `fault`.
 pub(crate) fn draw_heading_fault<W: Sink>(
     sink: &mut W,
     language: Language,
@@ -126,8 +126,7 @@ pub(crate) fn draw_line_words<W: Sink>(sink: &mut W, language: Language, line: u
     draw(sink, Buffer::new().format(line_of_form(line, number)));
 }
 
-/// The number of a line, counted from the start of the form. It is line `number` of its part, and the part begins on
-/// line `line` of the form.
+/// The line of the form on which line `number` of a part stands. The part begins on line `line` of the form.
 fn line_of_form(line: usize, number: usize) -> u128
     ensures { result ≡ line + number - 1 }
 {
@@ -253,8 +252,8 @@ fn draw_short_groups<W: Sink>(
     }
 }
 
-/// Writes what to ask for if the count is wrong or damaged. `group` is the number of the first group that doesn't have
-/// five letters.
+/// Writes what to ask for if the count is wrong or damaged. `group` is the number of the first short group: it doesn't
+/// have five letters, though letters follow the group.
 pub(crate) fn draw_count_asked<W: Sink>(
     sink: &mut W,
     language: Language,
@@ -339,8 +338,10 @@ pub(crate) fn draw_asked<W: Sink>(
     }
 }
 
-/// Writes what to ask for if letters of the ground or of the enciphered key are lost: both keys, and all groups of the
-/// text with a lost letter or a wrong sign. `body` has the letters of the body.
+/// Writes what to ask for if a letter of the ground setting or of the enciphered key is lost.
+///
+/// Asks for both keys, and for each group of the text with a lost letter or a wrong sign. `body` has the letters of the
+/// body.
 fn draw_keys_and_groups<W: Sink>(sink: &mut W, language: Language, body: &[Option<Letter>])
     requires { length body.now ≤ 525 }
     ensures { Draws W.taken W.has_failed sink.old sink.new

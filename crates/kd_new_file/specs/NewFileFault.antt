@@ -5,7 +5,7 @@ use Rattle.std.specs.declared.io.ErrorKind.TheVariants.{AlreadyExists, OutOfMemo
 use Rattle.kd_new_file.specs.declared.new_file_fault.NewFileFault.{NewFileFault}
 use Rattle.kd_new_file.specs.declared.new_file_fault.NewFileFault.TheVariants as faults
 
--- The fault for an error of this kind: the name is taken, memory ran out or, for any other kind, `Device`.
+-- the fault for a system error: `Taken` if the name is taken, `NoMemory` if memory ran out, otherwise `Device`
 abbrev pub fault_of_kind : ErrorKind → NewFileFault
 fault_of_kind AlreadyExists = faults.Taken
 fault_of_kind OutOfMemory = faults.NoMemory

@@ -16,25 +16,26 @@ FilesByName = List ℕ → Option (List ℕ)
 abbrev pub with_content : FilesByName → List ℕ → Option (List ℕ) → FilesByName
 with_content files name content = update bytes_eq files name content
 
--- No file in `old` is called `name`. `new` has the files of `old`, and a file called `name` with these bytes. If `old`
--- is `None`, because the files aren't known, `new` is `None`, too.
+-- No file in `old` is called `name`. `new` has the files of `old`, and a file called `name` with the bytes `bytes`. If
+-- the files aren't known, `old` and `new` are `None`.
 abbrev pub AddsFile : Option FilesByName → Option FilesByName → List ℕ → Option (List ℕ) → Type 0
 AddsFile None new name bytes = new ≡ None
 AddsFile (Some files) new name bytes = (files name ≡ None) × (new ≡ Some (with_content files name bytes))
 
--- the other name with this number, under which the file `name` is written at first
+-- the name under which the file `name` is written at first: `name`, `.part` and `number`
 abbrev pub part_name : List ℕ → ℕ → List ℕ
 part_name name number = name ++ (codes ".part" ++ decimal number)
 
--- Why no file could be made under another name for the file `name`. `Taken` is no reason, since other names are tried.
--- If the files are known, the reason is `Device` only if all 100 other names are taken.
+-- Why no file could be begun under any of the 100 other names of the file `name`. The reason is never `Taken`, since
+-- further names are tried. If the files are known, the reason is `Device` only if all these names are taken.
 pub record IsWhyNotBegun (files : Option FilesByName) (name : List ℕ) (fault : NewFileFault) : Type 0 where
   pub other : fault ≢ Taken
   pub device : IfSome files (λ known. fault ≡ Device → (number : ℕ) → 1 ≤ number → number ≤ 100
       → IsSome (known (part_name name number)))
 
--- Why a file that was begun under another name didn't get its name `name`. `files` are the files before it was begun.
--- If they are known, the reason is `Taken` exactly if one of them is called `name`, and it is never `Device`.
+-- Why a file that was begun under another name wasn't renamed to `name`. `files` are the files before the file was
+-- begun. If `files` are known, the reason is `Taken` exactly if one of them is called `name`. It is then never
+-- `Device`.
 abbrev pub IsWhyUnnamed : Option FilesByName → List ℕ → NewFileFault → Type 0
 IsWhyUnnamed files name fault = IfSome files (λ known. ((fault ≡ Taken) ↔ IsSome (known name)) × (fault ≢ Device))
 

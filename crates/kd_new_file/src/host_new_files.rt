@@ -1,4 +1,4 @@
-//! New files of the host system.
+//! Makes new files in the folders of the system on which the program runs.
 ghost use Rattle.std.specs.Prelude.{◌≡◌, false};
 
 use crate::new_file_fault::NewFileFault;

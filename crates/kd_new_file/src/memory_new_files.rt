@@ -18,7 +18,7 @@ pub struct MemoryNewFiles<const CAP: usize> {
 }
 
 impl<const CAP: usize> MemoryNewFiles<CAP> {
-    /// Adds a file called `name`, with these bytes. Returns `Taken` if there already is a file with this name.
+    /// Adds a file called `name`, with the bytes `bytes`. Returns `Taken` if there already is a file with this name.
     fn add(&mut self, name: &str, bytes: &[u8]) -> Result<(), NewFileFault>
         ensures added { OnOk result
             (AddsFile (Some (files_in self.old.files)) (Some (files_in self.new.files)) name.now (Some bytes.now)) }

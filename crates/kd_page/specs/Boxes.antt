@@ -30,18 +30,18 @@ use Rattle.kd_pictures.specs.Template.{filled, letter_text, ordinal_text}
 use Rattle.kd_pictures.specs.Wheels.{is_seated}
 use Rattle.kd_pictures.specs.Words.{mark_text, word_text}
 
--- the name of a slot; from right to left, the names are right, middle, left and Greek
+-- the name of slot `slot`; from right to left, the slots are called `Right`, `Middle`, `Left` and `Greek`
 abbrev pub slot_name : Model → ℕ → Word
 slot_name model slot =
     let after = slots_of model - slot in
     if after == 0 then Right else if after == 1 then Middle else if after == 2 then Left else Greek
 
--- which slot of the list holds the wheel; `None` for a spare wheel, which is in the box
+-- the first slot in the list that holds `wheel` on machine `m`; `None` if no slot in the list holds it
 abbrev pub slot_holding : Parts → Wheel → List ℕ → Option ℕ
 slot_holding m wheel [] = None
 slot_holding m wheel (slot ∷ slots) = if is_seated m slot wheel then Some slot else slot_holding m wheel slots
 
--- The words for the letter on which the ring of a spare wheel has to stand. Empty if there is no letter.
+-- The words for `ring`, the letter on which a spare wheel's ring has to stand. Empty if there is no letter.
 abbrev pub box_ring_text : Language → Option ℕ → List ℕ
 box_ring_text l None = []
 box_ring_text l (Some ring) = filled (text_in l BOX_RING) (letter_text ring ∷ ordinal_text ring ∷ [])

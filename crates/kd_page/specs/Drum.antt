@@ -48,12 +48,12 @@ abbrev pub bar_head : ℕ → Place × Place → Place × Place → List ℕ
 bar_head bar was is =
     filled (if is_same_standing was is then texts.BAR.now else texts.SET_BAR.now) (decimal bar ∷ [])
 
--- The empty cells at the end of a bar's row that has this number of checkboxes. Each row has two cells for checkboxes.
+-- The empty cells at the end of a bar's row with `count` checkboxes. Each row has two cells for checkboxes.
 abbrev pub bar_end : ℕ → List ℕ
 bar_end count = if count == 0 then texts.NO_BOXES.now else if count == 1 then texts.ONE_BOX.now else texts.BOXES.now
 
--- The row of a bar. The first pair has the places of the bar's lugs before the settings. The second pair has their
--- places after the settings.
+-- The row of bar `bar`. Its lugs are at the places `was` before the settings, and at the places `is` after the
+-- settings.
 abbrev pub bar_item : Page → ℕ → Place × Place → Place × Place → List ℕ
 bar_item page bar was is =
     bar_head bar was is ++ flat_map (lug_cell was is) places ++ boxes_at page (row_spot Lugs bar)

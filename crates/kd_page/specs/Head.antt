@@ -11,7 +11,7 @@ use Rattle.kd_page.specs.declared.head.ListedDay.{ListedDay}
 use Rattle.kd_pictures.specs.declared.texts.TheConstants.{BODY, FOOT, NAV, NAV_DAY, NAV_END, NAV_LIST, STYLE}
 use Rattle.kd_pictures.specs.declared.texts.TheConstants.{TITLE_DAY, TITLE_DAYS}
 
--- the last day of a file; the first argument is the first day, and the list has the later days
+-- the last day in the list; `day` if the list is empty
 abbrev pub last_of : ListedDay → List ListedDay → ListedDay
 last_of day [] = day
 last_of day (next ∷ days) = last_of next days
@@ -26,7 +26,7 @@ unfoldable pub days_title : Language → Model → List ℕ → ℕ → ℕ → 
 days_title l model sheet first last =
     filled (text_in l TITLE_DAYS) (model_name model ∷ decimal first ∷ decimal last ∷ []) ++ sheet_name sheet
 
--- the title of a file with the pages of these days
+-- the title of a file with the day `first` and the later days in the list
 abbrev pub title_text : Language → Model → List ℕ → ListedDay → List ListedDay → List ℕ
 title_text l model sheet first [] = day_title l model sheet first.day
 title_text l model sheet first (next ∷ days) = days_title l model sheet first.day (last_of next days).day
@@ -45,7 +45,7 @@ abbrev pub nav_text : Language → Model → List ℕ → ListedDay → List Lis
 nav_text l model sheet first [] = []
 nav_text l model sheet first (next ∷ days) = list_of_days l model sheet first (next ∷ days)
 
--- the head of a file with the pages of these days: all that stands before the first page
+-- the head of a file with the days `first` and `days`: all that stands before the first page
 unfoldable pub head_text : Language → Model → List ℕ → ListedDay → List ListedDay → List ℕ
 head_text l model sheet first days =
     file_head l ++ title_text l model sheet first days ++ STYLE.now ++ BODY.now ++ nav_text l model sheet first days

@@ -1,5 +1,5 @@
--- A page marks a change of a thing only if the page's list has a setting of this thing. A Converter's page also has
--- marks for pins and lugs that stay. The laws in this file leave out the windows of an Enigma.
+-- A page marks a thing (a ring, a plug, a pin) as changed only if a setting of the page sets this thing. A Converter's
+-- page also has marks for pins and lugs that stay. The laws in this file leave out the windows of an Enigma.
 use Rattle.std.specs.Prelude.{◌≡◌, ℕ, nat_eq, Bool, true, false, ◌&&◌, List}
 use Rattle.std.specs.List.{list_any}
 use Rattle.kd_tables.specs.declared.wheel.Wheel.{Wheel}
@@ -48,9 +48,9 @@ turns_pin_wheel wheel _ = false
 
 -- ---- The laws.
 
--- Machine `m` is the machine before the list, and machine `n` the machine after it. If no setting of the list sets a
--- thing, this thing is the same on both machines. So a page doesn't mark it as changed. A slot gets a new wheel only if
--- the list puts this wheel into the slot.
+-- `m` is the machine before the settings `list`, and `n` is the machine after them. A thing that no setting of `list`
+-- sets is the same on both machines, so a page doesn't mark it as changed. A slot gets a new wheel only if `list` puts
+-- this wheel into the slot.
 pub record MarksHaveSettings (m n : Parts) (list : List Setting) : Type 0 where
   pub rings : (wheel : Wheel) → list_any (sets_ring wheel) list ≡ false → machine_ring n wheel ≡ machine_ring m wheel
   pub reflector : list_any sets_reflector list ≡ false → machine_reflector n ≡ machine_reflector m

@@ -15,7 +15,7 @@ use Rattle.kd_page.specs.Spots.{cell_of, is_at, row_of, row_spot, step_of, step_
 abbrev pub settings_at : Spot → List Setting → List Setting
 settings_at spot settings = filter (is_at spot) settings
 
--- the settings of a step's table, row by row
+-- the settings of the table of `step`, row by row, for the rows `rows`
 abbrev pub row_by_row : Step → List ℕ → List Setting → List Setting
 row_by_row step rows settings = flat_map (λ row. settings_at (row_spot step row) settings) rows
 
@@ -40,8 +40,8 @@ page_boxes model settings = if is_converter model then pin_boxes settings else r
 
 -- ---- The order of a page.
 
--- The function gives each item of the list a number. From item to item, these numbers never fall. They are at least the
--- first bound, and less than the second bound.
+-- The function `key` gives each item of the list a number. From item to item, these numbers never fall. Each number is
+-- at least `from` and less than `end`.
 abbrev pub IsRanked : {X : Type 0} → (X → ℕ) → ℕ → ℕ → List X → Type 0
 IsRanked key from end [] = Unit {0}
 IsRanked key from end (x ∷ xs) = (from ≤ key x) × (key x < end) × IsRanked key (key x) end xs

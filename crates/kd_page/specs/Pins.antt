@@ -24,8 +24,8 @@ use Rattle.kd_pictures.specs.Words.{mark_text}
 abbrev pub pin_spot : ℕ → ℕ → Spot
 pin_spot wheel letter = record { step = Pins; row = Some wheel; cell = Some letter }
 
--- whether the settings leave the pin as it was; the two arguments say whether the pin is effective after the settings,
--- and before them
+-- whether the settings leave a pin as it was; `effective` says whether the pin is effective after the settings, and
+-- `was` whether it was before them
 abbrev pub is_same_pin : Bool → Option Bool → Bool
 is_same_pin effective was = option_map_or (λ old. if old then effective else not effective) was false
 
@@ -56,7 +56,8 @@ abbrev pub pin_cells : Page → ℕ → List ℕ → List ℕ
 pin_cells page wheel letters =
     flat_map (λ letter. pin_cell page wheel letter (machine_pin page.after wheel letter)) letters
 
--- the first words of the lines that set a wheel's pins, such as `PIN 3`; empty if the number of pins to set is 0
+-- the first words of the lines that set the pins of `wheel`, such as `PIN 3`; empty if `count`, the number of pins to
+-- set, is 0
 abbrev pub pin_lines : ℕ → ℕ → List ℕ
 pin_lines wheel count = if count == 0 then [] else filled texts.PIN_LINES.now (decimal wheel ∷ [])
 

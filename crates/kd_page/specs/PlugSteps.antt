@@ -24,8 +24,8 @@ abbrev pub plug_row : Page → Step → ℕ → List ℕ
 plug_row page step number =
     if count_at (row_spot step number) page.settings == 0 then [] else moving_row page step number
 
--- The table of the plugs to move in a step. The second argument is the text before the first row: the meaning of the
--- marks, and the head of the table.
+-- The table of the plugs to move in `step`. The text `head` stands before the first row: the meaning of the marks, and
+-- the head of the table.
 unfoldable pub plug_table : Page → List ℕ → Step → List ℕ
 plug_table page head step = head ++ flat_map (plug_row page step) CABLES ++ texts.PLUGS_END.now
 

@@ -8,7 +8,8 @@ use Rattle.kd_page.specs.DayPage.{day_text}
 use Rattle.kd_page.specs.Page.{Page}
 use Rattle.kd_page.specs.PageOrder.{IsPinOrder, IsRotorOrder}
 
--- The text has a piece for each item, in the order of the items. Other text may stand between the pieces.
+-- `text` has the piece `part x` for each item `x` of the list, in the order of the items. Other text may stand between
+-- the pieces.
 abbrev pub HasInTurn : {X : Type 0} → (X → List ℕ) → List X → List ℕ → Type 0
 HasInTurn part [] text = Unit {0}
 HasInTurn part (x ∷ xs) text =

@@ -1,5 +1,5 @@
--- The spots of a page's checkboxes. A setting's checkbox is at a step of the page. If the step has a table, the
--- checkbox is in a row of the table; if the row has cells, it is in a cell of the row.
+-- The spots of a page's checkboxes. Each checkbox is in a step of the page. In a step with a table, the checkbox is in
+-- a row of the table. In a row with cells, the checkbox is in a cell of the row.
 use Rattle.std.specs.Prelude.{ℕ, nat_eq, Bool, true, ◌&&◌, List, filter, length, Some, None}
 use Rattle.std.specs.Option.{option_map_or}
 use Rattle.kd_state.specs.declared.setting.Setting.{Setting}
@@ -59,8 +59,8 @@ step_spot step = record { step = step; row = None; cell = None }
 abbrev pub row_spot : Step → ℕ → Spot
 row_spot step row = record { step = step; row = Some row; cell = None }
 
--- Whether the setting's checkbox is at this spot. The checkbox has to be in the spot's step. If the spot has a row or a
--- cell, the checkbox has to be in this row or cell, too.
+-- Whether the checkbox of the setting `x` is at `spot`. The checkbox has to be in the spot's step. If the spot has a
+-- row or a cell, the checkbox has to be in this row or cell, too.
 abbrev pub is_at : Spot → Setting → Bool
 is_at spot x =
     nat_eq (step_rank (step_of x)) (step_rank spot.step)

@@ -19,7 +19,7 @@ page_title page = day_title page.language (model_of page.after) page.sheet page.
 unfoldable pub titled_text : Page → List ℕ
 titled_text page = page_title page ++ STEP_TITLED.now
 
--- the head of a step with this number of settings
+-- the head of a step with the title `title` and `count` settings
 unfoldable pub step_text : Page → Word → ℕ → List ℕ
 step_text page title count =
     filled STEP.now (word_text page.language title ∷ count_text page.language count ∷ []) ++ titled_text page
@@ -32,8 +32,8 @@ idle_text l title = filled IDLE_STEP.now (word_text l title ∷ count_text l 0 �
 unfoldable pub plain_step_text : Page → Word → List ℕ
 plain_step_text page title = filled PLAIN_STEP.now (word_text page.language title ∷ []) ++ titled_text page
 
--- The head of a step that may have more checkboxes than settings. The head has the number of settings, except if this
--- number is 0.
+-- The head of a step that may have more checkboxes than settings. The head has `count`, the number of settings, except
+-- if `count` is 0.
 abbrev pub full_step_text : Page → Word → ℕ → List ℕ
 full_step_text page title count = if count == 0 then plain_step_text page title else step_text page title count
 

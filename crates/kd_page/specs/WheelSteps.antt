@@ -21,25 +21,25 @@ use Rattle.kd_page.specs.Page.{Page}
 use Rattle.kd_page.specs.Spots.{count_at, step_spot}
 use Rattle.kd_page.specs.Steps.{idle_text, list_text, step_text}
 
--- the wheel; `None` if the second argument is a slot that holds the wheel
+-- `wheel` if the second argument is `None`, because no slot holds the wheel; otherwise `None`
 abbrev pub unless_held : Wheel → Option ℕ → Option Wheel
 unless_held wheel None = Some wheel
 unless_held wheel (Some slot) = None
 
--- the wheel in a slot of the first machine; `None` if a slot of the second machine has this wheel
+-- the wheel in slot `slot` of machine `m`; `None` if the slot has no wheel, or if a slot of machine `n` has this wheel
 abbrev pub lone_wheel : Parts → Parts → ℕ → Option Wheel
 lone_wheel m n slot =
     option_and_then (λ seated. option_and_then (λ wheel. unless_held wheel (slot_holding n wheel SLOTS)) seated)
     (machine_slot m slot)
 
--- whether one of these slots of the first machine has a wheel that no slot of the second machine has
+-- whether one of the slots in the list has, on machine `m`, a wheel that no slot of machine `n` has
 abbrev pub has_lone_wheel : Parts → Parts → List ℕ → Bool
 has_lone_wheel m n [] = false
 has_lone_wheel m n (slot ∷ slots) = is_some (lone_wheel m n slot) || has_lone_wheel m n slots
 
 -- ---- The wheels that come from the box.
 
--- the wheel that comes from the box into a slot, with the letter on which its ring stands on this machine
+-- the wheel that comes from the box into slot `slot`, with the letter of the wheel's ring on machine `m`
 abbrev pub wheel_from_box : Page → Parts → ℕ → Option (Wheel × ℕ)
 wheel_from_box page m slot =
     option_and_then (λ wheel. option_map (λ ring. (wheel, ring)) (machine_ring m wheel))
@@ -50,7 +50,7 @@ from_box_shown None = []
 from_box_shown (Some (wheel, ring)) =
     filled BOX_WHEEL.now (wheel_text wheel ∷ letter_text ring ∷ ordinal_text ring ∷ [])
 
--- these words, then the wheels that come from the box, slot by slot, each with its ring's letter on this machine
+-- the words `told`, then the wheels that come from the box, slot by slot, each with its ring's letter on machine `m`
 unfoldable pub all_rings_in_box : Page → List ℕ → Parts → List ℕ
 all_rings_in_box page told m =
     told ++ flat_map (λ slot. from_box_shown (wheel_from_box page m slot)) SLOTS ++ BOXED_END.now
@@ -72,7 +72,7 @@ rings_step page =
     let count = count_at (step_spot Rings) page.settings in
     if count == 0 then idle_text page.language words.Rings else some_rings_text page count
 
--- the first reflector; `None` if the second reflector is the same
+-- `reflector`; `None` if `other` is the same reflector
 abbrev pub unless_same : Reflector → Option Reflector → Option Reflector
 unless_same reflector other =
     if option_map_or (same_reflector reflector) other false then None else Some reflector

@@ -28,7 +28,7 @@ pub(crate) fn draw_boxes<W: Sink>(sink: &mut W, page: &Page<'_>, spot: &Spot)
     draw_boxes_of(sink, page, spot, page.settings());
 }
 
-/// Which of `slots` holds the wheel. `None` if none of them holds it: it is then a spare wheel in the box.
+/// Which of `slots` holds `wheel`. `None` if no slot holds the wheel, which is then a spare wheel in the box.
 pub(crate) fn slot_holding(machine: &Machine, wheel: Wheel, slots: &[u8]) -> Option<u8>
     ensures { result ≡ slot_holding machine.now wheel slots.now }
 {
@@ -216,7 +216,8 @@ fn lug_word(lug: Lug) -> Word
     }
 }
 
-/// Writes the place of the lug before the settings. If the machine has no bar with this number, writes nothing.
+/// Writes the place of `lug` before the settings. Writes nothing if `bar` is `None`, because the machine doesn't have
+/// the lug's bar.
 fn draw_lug_from<W: Sink>(sink: &mut W, language: Language, lug: Lug, bar: Option<Standing>)
     ensures { Draws W.taken W.has_failed sink.old sink.new (lug_from_text language lug bar) }
 {

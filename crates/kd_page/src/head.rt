@@ -96,7 +96,7 @@ fn draw_days_title<W: Sink>(sink: &mut W, days: &FileDays<'_>, last: u8)
     draw_sheet_name(sink, days.sheet);
 }
 
-/// The last of the days `day` and `others`.
+/// The last of the days `others`; `day` if there are no others.
 fn last_of(day: ListedDay, others: &[ListedDay]) -> ListedDay
     ensures { result ≡ last_of day others.now }
 {

@@ -4,8 +4,7 @@ use kd_pictures::Language;
 use kd_state::{Machine, Setting};
 use kd_tables::Model;
 
-/// A day's page. It has a key sheet, a day, two machines, and the settings that turn the first machine into the second
-/// machine.
+/// A day's page: the name of a key sheet's file, a day, the machine before and after the settings, and the settings.
 #[derive(Drop)]
 pub struct Page<'a> {
     language: Language,

@@ -153,7 +153,7 @@ fn is_same_pin(effective: bool, was: Option<bool>) -> bool
     }
 }
 
-/// Writes the content of a pin's cell: its checkbox or, if no setting sets the pin, its letter and mark.
+/// Writes the content of a pin's cell: the pin's checkbox or, if no setting sets the pin, the pin's letter and mark.
 fn draw_pin_inside<W: Sink>(
     sink: &mut W,
     page: &Page<'_>,

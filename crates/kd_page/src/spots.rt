@@ -100,7 +100,7 @@ fn step_of(setting: &Setting) -> Step
     }
 }
 
-/// Whether `row` is the row with number `number`, or is `None`.
+/// Whether `row` is `number`, or is `None`, which stands for all rows.
 fn is_row(row: Option<u8>, number: u8) -> bool
     ensures { result ≡ option_map_or (nat_eq number) row true }
 {

@@ -89,7 +89,7 @@ fn test_keys(machine: &Machine) -> [Letter; 26]
     }
 }
 
-/// The letters that light up or are printed for these keys.
+/// The letters that light up or are printed when the keys `keys` are pressed on `machine`.
 #[tactic(auto, using(kd_state::proofs::Keys::engine_cipher))]
 fn enciphered(machine: &Machine, keys: [Letter; 26]) -> [Letter; 26]
     requires { IsReady machine.now }
@@ -121,7 +121,7 @@ fn draw_again_all<W: Sink>(sink: &mut W, page: &Page<'_>, separator: &str, has_n
     draw_again_from(sink, page, separator, has_number, &LATER_WHEELS);
 }
 
-/// Writes the letters that these slots or pin wheels show, each after `separator`.
+/// Writes the letters that the slots or pin wheels `numbers` show, each after `separator`.
 fn draw_again_from<W: Sink>(
     sink: &mut W,
     page: &Page<'_>,

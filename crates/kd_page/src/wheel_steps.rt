@@ -40,8 +40,8 @@ fn draw_rings<W: Sink>(sink: &mut W, page: &Page<'_>, count: u8)
     draw_list(sink, page, Step::Rings);
 }
 
-/// Writes the words `told`, and the wheels that come from the box, each with its ring on `machine`. Writes nothing if
-/// no wheel comes from the box.
+/// Writes the words `told`, and the wheels that come from the box, each with the letter of its ring on `machine`.
+/// Writes nothing if no wheel comes from the box.
 pub(crate) fn draw_rings_in_box<W: Sink>(
     sink: &mut W,
     page: &Page<'_>,
@@ -87,7 +87,7 @@ fn draw_from_box<W: Sink>(sink: &mut W, language: Language, from_box: Option<(Wh
     }
 }
 
-/// The wheel that comes from the box into a slot, with the letter on which its ring stands on `machine`.
+/// The wheel that comes from the box into slot `slot`, with the letter of the wheel's ring on `machine`.
 fn wheel_from_box(page: &Page<'_>, machine: &Machine, slot: u8) -> Option<(Wheel, Letter)>
     ensures { result ≡ wheel_from_box page.now machine.now slot }
 {

@@ -45,14 +45,14 @@ sign_of (Some letter) = signs.Letter letter
 abbrev pub skipped : Option ℕ → Cell
 skipped letter = record { above = sign_of letter; below = signs.Nothing; is_pressed = false; mark = marks.NoMark }
 
--- the sign of a letter of the text; no sign if it is the letter that stands for a space
+-- the sign of a letter of the text; no sign for the letter `for_space`, which stands for a space
 abbrev pub text_sign : Option ℕ → Option ℕ → Sign
 text_sign for_space None = signs.Lost
 text_sign None (Some letter) = signs.Letter letter
 text_sign (Some space) (Some letter) = if letter == space then signs.Nothing else signs.Letter letter
 
--- The cells of received letters that the operator presses. Below each letter stands the letter of the text that it
--- gives, or nothing for a space.
+-- The cells of received letters that the operator presses. Below each received letter stands its letter of the text, or
+-- nothing for a space.
 abbrev pub received_cells : Option ℕ → List (Option ℕ) → List (Option ℕ) → List Cell
 received_cells for_space (key ∷ keys) (letter ∷ text) =
     record { above = sign_of key; below = text_sign for_space letter; is_pressed = true; mark = marks.NoMark }
@@ -62,25 +62,24 @@ received_cells for_space (key ∷ keys) [] = []
 
 -- ---- The internal key of a Converter: wheels 1 to 6 each take the next letter that they have.
 
--- The mark of a letter that is printed to find the internal key. Wheels 1 to 6 each take one printed letter. The first
--- argument is the last wheel that took a letter; 0 if none did. If the next wheel has the printed letter, this wheel
--- takes it. Otherwise the letter is struck out. After wheel 6, no letter is needed.
+-- The mark of `letter`, which is printed to find the internal key. Wheels 1 to 6 each take one printed letter. `taken`
+-- is the last wheel that took a letter; 0 if none did. If the next wheel has `letter`, this wheel takes it. Otherwise
+-- `letter` is struck out. After wheel 6, no letter is needed.
 abbrev pub mark_of : ℕ → ℕ → Mark
 mark_of taken letter =
     if taken == 6 then marks.NotNeeded
     else if is_some (place_on (ring_of (taken + 1)) letter) then marks.Taken (taken + 1) else marks.StruckOut
 
--- The last wheel that took a printed letter, once a letter with this mark is printed. The first argument is the last
--- wheel that took an earlier letter; 0 if none did.
+-- The last wheel that took a printed letter, after a letter with the given mark is printed. `taken` is the last wheel
+-- that took an earlier letter; 0 if none did.
 abbrev pub taken_after : ℕ → Mark → ℕ
 taken_after taken marks.NoMark = taken
 taken_after taken marks.NotNeeded = taken
 taken_after taken marks.StruckOut = taken
 taken_after taken (marks.Taken wheel) = wheel
 
--- The cells with which the internal key is found. In each cell, the chosen letter stands above the line, and the letter
--- printed for it stands below, with a mark. The first argument is the last wheel that took an earlier letter; 0 if none
--- did.
+-- The cells with which the internal key is found. In each cell, `chosen` stands above the line, and the letter printed
+-- for it stands below, with a mark. `taken` is the last wheel that took an earlier letter; 0 if none did.
 abbrev pub choice_cells : ℕ → ℕ → List ℕ → List Cell
 choice_cells taken chosen [] = []
 choice_cells taken chosen (letter ∷ printed) =

@@ -12,16 +12,16 @@ abbrev pub letters_shown : EngineKey → List ℕ
 letters_shown (Rotor key) = key.window
 letters_shown (Pin key) = key.letters
 
--- The letters that a machine of this day shows after this number of key presses. The list has the letters that the
--- machine shows first.
+-- The letters that a machine of the day `s` shows after `presses` key presses. Before the key presses, it shows
+-- `start`.
 abbrev pub letters_after : Day → List ℕ → ℕ → List ℕ
 letters_after s start presses =
     letters_shown (engine_key_after (key_with_window (sheet_key s) start) presses)
 
 -- ---- What the code holds. No public contract cites this definition.
 
--- The letters that a Converter's pin wheels show after this number of letters was enciphered. The list has the letters
--- that the wheels show first.
+-- The letters that a Converter's pin wheels show after `presses` letters were enciphered. Before, the wheels show
+-- `start`.
 abbrev pub wheels_after : PinEntry → List ℕ → ℕ → List ℕ
 wheels_after entry start presses =
     (pin_key_after (record { pins = pins_of entry.pins; letters = start; bars = entry.rows }) presses).letters

@@ -7,7 +7,7 @@ use Rattle.std.specs.Prelude.{codes, ℕ, List, [], ◌∷◌, ◌++◌}
 abbrev pub wide_space : List ℕ
 wide_space = 194 ∷ 160 ∷ []
 
--- the sign in place of no letter, the sign of a lost letter, and the sign of a letter that is struck out
+-- the signs for no letter, for a lost letter, and for a letter that is struck out
 abbrev pub no_letter : List ℕ
 no_letter = wide_space
 

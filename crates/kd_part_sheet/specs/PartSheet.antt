@@ -25,7 +25,7 @@ use Rattle.kd_part_sheet.specs.Sheet.{has_given_start, sheet_text}
 use Rattle.kd_part_sheet.specs.Windows.{windows_text}
 use Rattle.kd_part_sheet.specs.Words.{cables_text, rings_after, wheels_after}
 
--- the text, if the first argument is `true`; otherwise nothing
+-- `text` if `is_there` is true, otherwise nothing
 abbrev pub text_if : Bool → List ℕ → List ℕ
 text_if is_there text = if is_there then text else []
 
@@ -68,7 +68,7 @@ text_head l sheet name letters = filled (sheet_text l sheet texts.TEXT_STEP) (de
 abbrev pub first_sheet : Model → ℕ
 first_sheet model = if is_converter model then 200 else 250
 
--- the rows of these letters, on a second sheet of paper; nothing if there are no letters
+-- the rows of the letters that remain for a second sheet of paper; nothing if no letters remain
 abbrev pub next_sheet : Language → Sheet → Day → PartName → List ℕ → Progress → List Cell → List ℕ
 next_sheet l sheet s name start progress [] = []
 next_sheet l sheet s name start progress (cell ∷ cells) =

@@ -46,7 +46,7 @@ pin_work s k internal text = record {
       ++ map copied (pin_indicators s k);
 }
 
--- The `Work` has the letters to press to encipher this text with these keys, and their ciphertext.
+-- `work` has the letters to press to encipher `text` with the given keys on the day `s`, and their ciphertext.
 abbrev pub IsWork : Day → Keys → List ℕ → Work → Type 0
 IsWork s (keys.Rotor k) text work = work ≡ rotor_work s k text
 IsWork s (keys.Pin k) text work =

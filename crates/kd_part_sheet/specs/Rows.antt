@@ -25,7 +25,7 @@ use Rattle.kd_part_sheet.specs.Markup.{above_end, cell_marks, group_end, group_s
 use Rattle.kd_part_sheet.specs.Markup.{space, two_spaces}
 use Rattle.kd_part_sheet.specs.Words.{letter_words}
 
--- the list, cut into pieces of this size; the last piece may be shorter
+-- `items`, cut into pieces of `size` items; the last piece may be shorter
 abbrev pub pieces : {X : Type 0} → ℕ → List X → List (List X)
 pieces size items = first_chunks size (div_ceil (length items) size) items
 
@@ -37,8 +37,8 @@ is_nothing signs.Open = false
 is_nothing signs.Lost = false
 is_nothing (signs.Letter letter) = false
 
--- Whether the group is from the received form, and isn't pressed. Its first letter decides: either all letters of a
--- group are pressed, or none.
+-- Whether the group has received letters that the operator doesn't press. The first cell decides, since either all
+-- letters of a group are pressed, or none.
 abbrev pub is_skipped : List Cell → Bool
 is_skipped [] = false
 is_skipped (cell ∷ cells) = if cell.is_pressed then false else not (is_nothing cell.above)
@@ -60,12 +60,12 @@ is_mark marks.NotNeeded = true
 is_mark marks.StruckOut = true
 is_mark (marks.Taken wheel) = true
 
--- whether the group has marks; its first cell decides: either all cells of a group have a mark, or none
+-- whether the group has marks; the first cell decides, since either all cells of a group have a mark, or none
 abbrev pub has_marks : List Cell → Bool
 has_marks [] = false
 has_marks (cell ∷ cells) = is_mark cell.mark
 
--- a line of a group, between two texts; nothing if the group doesn't have this line
+-- the line `line` of a group, between the texts `before` and `after`; nothing if `is_there` is false
 abbrev pub line_if : Bool → List ℕ → List ℕ → Line → List Cell → List ℕ
 line_if is_there before after line cells = if is_there then before ++ flat_map (place_text line) cells ++ after else []
 
@@ -82,7 +82,7 @@ group_text cells =
 abbrev pub pressed_count : List Cell → ℕ
 pressed_count cells = count_by (λ cell. cell.is_pressed) cells
 
--- the progress of a step after this row: how many letters the step has so far, and how many of them were pressed
+-- the progress of a step after `row`: how many letters the step has so far, and how many of them were pressed
 abbrev pub progress_after : Progress → List Cell → Progress
 progress_after progress row =
     record { letters = progress.letters + length row; presses = progress.presses + pressed_count row }
@@ -112,8 +112,8 @@ row_text results s start progress row =
     ++ filled markup.ROW_BOX.now (decimal (row_number (is_converter (day_model s)) progress) ∷ [])
     ++ windows_after s start progress.presses (are_open results || pressed_count row == 0) ++ markup.ROW_END.now
 
--- The next rows of a step. The progress counts the letters of the earlier rows. The first list has the letters that the
--- machine shows at the start of the step.
+-- The next rows of a step. `progress` counts the letters of the earlier rows. At the start of the step, the machine
+-- shows `start`.
 abbrev pub rows_after : Results → Day → List ℕ → Progress → List (List Cell) → List ℕ
 rows_after results s start progress [] = []
 rows_after results s start progress (row ∷ rows) =

@@ -28,7 +28,7 @@ has_given_start PinSend = false
 has_given_start RotorReceive = false
 has_given_start PinReceive = false
 
--- the version of this text for this sheet, in this language
+-- the version of `text` for the sheet `sheet`, in the language `l`
 abbrev pub sheet_text : Language → Sheet → SheetText → List ℕ
 sheet_text l sheet text =
     for_sheet sheet (text_in l text.0.0) (text_in l text.0.1) (text_in l text.1.0) (text_in l text.1.1)

@@ -13,8 +13,8 @@ window_words is_converter number letter =
     if is_converter then filled markup.WHEEL_WORDS.now (decimal number ∷ letter_text letter ∷ [])
     else filled markup.WINDOW_WORDS.now (decimal number ∷ letter_text letter ∷ ordinal_text letter ∷ [])
 
--- The words for windows, which are numbered from this number on. The first list stands before the first window, and a
--- comma before each later window.
+-- The words for windows with the numbers from `number` on. `first` stands before the first window, and a comma before
+-- each later window.
 abbrev pub words_after : Bool → List ℕ → ℕ → List ℕ → List ℕ
 words_after is_converter first number [] = []
 words_after is_converter first number (letter ∷ letters) =
@@ -31,7 +31,7 @@ window_item l is_converter number letter =
     ∷ decimal (2 + 96 * (number - 1) + 20) ∷ letter_text letter
     ∷ decimal (2 + 96 * (number - 1) + 62) ∷ ordinal_text letter ∷ [])
 
--- the windows in the picture, which are numbered from this number on
+-- the windows in the picture, with the numbers from `number` on
 abbrev pub window_items : Language → Bool → ℕ → List ℕ → List ℕ
 window_items l is_converter number [] = []
 window_items l is_converter number (letter ∷ letters) =

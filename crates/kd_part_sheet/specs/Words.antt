@@ -10,29 +10,28 @@ use Rattle.kd_part_sheet.specs.declared.markup.TheConstants.{RING}
 use Rattle.kd_part_sheet.specs.declared.texts.TheConstants.{NO_CABLES}
 use Rattle.kd_part_sheet.specs.Markup.{comma, space, wide_space}
 
--- the letter or, if the first argument is `true`, its number
+-- `letter` or, if `is_number` is true, its number in the alphabet
 abbrev pub shown_text : Bool → ℕ → List ℕ
 shown_text is_number letter = if is_number then ordinal_text letter else letter_text letter
 
--- letters or, if the first argument is `true`, their numbers; the first list stands before them, the second list
--- between them
+-- letters or, if `are_numbers` is true, their numbers; `first` stands before them, and `separator` between them
 abbrev pub letter_words : Bool → List ℕ → List ℕ → List ℕ → List ℕ
 letter_words are_numbers first separator [] = []
 letter_words are_numbers first separator (letter ∷ letters) =
     first ++ shown_text are_numbers letter ++ letter_words are_numbers separator separator letters
 
--- the names of wheels, with the first list before them and spaces between them
+-- the names of wheels, with `first` before them and spaces between them
 abbrev pub wheels_after : List ℕ → List SheetWheel → List ℕ
 wheels_after first [] = []
 wheels_after first (wheel ∷ wheels) = first ++ wheel_text wheel.wheel ++ wheels_after wide_space wheels
 
--- the letters and numbers of rings, with the first list before them and commas between them
+-- the letters and numbers of rings, with `first` before them and commas between them
 abbrev pub rings_after : List ℕ → List SheetWheel → List ℕ
 rings_after first [] = []
 rings_after first (wheel ∷ wheels) =
     first ++ filled RING.now (letter_text wheel.ring ∷ ordinal_text wheel.ring ∷ []) ++ rings_after comma wheels
 
--- the letters of pairs, with the first list before them and spaces between them
+-- the letters of pairs, with `first` before them and spaces between them
 abbrev pub pairs_after : List ℕ → List (ℕ × ℕ) → List ℕ
 pairs_after first [] = []
 pairs_after first (pair ∷ pairs) =

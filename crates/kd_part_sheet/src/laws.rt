@@ -7,7 +7,7 @@ pub fn worksheets_hide_results()
     ensures { WorksheetsHideResults }
 {}
 
-/// Each template takes the values that a sheet fills into it, in both languages.
+/// In both languages, each template has a gap for each value that a sheet fills in.
 pub fn templates_take_their_values()
     ensures { TemplatesTakeTheirValues }
 {}

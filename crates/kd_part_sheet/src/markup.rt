@@ -1,6 +1,6 @@
 //! The texts that are the same in both languages: markup, marks, and separators.
 
-/// The sign in place of no letter. It is as wide as a letter, so that letters stand exactly below each other.
+/// The sign for no letter. It is as wide as a letter, so that letters stand exactly below each other.
 pub const NO_LETTER: &str = "\u{a0}";
 
 /// The sign for a lost letter.

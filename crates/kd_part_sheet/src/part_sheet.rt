@@ -342,7 +342,7 @@ fn first_sheet(model: Model) -> usize
     if is_converter(model) { 200 } else { 250 }
 }
 
-/// Writes the rows of `cells` onto a second sheet of paper, if there are any.
+/// Writes the rows of `cells` onto a second sheet of paper. Writes nothing if there are no cells.
 fn draw_next_sheet<W: Sink>(
     sink: &mut W,
     language: Language,

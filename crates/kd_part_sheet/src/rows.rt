@@ -171,8 +171,8 @@ fn draw_group<W: Sink>(sink: &mut W, group: &[Cell])
     draw(sink, GROUP_END);
 }
 
-/// Whether the group is from the received form, and isn't pressed. Its first letter decides: either all letters of a
-/// group are pressed, or none.
+/// Whether the group has received letters that the operator doesn't press. The first cell decides, since either all
+/// letters of a group are pressed, or none.
 fn is_skipped(group: &[Cell]) -> bool
     ensures { result ≡ is_skipped group.now }
 {
@@ -215,7 +215,7 @@ fn has_marks(group: &[Cell]) -> bool
     }
 }
 
-/// Writes a line of a group between the texts `before` and `after`. Writes nothing if the group doesn't have this line.
+/// Writes the line `line` of a group, between the texts `before` and `after`. Writes nothing if `is_there` is false.
 fn draw_line_if<W: Sink>(
     sink: &mut W,
     is_there: bool,

@@ -191,8 +191,8 @@ const PIN_LOST_LETTER: Text = (
     "<br>? ist ein verlorener Buchstabe: dafür einen beliebigen eingeben und ? schreiben.",
 );
 
-/// Two warnings. The first says that the form is from another day or network. The second says that this can't be
-/// tested, as letters are lost.
+/// Two warnings. The first says that the form is from another day or network. The second says that the form's day can't
+/// be tested, as letters are lost.
 pub const WRONG_DAY: SheetText = (
     (ROTOR_WRONG_DAY, PIN_WRONG_DAY),
     (ROTOR_WRONG_DAY, PIN_WRONG_DAY),
@@ -252,8 +252,8 @@ pub const COPIES_LOST: Text = (
     "<p>Die ersten und die letzten Kennbuchstaben ergänzen einander.</p>\n",
 );
 
-/// The key of the day, to which a rotor machine has to be set. The reflector comes first, then the words before the
-/// wheels, before the rings, and before the cables.
+/// The key of the day, to which a rotor machine has to be set. The first text has the reflector, and the words before
+/// the wheels. The words before the rings and before the cables follow.
 pub const REFLECTOR: Text = (
     "<p>The machine has to be on the key of the day. Reflector: <b>~</b>. Wheels: <b>",
     "<p>Die Maschine muss auf dem Tagesschlüssel stehen. Umkehrwalze: <b>~</b>. Walzenlage: <b>",

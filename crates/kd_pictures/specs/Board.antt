@@ -23,7 +23,7 @@ use Rattle.kd_pictures.specs.Sockets.{keyboard, label_y, line_x, socket_x, socke
 use Rattle.kd_pictures.specs.Template.{filled, letter_text}
 use Rattle.kd_pictures.specs.Words.{class_text, word_text}
 
--- the letters at the two ends of a cable of the machine; both `None` if there is no cable with this number
+-- the letters at the two ends of cable `number` of machine `m`; both `None` if the machine lacks this cable
 abbrev pub cable_of : Parts → ℕ → Option ℕ × Option ℕ
 cable_of m number = unwrap_or (machine_cable m number) (None, None)
 
@@ -31,8 +31,7 @@ cable_of m number = unwrap_or (machine_cable m number) (None, None)
 abbrev pub has_plug : Parts → ℕ → ℕ → Bool
 has_plug m number letter = has_letter (cable_letters (cable_of m number)) letter
 
--- whether a cable's end has a plug that moves: the other machine's cable with this number has no plug at the same
--- letter
+-- whether a cable's end has a plug that moves: on machine `n`, cable `number` has no plug at the same letter
 abbrev pub end_moves : Parts → ℕ → Option ℕ → Bool
 end_moves n number end = option_map_or (λ letter. not (has_plug n number letter)) end false
 
@@ -52,7 +51,8 @@ is_plugged m number = is_some (cable_of m number).0
 abbrev pub cable_after : List ℕ → Parts → ℕ → List ℕ
 cable_after separator m number = separator ++ cable_words number (cable_of m number)
 
--- The words for all plugged cables. The first list stands before the first cable, and a comma before each later cable.
+-- The words for the plugged cables in the list. `separator` stands before the first cable, and a comma before each
+-- later cable.
 abbrev pub cables_after : List ℕ → Parts → List ℕ → List ℕ
 cables_after separator m [] = []
 cables_after separator m (number ∷ numbers) =
@@ -67,12 +67,11 @@ all_cables l m = if has_cables m CABLES then cables_after [] m CABLES else text_
 
 -- ---- The lines of the cables.
 
--- the height at which the cable with this number runs, measured from the top
+-- the height at which cable `number` runs, measured from the top
 abbrev pub lane : ℕ → ℕ
 lane number = 139 + 9 * number
 
--- the height at which a cable's line begins to bend into its lane; the arguments are the heights of the socket and of
--- the lane
+-- the height at which a cable's line begins to bend, between a socket at height `y` and the lane at height `lane`
 abbrev pub bend : ℕ → ℕ → ℕ
 bend y lane = if nat_lt y lane then lane - 5 else lane + 5
 
@@ -110,8 +109,7 @@ abbrev pub moving_class : Plugs → Class
 moving_class Out = classes.Out
 moving_class In = classes.In
 
--- the class of a cable's line; the line is thick if the other machine doesn't have all of this cable's plugs at the
--- same letters
+-- the class of a cable's line; the line is thick if, on machine `n`, cable `number` lacks a plug at a letter of `cable`
 abbrev pub line_class : Plugs → Parts → ℕ → Option ℕ × Option ℕ → Class
 line_class plugs n number cable =
     if end_moves n number cable.0 || end_moves n number cable.1 then moving_class plugs else classes.Plain
@@ -148,8 +146,8 @@ free_socket letter = filled texts.FREE.now (
     decimal (socket_x letter) ∷ decimal (label_y letter) ∷ letter_text letter
     ∷ decimal (socket_x letter) ∷ decimal (socket_y letter) ∷ [])
 
--- The socket of a letter: free, or with a cable's plug. If the other machine doesn't have this plug at this letter, the
--- plug is drawn as a plug that moves.
+-- The socket of `letter`: free, or with a cable's plug. If this cable has no plug at `letter` on machine `n`, the plug
+-- is drawn as a plug that moves.
 abbrev pub socket_holding : Plugs → Parts → ℕ → Option ℕ → List ℕ
 socket_holding plugs n letter None = free_socket letter
 socket_holding plugs n letter (Some number) =
@@ -167,8 +165,8 @@ picture_name In = After
 unfoldable pub board_head : Language → Plugs → List ℕ
 board_head l plugs = filled (text_in l texts.BOARD) (word_text l (picture_name plugs) ∷ [])
 
--- The picture of the first machine's plugboard. A plug is marked if the second machine doesn't have this plug at the
--- same letter.
+-- The picture of the plugboard of machine `m`. A plug is marked if machine `n` doesn't have this plug at the same
+-- letter.
 unfoldable pub board_text : Language → Plugs → Parts → Parts → List ℕ
 board_text l plugs m n =
     board_head l plugs ++ all_cables l m ++ texts.TITLE_END.now

@@ -9,11 +9,11 @@ use Rattle.kd_pictures.specs.Language.{text_in}
 use Rattle.kd_pictures.specs.Template.{is_gap}
 use Rattle.kd_pictures.specs.Words.{word_text}
 
--- The template has this number of signs `~`, each of which stands for a value.
+-- `template` has `number` signs `~`, each of which stands for a value.
 abbrev pub HasGaps : List ℕ → ℕ → Type 0
 HasGaps template number = count_by is_gap template ≡ number
 
--- The template has this number of signs `~` in both languages.
+-- The template `text` has `number` signs `~`, in both languages.
 abbrev pub Takes : record { now : List ℕ } × record { now : List ℕ } → ℕ → Type 0
 Takes text number = HasGaps (text_in English text) number × HasGaps (text_in German text) number
 
@@ -39,7 +39,7 @@ TemplatesTakeTheirValues =
     × HasGaps texts.SET_BAR.now 1 × HasGaps texts.MARKED_LUG.now 1 × HasGaps texts.AGAIN_ROTOR.now 2
     × Takes texts.NOTE_ROTOR 1 × Takes texts.NOTE_PIN 1
 
--- The word has the first text in English, and the second text in German.
+-- `word` has the text `english` in English, and the text `german` in German.
 abbrev pub Reads : Word → List ℕ → List ℕ → Type 0
 Reads word english german = (word_text English word ≡ english) × (word_text German word ≡ german)
 

@@ -3,7 +3,7 @@ use Rattle.std.specs.Prelude.{◌≡◌, ℕ, Bool, true, false, List, Option}
 use Rattle.std.specs.Io.KnownBytes.{Appends, Keeps}
 use Rattle.kd_tables.specs.Writing.{TakesPrefix}
 
--- What happens to the sink of a call that writes `text`.
+-- What happens to a sink when a call writes `text` to it.
 -- - If the sink hasn't failed after the call, it took the whole text.
 -- - If the sink failed during the call, it took only a prefix.
 -- - If the sink had failed before the call, it took nothing.

@@ -6,6 +6,6 @@ use Rattle.kd_pictures.specs.declared.words.Word.TheVariants as words
 use Rattle.kd_pictures.specs.Template.{filled}
 use Rattle.kd_pictures.specs.Words.{word_text}
 
--- the beginning of a file in this language, with the code of the language
+-- the beginning of a file in the language `l`, with the code of the language
 unfoldable pub file_head : Language → List ℕ
 file_head l = filled HEAD.now (word_text l words.Language ∷ [])

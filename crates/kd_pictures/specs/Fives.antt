@@ -5,7 +5,7 @@ use Rattle.kd_pictures.specs.Template.{letter_text}
 abbrev pub gap_text : Bool → List ℕ
 gap_text ends_group = if ends_group then codes " " else []
 
--- the letters in groups of five; the number says how many letters stand before them in the same row
+-- the letters in groups of five; `place` letters stand before them in the same row
 abbrev pub fives_from : ℕ → List ℕ → List ℕ
 fives_from place [] = []
 fives_from place (letter ∷ letters) =

@@ -41,7 +41,7 @@ socket_y letter = if socket_row letter == 0 then 46 else if socket_row letter ==
 abbrev pub label_y : ℕ → ℕ
 label_y letter = if socket_row letter == 0 then 24 else if socket_row letter == 1 then 94 else 323
 
--- how far from the left a cable's line reaches a letter's socket
+-- the distance from the left at which a cable's line reaches a letter's socket
 abbrev pub line_x : ℕ → ℕ
 line_x letter = if socket_row letter == 2 then socket_x letter + 10 else socket_x letter
 

@@ -25,7 +25,7 @@ count_text l number =
     if number == 0 then text_in l NO_SETTINGS else if number == 1 then text_in l ONE_SETTING
     else decimal number ++ text_in l SETTINGS
 
--- the text of a value, with its words in this language
+-- the text of a value, with its words in the language `l`
 abbrev pub value_text : Language → Value → List ℕ
 value_text l (values.Number number) = decimal number
 value_text l (values.Letter letter) = letter_text letter

@@ -18,7 +18,7 @@ use Rattle.kd_pictures.specs.Language.{text_in}
 use Rattle.kd_pictures.specs.Template.{filled, letter_text, ordinal_text}
 use Rattle.kd_pictures.specs.Words.{word_text}
 
--- whether the wheel is in this slot of the machine
+-- whether `wheel` is in slot `slot` of machine `m`
 abbrev pub is_seated : Parts → ℕ → Wheel → Bool
 is_seated m slot wheel =
     option_map_or (λ seated. option_map_or (same_wheel wheel) seated false) (machine_slot m slot) false
@@ -66,7 +66,8 @@ reflector_shown y (Some reflector) other =
 abbrev pub slot_x : ℕ → ℕ
 slot_x slot = 80 + 104 * slot
 
--- A wheel in a slot. The wheel is drawn as old if the other machine has it in this slot, otherwise as new.
+-- A wheel in slot `slot`, drawn as old if `is_old` is true, otherwise as new. A wheel is old if the other machine has
+-- it in the same slot.
 abbrev pub wheel_shown : Language → ℕ → ℕ → ℕ → Bool → Wheel → List ℕ
 wheel_shown l x y slot is_old wheel =
     filled (if is_old then text_in l texts.WHEEL else text_in l texts.NEW_WHEEL) (
@@ -76,7 +77,7 @@ wheel_shown l x y slot is_old wheel =
 abbrev pub is_same_letter : ℕ → Option ℕ → Bool
 is_same_letter letter other = option_map_or (nat_eq letter) other false
 
--- the letter of a ring, framed as new unless the ring has this letter on the other machine
+-- the letter of a ring, framed as new unless it is also `other`, the ring's letter on the other machine
 abbrev pub ring_shown : ℕ → ℕ → Option ℕ → Option ℕ → List ℕ
 ring_shown x y None other = []
 ring_shown x y (Some letter) other =
@@ -112,7 +113,7 @@ unfoldable pub band_head : Language → ℕ → Word → List ℕ
 band_head l y name = filled (text_in l texts.BAND) (
     decimal (y + 16) ∷ word_text l name ∷ decimal (y + 54) ∷ decimal (y + 84) ∷ decimal (y + 125) ∷ decimal (y + 16) ∷ [])
 
--- the band of the first machine at this height, in which the differences from the second machine are marked
+-- the band of machine `m` at height `y`, with marks where `m` differs from machine `n`
 unfoldable pub band_text : Language → ℕ → Word → Parts → Parts → List ℕ
 band_text l y name m n =
     band_head l y name ++ reflector_shown y (machine_reflector m) (machine_reflector n)

@@ -25,7 +25,7 @@ is_converter M3 = false
 is_converter M4 = false
 is_converter M209 = true
 
--- the word in this language
+-- the text of a word in the language `l`
 abbrev pub word_text : Language → Word → List ℕ
 word_text l words.Language = text_in l texts.LANGUAGE
 word_text l words.Rings = text_in l texts.RINGS

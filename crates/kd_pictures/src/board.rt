@@ -373,7 +373,7 @@ fn draw_socket<W: Sink>(
     }
 }
 
-/// The number of the cable with a plug at the letter; `None` if no cable has one.
+/// Which of the cables `numbers` has a plug at `letter`; `None` if no cable has a plug there.
 fn cable_holding(machine: &Machine, letter: Letter, numbers: &[u8]) -> Option<u8>
     ensures { result ≡ cable_holding machine.now letter numbers.now }
 {

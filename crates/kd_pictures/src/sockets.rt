@@ -54,7 +54,7 @@ pub fn label_y(letter: Letter) -> u16
     }
 }
 
-/// How far from the left a cable's line reaches the letter's socket.
+/// The distance from the left at which a cable's line reaches the letter's socket.
 pub fn line_x(letter: Letter) -> u16
     ensures value { result ≡ line_x letter }
     ensures least { 40 ≤ result }

@@ -292,7 +292,7 @@ pub const BOXED_REFLECTOR: Text = (" reflector <b>~</b>", " Umkehrwalze <b>~</b>
 pub const BOXED_END: &str = "</p>\n";
 
 /// The words before a list of wheels from the box and their rings. The first text is for the rings before the settings,
-/// the second text for the rings after this step. Then the text for one wheel.
+/// the second text for the rings after the step of the rings. The third text is for one wheel.
 pub const BOX_BEFORE: Text = (
     "<p>Compare these rings in the box, too:",
     "<p>Auch diese Ringe im Kasten vergleichen:",
@@ -337,8 +337,8 @@ pub const REFLECTOR: Text = (
 
 pub const PLUG: &str = "<td><label><input type=checkbox> <b>~</b> <code>~</code></label>";
 
-/// A checkbox for a pin: its letter, its mark, and the way to set it. The words with which all settings of a wheel's pins
-/// begin, such as `PIN 3`, stand in the heading above.
+/// A checkbox for a pin: the pin's letter, its mark, and `ON` or `OFF`. The words with which all settings of a wheel's
+/// pins begin, such as `PIN 3`, stand in the heading above.
 pub const PIN: &str = "<label><input type=checkbox><b>~</b><br>~<small>~</small></label>";
 
 pub const ON: Text = ("ON", "EIN");
@@ -406,7 +406,7 @@ pub const TITLE_END: &str = ".</title>\n";
 
 pub const WHEELS_END: &str = "</svg>\n</figure>\n";
 
-/// The words for a reflector, an empty slot, a wheel, its ring, and its window letter.
+/// The words for a reflector, an empty slot, a wheel, a ring, and a window letter.
 pub const REFLECTOR_WORDS: Text = ("reflector ~", "Umkehrwalze ~");
 
 pub const EMPTY_WORDS: Text = ("; slot ~: empty", "; Platz ~: leer");

@@ -39,7 +39,7 @@ pub fn draw_both<W: Sink>(sink: &mut W, language: Language, before: &Machine, af
     draw(sink, WHEELS_END);
 }
 
-/// Writes only the picture of the machine `after`. It is used if nothing changes.
+/// Writes only the picture of the machine `after`, for a page without settings.
 pub fn draw_one<W: Sink>(sink: &mut W, language: Language, after: &Machine)
     ensures { Draws W.taken W.has_failed sink.old sink.new (one_band language after.now) }
 {
@@ -411,7 +411,7 @@ fn draw_window<W: Sink>(
     }
 }
 
-/// Whether the wheel is in this slot.
+/// Whether `wheel` is in slot `slot` of `machine`.
 pub fn is_seated(machine: &Machine, slot: u8, wheel: Wheel) -> bool
     ensures { result ≡ is_seated machine.now slot wheel }
 {

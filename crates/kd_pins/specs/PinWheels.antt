@@ -17,7 +17,6 @@ acting_offset wheel = slice_index (15 ∷ 14 ∷ 13 ∷ 12 ∷ 11 ∷ 10 ∷ [])
 abbrev pub pins_of : PinSet → List (List Bool)
 pins_of pins = pins.w1 ∷ pins.w2 ∷ pins.w3 ∷ pins.w4 ∷ pins.w5 ∷ pins.w6 ∷ []
 
--- for each pin of wheel `wheel`, whether it is effective. Wheels are numbered from 1 to 6; a greater number has no
--- pins.
+-- which pins of wheel `wheel` are effective, in the wheel's order; empty if `pins` has no such wheel
 abbrev pub pins_on : List (List Bool) → ℕ → List Bool
 pins_on pins wheel = slice_index_or pins (wheel - 1) []

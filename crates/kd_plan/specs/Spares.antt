@@ -10,7 +10,7 @@ use Rattle.kd_state.specs.SameParts.{numbered_item}
 abbrev pub is_spare : Option ℕ × Option ℕ → Bool
 is_spare cable = is_none cable.0 && is_none cable.1
 
--- The cable with this number is spare, or there is no cable with this number.
+-- Cable `number` is spare, or `cables` has no cable with this number.
 abbrev pub IsSpareCable : List (Option ℕ × Option ℕ) → ℕ → Type 0
 IsSpareCable cables number = IfSome (numbered_item cables number) (λ cable. IsTrue (is_spare cable))
 

@@ -82,15 +82,15 @@ IsCheckedAnswer machine day settings prices = do
   numbered ← Finds (λ numbered. Expands machine day prices numbered) PriceMissing
   IsByNumberAnswer machine day settings numbered
 
--- `doubt` is the first doubt about the card that has these settings and these prices.
+-- `doubt` is the first doubt about the card with the settings `settings` and the prices `prices`.
 abbrev pub IsDoubt : Parts → Day → List Setting → PriceParts → Doubt → Type 0
 IsDoubt machine day settings prices doubt = IsCheckedAnswer machine day settings prices (Err doubt)
 
 -- ---- The steps of finding the first doubt. No public contract cites these definitions.
 
 -- The result of checking settings by prices: success if the settings lead to the day and are proved shortest, otherwise
--- the first doubt. There are two lists of `number` prices: one for the rows of the table of costs, and one for its
--- columns.
+-- the first doubt. The lists `rows` and `columns` have `number` prices each, for the rows and columns of the table of
+-- costs.
 abbrev pub IsByPricesAnswer : Parts → Day → List Setting → ℕ → List ℤ → List ℤ → AnswerRule Doubt (Unit {0})
 IsByPricesAnswer machine day settings number rows columns answer =
     (prices : PriceParts) → machine_prices prices ≡ rows → day_prices prices ≡ columns → table_size prices ≡ number

@@ -4,7 +4,7 @@ use Rattle.std.specs.Prelude.{IsPermutation, List, Option, replicate, unsigned_a
 use Rattle.std.specs.{List.{Contains, Sorted.IsSorted}, Prelude.{All, map, ℤ, ◌∷◌, ◌≡◌, ◌≢◌, ◌≤◌}}
 use Rattle.kd_card.specs.{Kinds.{AreKinds, ComesAfter, KindFormat, expansion, key_cmp}, declared.kinds.KindOf.KindOf}
 
--- In this list of keys (letters, standings or readings) with their prices, equal keys have equal prices.
+-- In `pairs`, a list of keys (letters, standings or readings) with their prices, equal keys have equal prices.
 abbrev pub HaveOnePriceEach : {X : Type 0} → List (X × ℤ) → Type 0
 HaveOnePriceEach {X} pairs =
     (key : X) (price other : ℤ) → Contains pairs (key, price) → Contains pairs (key, other) → price ≡ other
@@ -13,7 +13,7 @@ HaveOnePriceEach {X} pairs =
 abbrev pub IsValidKeyAndPrice : {K X : Type 0} → KindFormat K X → X × ℤ → Type 0
 IsValidKeyAndPrice format pair = format.InForm pair.0 × (unsigned_abs pair.1 ≤ 9999)
 
--- a kind with this key and this price, and with the count 1
+-- the kind with the key and the price of `pair`, and with the count 1
 abbrev pub kind_of_one : {X : Type 0} → X × ℤ → KindOf X
 kind_of_one pair = record { key = pair.0; count = 1; price = pair.1 }
 
@@ -21,17 +21,17 @@ kind_of_one pair = record { key = pair.0; count = 1; price = pair.1 }
 abbrev pub AreSorted : {K X : Type 0} → KindFormat K X → List (X × ℤ) → Type 0
 AreSorted format pairs = IsSorted (λ one other. key_cmp format one.0 other.0) pairs
 
--- These keys with prices can be grouped into valid kinds. The keys ascend, and equal keys have equal prices. Each key
--- is valid on a card, and each price is from -9999 to 9999.
+-- The keys with prices in `pairs` can be grouped into valid kinds. The keys ascend, and equal keys have equal prices.
+-- Each key is valid on a card, and each price is from -9999 to 9999.
 pub record CanBeKinds {K X : Type 0} (format : KindFormat K X) (pairs : List (X × ℤ)) : Type 0 where
   pub sorted : AreSorted format pairs
   pub one_price : HaveOnePriceEach pairs
   pub fine : All (IsValidKeyAndPrice format) pairs
 
 -- The list `new` is the list `old`, followed by added kinds. A kind stands for as many copies of its key and price as
--- its count says. Together, the added kinds stand for the copies of `kind`, and then for `pairs`. Suppose that all
--- these keys can be grouped into valid kinds. Then the added kinds are valid and strictly ascending. If the key of
--- `kind` comes after a kind `last`, all added kinds come after `last`, too.
+-- its count says. Together, the added kinds stand for the copies of `kind`, and then for `pairs`. Suppose that the keys
+-- of `kind` and `pairs` can be grouped into valid kinds. Then the added kinds are valid and strictly ascending. If the
+-- key of `kind` comes after the kind `last`, all added kinds come after `last`, too.
 pub record AppendsKinds {K X : Type 0} (format : KindFormat K X) (kind : KindOf X) (pairs : List (X × ℤ))
     (old new : List K) : Type 0 where
   pub made : List K
@@ -43,11 +43,11 @@ pub record AppendsKinds {K X : Type 0} (format : KindFormat K X) (kind : KindOf 
 
 -- ---- the price of each key of a kind
 
--- No kind has both this key and a count above 0.
+-- No kind in `kinds` has both the key `key` and a count above 0.
 abbrev pub HasNoneLeft : {X : Type 0} → List (KindOf X) → X → Type 0
 HasNoneLeft kinds key = All (λ pair. pair.0 ≢ key) (expansion kinds)
 
--- `left` are the kinds `kinds` after one copy of `key`, with the price `price`, is taken away. All other keys and
--- prices are the same. Here, a kind has as many copies of its key and price as its count says.
+-- `left` are the kinds `kinds` with one copy of `key` and `price` less. A kind stands for as many copies of its key and
+-- price as its count says.
 abbrev pub TakesOne : {X : Type 0} → List (KindOf X) → X → ℤ → List (KindOf X) → Type 0
 TakesOne kinds key price left = IsPermutation (expansion kinds) ((key, price) ∷ expansion left)

@@ -30,7 +30,7 @@ pub record AreShortest (machine : Parts) (day : Day) (settings : List Setting) (
   pub shortest : IsShortest machine day settings
   pub count : length settings ≡ number
 
--- If a card proves itself, then at any point of carrying it out, the remaining lines are a shortest list.
+-- After the first `lines` settings of a card that proves itself, the remaining settings are a shortest list.
 abbrev pub RestIsShortest : Type 0
 RestIsShortest =
     (machine between : Parts) (day : Day) (settings : List Setting) (prices : PriceParts) (lines : ℕ)

@@ -51,8 +51,8 @@ pub(crate) fn carry_settings(
 
 /// Checks that the setting on line `line` is needed.
 ///
-/// It is needed if it changes a cable or a bar, or if `before` is `after` plus one. The numbers `before` and `after`
-/// count the loose things before and after the setting.
+/// A setting is needed if it changes a cable or a bar, or lowers the number of loose things by one. `before` and
+/// `after` are the numbers of loose things before and after the setting.
 fn check_need(setting: &Setting, line: usize, before: usize, after: usize) -> Result<(), Doubt>
     requires { after ≤ 137 }
     ensures { let is_needed = IsFalse (proving.is_priced_setting setting.now) → before ≡ after + 1 in

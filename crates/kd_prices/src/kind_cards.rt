@@ -12,9 +12,11 @@ use kd_state::{Machine, OneModel, SheetDay};
 
 /// Converts `card` to a card where each kind has the price that its members have on `card`. The settings stay.
 ///
-/// `None` if machine and day are of different models. Also `None` if the prices aren't for this machine, or are by kind
-/// already. Also `None` if two equal cables, columns, bars or rows have different prices. A card that proves itself
-/// never has such prices.
+/// Returns `None` in three cases:
+/// - Machine and day are of different models.
+/// - The prices aren't for this machine, or are by kind already.
+/// - Two equal cables, columns, bars or rows have different prices. On a card that proves itself, they have equal
+///   prices.
 pub fn by_kind(machine: &Machine, day: &SheetDay, card: &Card) -> Option<Card>
     ensures some { IsSome result ↔ CanBeByKind machine.now day.now card.now.prices }
     ensures card { IfSome result (λ other. IsByKind machine.now day.now card.now other) }

@@ -9,8 +9,8 @@ use kd_card::{Kind, KindOf};
 
 /// Finds a price for each key in `keys`: the price of the kind with this key.
 ///
-/// A key is of a cable, column, bar or row. `None` if a key has no kind, or comes more or less often than its kind's
-/// count says.
+/// Each key stands for a cable, column, bar or row. `None` if a key has no kind, or comes more or less often than its
+/// kind's count says.
 pub(crate) fn prices_of<K: Kind, const N: usize>(
     keys: &[K::Key],
     mut kinds: ArrayVec<K, N>,

@@ -7,7 +7,7 @@ pub fn a_card_is_in_one_doubt_at_most()
     ensures one { OneDoubt }
 {}
 
-/// If a card proves itself, then at any point of carrying it out, the remaining lines are a shortest list.
+/// At any point of carrying out a card that proves itself, the remaining lines are a shortest list.
 pub fn rest_of_a_card_is_shortest()
     ensures { RestIsShortest }
 {}

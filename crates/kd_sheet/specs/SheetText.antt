@@ -68,8 +68,8 @@ day_lines (Pin s) = pin_day_lines s
 unfoldable pub sheet_text : List Day → List ℕ
 sheet_text days = sections_text false (map day_lines days)
 
--- Each day in the second list is legal, and its number differs from the numbers of all days before it. The days of the
--- first list come before the days of the second list.
+-- Each of `days` is legal, and its number differs from the numbers of all days before it. The days `earlier` come
+-- before `days`.
 abbrev pub AreSheetDays : List Day → List Day → Type 0
 AreSheetDays earlier [] = ⊤
 AreSheetDays earlier (day ∷ days) =

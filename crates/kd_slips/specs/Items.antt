@@ -18,12 +18,12 @@ use Rattle.kd_sheet.specs.declared.key.Key.TheVariants as keys
 use Rattle.kd_slips.specs.declared.slip.Slip.{Slip}
 use Rattle.kd_slips.specs.declared.slip.Slip.TheVariants as slips
 
--- The slip has this fault, and its words are about this item; or it is the slip `NoMemory`.
+-- The slip has the fault `fault`, and its words are about item `item`; or the slip is `NoMemory`.
 abbrev pub HasFault : SheetFault → Option ℕ → Slip → Type 0
 HasFault fault item (slips.Fault found told words) = (found ≡ fault) × (told ≡ item)
 HasFault fault item slips.NoMemory = Unit {0}
 
--- The slip's words are about this item; or it is the slip `NoMemory`.
+-- The slip's words are about item `item`; or the slip is `NoMemory`.
 abbrev pub IsOfItem : Option ℕ → Slip → Type 0
 IsOfItem item (slips.Fault found told words) = told ≡ item
 IsOfItem item slips.NoMemory = Unit {0}
@@ -33,7 +33,7 @@ abbrev pub row_in : SheetFault → Option ℕ
 row_in (BadRow number) = Some number
 row_in fault = None
 
--- The slip's words are about the item whose number is in the slip's fault; or it is the slip `NoMemory`.
+-- The slip's words are about the item whose number is in the slip's fault; or the slip is `NoMemory`.
 abbrev pub IsOfItsRow : Slip → Type 0
 IsOfItsRow (slips.Fault found told words) = told ≡ row_in found
 IsOfItsRow slips.NoMemory = Unit {0}
@@ -48,7 +48,7 @@ abbrev pub first_refused : (ℕ → Data → Bool) → List Data → Option ℕ
 first_refused reads items =
     find (λ number. not (option_map_or (reads number) (numbered_item items number) true)) (range_with_len 1 (length items))
 
--- whether the desk can read the item as the pins of this wheel
+-- whether the desk can read `item` as the pins of wheel `wheel`
 unfoldable pub reads_pins : ℕ → Data → Bool
 reads_pins wheel item = is_some (from_text (pins_of_text (ring_of wheel)) item)
 

@@ -94,7 +94,7 @@ fn reflector_words(model: Model) -> &'static str {
     }
 }
 
-/// The model's reflector with this name. Capital and small letters count as equal.
+/// The model's reflector named `name`. Capital and small letters count as equal.
 fn near_reflector(model: Model, name: &str) -> Option<Reflector> {
     for reflector in model.reflectors() {
         if reflector.text().as_str().eq_ignore_ascii_case(name) {
@@ -123,7 +123,7 @@ fn unknown_model(alloc: Global, name: &str) -> Result<Model, Slip>
     )
 }
 
-/// The model with this name. Capital and small letters count as equal.
+/// The model named `name`. Capital and small letters count as equal.
 fn near_model(name: &str) -> Option<Model> {
     for model in Model::ALL {
         if model.text().as_str().eq_ignore_ascii_case(name) {
@@ -181,7 +181,7 @@ fn unknown_wheel(alloc: Global, name: &str, key: Key, model: Model) -> Result<Wh
     )
 }
 
-/// The wheel with this name. Capital and small letters count as equal.
+/// The wheel named `name`. Capital and small letters count as equal.
 fn near_wheel(name: &str) -> Option<Wheel> {
     for wheel in Model::M4.wheels() {
         if wheel.text().as_str().eq_ignore_ascii_case(name) {
@@ -202,7 +202,7 @@ fn refuse_case<T>(alloc: Global, fault: SheetFault, name: &str, right: &str) -> 
     )
 }
 
-/// Checks that the model allows this wheel in slot `slot`.
+/// Checks that `model` allows `wheel` in slot `slot`.
 fn check_allowed(alloc: Global, model: Model, slot: u8, wheel: Wheel) -> Result<(), Slip>
     ensures { IfErr result (HasFault WheelNotAllowed None) }
 {

@@ -26,7 +26,7 @@ impl From<AllocError> for Slip {
     }
 }
 
-/// Refuses a value: returns a slip with this fault and these words.
+/// Refuses a value: returns a slip with the fault `fault` and the words `words`.
 pub fn refuse<T>(fault: SheetFault, words: Result<String, AllocError>) -> Result<T, Slip>
     ensures refused { IsErr result }
     ensures slip { IfErr result (HasFault fault None) }
@@ -34,7 +34,7 @@ pub fn refuse<T>(fault: SheetFault, words: Result<String, AllocError>) -> Result
     Err(Slip::Fault(fault, None, words?))
 }
 
-/// Refuses item number `item` of a list: returns a slip with this fault and these words. Items are counted from 1.
+/// Refuses item number `item` of a list, counted from 1: returns a slip with the fault `fault` and the words `words`.
 pub fn refuse_item<T>(
     fault: SheetFault,
     item: usize,

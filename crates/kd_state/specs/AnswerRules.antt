@@ -20,20 +20,21 @@ infixl 10 ◌>>=◌
 abbrev pub ◌>>=◌ : {F X Y : Type 0} → AnswerRule F X → (X → AnswerRule F Y) → AnswerRule F Y
 says >>= next = ThenNext says next
 
--- the rule by which only this value is right
+-- the rule by which only the value `x` is right
 abbrev pub Yields : {F X : Type 0} → X → AnswerRule F X
 Yields x answer = answer ≡ Ok x
 
--- the rule of a search: any value with the property is right. If no value has the property, the fault is right.
+-- the rule of a search: any value for which `Holds` is true is right. If there is no such value, the fault `due` is
+-- right.
 abbrev pub Finds : {F X : Type 0} → (X → Type 0) → F → AnswerRule F X
 Finds Holds due (Ok x) = Holds x
 Finds {X} Holds due (Err fault) = ((x : X) → ¬ (Holds x)) × (fault ≡ due)
 
--- The rule for a test: success is right if the statement holds, and otherwise the fault is right.
+-- The rule for a test: success is right if `Holds` is true, and otherwise the fault `due` is right.
 abbrev pub Demands : {F : Type 0} → Type 0 → F → AnswerRule F (Unit {0})
 Demands Holds due = Finds (λ _. Holds) due
 
--- The rule for a step that always finds a value: any value with the property is right, and no fault is right.
+-- The rule for a step that always finds a value: any value for which `Holds` is true is right, and no fault is right.
 abbrev pub FindsAlways : {F X : Type 0} → (X → Type 0) → AnswerRule F X
 FindsAlways Holds (Ok x) = Holds x
 FindsAlways Holds (Err fault) = ⊥

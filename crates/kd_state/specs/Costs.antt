@@ -35,21 +35,21 @@ abbrev pub cable_cost : Option ℕ × Option ℕ → Option (ℕ × ℕ) → ℕ
 cable_cost cable column =
     count_by (λ l. exactly_one (has_letter (cable_letters cable) l) (has_letter (column_letters column) l)) alphabet
 
--- the number of lugs to move from the first standing to the second
+-- the number of lugs to move from the standing `bar` to the standing `other`
 abbrev pub lugs_moved : Place × Place → Place × Place → ℕ
 lugs_moved bar other = one_unless (is_same_place bar.0 other.0) + one_unless (is_same_place bar.1 other.1)
 
--- the standings (places of a bar's two lugs) that have this row as their reading, in the order of the list `standings`
+-- the standings (places of a bar's two lugs) with the reading `row`, in the order of the list `standings`
 unfoldable pub standings_as : ℕ × ℕ → List (Place × Place)
 standings_as row =
     filter (λ bar. let reading = reading_of bar in nat_eq reading.0 row.0 && nat_eq reading.1 row.1) standings
 
--- The cost of giving a bar the reading of this row: the least number of lugs to move, at most 2.
+-- The cost of giving a bar at `standing` the reading `row`: the least number of lugs to move, at most 2.
 abbrev pub bar_cost : Place × Place → ℕ × ℕ → ℕ
 bar_cost standing row = fold min 2 (map (lugs_moved standing) (standings_as row))
 
--- the standing that reads as the row after the fewest moves of lugs. Of two equally near standings, it is the first in
--- the list `standings`.
+-- the standing that reads as `row` after the fewest moves of the lugs of `bar`. Of two equally near standings, it is
+-- the first in the list `standings`.
 abbrev pub nearest_standing : Place × Place → ℕ × ℕ → Option (Place × Place)
 nearest_standing bar row = find (λ other. nat_eq (lugs_moved bar other) (bar_cost bar row)) (standings_as row)
 
@@ -87,10 +87,10 @@ loose_count = by_model 0
 
 -- ---- How the standings for a row are found. No public contract cites these definitions.
 
--- the place on a bar where the pin wheel with this number acts; for 0, the left one of the two places without a wheel
+-- the place on a bar where pin wheel `wheel` acts; for 0, the left one of the two places without a wheel
 abbrev pub place_of_pin_wheel : ℕ → Place
 place_of_pin_wheel wheel = slice_index_or (ZeroLeft ∷ One ∷ Two ∷ Three ∷ Four ∷ Five ∷ Six ∷ []) wheel Six
 
--- the standing whose two lugs are at these two places; the two places may come in either order
+-- the standing with lugs at the places `one` and `other`, which may come in either order
 abbrev pub standing_across : Place → Place → Place × Place
 standing_across one other = if nat_lt (place_rank one) (place_rank other) then (one, other) else (other, one)

@@ -15,6 +15,6 @@ infixl 10 ◌>>◌
 abbrev pub ◌>>◌ : {B F : Type 0} → Result (Unit {0}) F → Result B F → Result B F
 test >> next = test >>= (λ _. next)
 
--- success if the test is true, and otherwise the fault
+-- success if `test` is true, otherwise the fault `fault`
 abbrev pub demand : {F : Type 0} → Bool → F → Result (Unit {0}) F
 demand test fault = if test then Ok tt else Err fault

@@ -78,8 +78,8 @@ abbrev pub EngineEnciphersAsMachine : Type 0
 EngineEnciphersAsMachine =
     (machine : Parts) (text : List ℕ) → cipher (physical_key machine) text ≡ physical_cipher machine text
 
--- An engine has a machine's key, and then both are turned to the same letters. The engine enciphers as the machine
--- does.
+-- Suppose that an engine has a machine's key. After both are turned to the same letters, the engine enciphers as the
+-- machine does.
 abbrev pub TurnedEngineEnciphersAsMachine : Type 0
 TurnedEngineEnciphersAsMachine = (machine turned : Parts) (window text : List ℕ) → IsTurnedTo machine window turned
     → cipher (key_with_window (physical_key machine) window) text ≡ physical_cipher turned text

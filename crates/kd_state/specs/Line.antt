@@ -85,7 +85,7 @@ pub record IsListText (bytes : List ℕ) (settings : List Setting) : Type 0 wher
 
 -- ---- Reading one line. No public contract cites these definitions.
 
--- The result is the setting whose line has these words, or `None` if no setting's line has them.
+-- `result` is the setting whose line has the words `words`, or `None` if no setting's line has them.
 abbrev pub IsSettingOfWords : List (List ℕ) → Option Setting → Type 0
 IsSettingOfWords words result =
     MatchOption result ((x : Setting) → IsSettingInRange x → setting_words x ≢ words)

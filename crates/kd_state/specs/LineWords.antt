@@ -7,15 +7,15 @@ use Rattle.std.specs.List.{slice_split, join_with_byte}
 abbrev pub words_of : List ℕ → List (List ℕ)
 words_of line = slice_split (λ byte. byte == 32) line
 
--- the line made of these words, with single spaces between them
+-- the line made of `words`, with single spaces between them
 abbrev pub line_of : List (List ℕ) → List ℕ
 line_of words = join_with_byte 32 words
 
--- the line made of these words, LF, and then the text `rest`
+-- the line made of `words`, LF, and then the text `rest`
 abbrev pub line_then : List (List ℕ) → List ℕ → List ℕ
 line_then words rest = line_of words ++ 10 ∷ rest
 
--- The byte isn't in the text.
+-- The byte `byte` isn't in `text`.
 abbrev pub IsWithout : ℕ → List ℕ → Type 0
 IsWithout byte text = All (λ other. other ≢ byte) text
 

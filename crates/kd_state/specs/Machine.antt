@@ -86,7 +86,7 @@ abbrev pub IsLegal : Parts → Type 0
 IsLegal (Rotor machine) = AreLegalRotorParts machine
 IsLegal (Pin machine) = AreLegalPinParts machine
 
--- a cable with these letters in alphabetical order; a single letter is at the cable's first end
+-- a cable with the letters `one` and `other` in alphabetical order; a single letter is at the cable's first end
 abbrev pub cable_in_order : Option ℕ → Option ℕ → Option ℕ × Option ℕ
 cable_in_order (Some letter) (Some other) =
     if nat_le letter other then (Some letter, Some other) else (Some other, Some letter)

@@ -26,8 +26,8 @@ abbrev pub sheet_key : Day → EngineKey
 sheet_key (Rotor day) = Rotor (key_of_wheels day.wheels day.reflector (exchange day.pairs))
 sheet_key (Pin day) = Pin (key_of_pin_day day)
 
--- The second machine is the first, turned until it shows these letters. The window letters of wheels in the box
--- may differ.
+-- Machine `turned` is machine `machine`, turned until it shows the letters `window`. The window letters of wheels in
+-- the box may differ.
 abbrev pub IsTurnedTo : Parts → List ℕ → Parts → Type 0
 IsTurnedTo (Rotor machine) window (Rotor turned) =
     (turned ≡ record machine { letters = turned.letters }) × (window_of (Rotor turned) ≡ window)

@@ -6,11 +6,11 @@ use Rattle.kd_pins.specs.declared.pin_set.PinSet.{PinSet}
 use Rattle.kd_pins.specs.PinWheels.{pins_of}
 use Rattle.kd_state.specs.SameParts.{numbered_item}
 
--- the pins of the pin wheel with this number, in the wheel's order; no pins if no wheel has this number
+-- the pins of pin wheel `wheel`, in the wheel's order; no pins if no wheel has this number
 abbrev pub wheel_pins : PinSet → ℕ → List Bool
 wheel_pins pins wheel = unwrap_or (numbered_item (pins_of pins) wheel) []
 
--- whether the pin at this letter of this pin wheel is effective; `None` if the wheel lacks the letter
+-- whether the pin at `letter` of pin wheel `wheel` is effective; `None` if the wheel lacks the letter
 abbrev pub pin_at : PinSet → ℕ → ℕ → Option Bool
 pin_at pins wheel letter = option_and_then (slice_get (wheel_pins pins wheel)) (place_on (ring_of wheel) letter)
 

@@ -7,7 +7,7 @@ use Rattle.kd_state.specs.declared.machine.rotor_parts.RotorParts.{RotorParts}
 use Rattle.kd_state.specs.declared.sheet_day.rotor_entry.SheetWheel.{SheetWheel}
 use Rattle.kd_state.specs.Machine.{ring_at, letter_at}
 
--- the key of a rotor machine with these wheels, this reflector and this plugboard
+-- the key of a rotor machine with the wheels `wheels`, the reflector `reflector` and the plugboard `plugs`
 abbrev pub key_of_wheels : List SheetWheel → Reflector → List ℕ → RotorKey
 key_of_wheels wheels reflector plugs = record {
   wheels = map (λ w. w.wheel) wheels;

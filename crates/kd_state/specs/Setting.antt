@@ -38,15 +38,15 @@ abbrev pub with_lug : Lug → Place → Place × Place → Place × Place
 with_lug Left place bar = (place, bar.1)
 with_lug Right place bar = (bar.0, place)
 
--- the cable without this letter; the letter must be in the cable
+-- `cable` without `letter`, which must be one of the cable's letters
 abbrev pub cable_without : ℕ → Option ℕ × Option ℕ → Option ℕ × Option ℕ
 cable_without letter cable = if option_map_or (nat_eq letter) cable.0 false then (cable.1, None) else (cable.0, None)
 
--- the cable with this letter added, and with its letters in alphabetical order; an end of the cable must be empty
+-- `cable` with `letter` added, and with its letters in alphabetical order; an end of the cable must be empty
 abbrev pub cable_with : ℕ → Option ℕ × Option ℕ → Option ℕ × Option ℕ
 cable_with letter cable = cable_in_order (option_or cable.0 cable.1) (Some letter)
 
--- a slot's content after this wheel is taken out: nothing if the slot held the wheel, otherwise as before
+-- the content of a slot after `wheel` is taken out: nothing if the old content `seated` is `wheel`, otherwise `seated`
 abbrev pub seat_without : Wheel → Option Wheel → Option Wheel
 seat_without wheel seated = if option_map_or (same_wheel wheel) seated false then None else seated
 
@@ -109,7 +109,7 @@ Refuses machine setting why = outcome machine setting ≡ Err why
 -- Code: `carry_all` is a loop that stops at the first setting that is refused.
 -- Test: tests/cases/desk-cards.toml
 
--- The settings, carried out in order, turn the first machine into the second.
+-- The settings in the list, carried out in order, turn the machine `machine` into the machine `last`.
 abbrev pub Leads : Parts → List Setting → Parts → Type 0
 Leads machine [] last = last ≡ machine
 Leads machine (setting ∷ rest) last = (next : Parts) × Carries machine setting next × Leads next rest last

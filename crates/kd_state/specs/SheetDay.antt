@@ -57,7 +57,7 @@ pub data Day : Type 0 where
 -- Code: a day keeps its pairs and groups in lists of bounded length.
 -- Test: kd_trials/src/state.rt
 
--- The number can be a day of a month: it is from 1 to 31.
+-- `number` can be a day of a month: it is from 1 to 31.
 pub record IsDayNumber (number : ℕ) : Type 0 where
   pub first : 1 ≤ number
   pub last : number ≤ 31
@@ -134,11 +134,11 @@ abbrev pub day_window_letter : Day → ℕ → Option ℕ
 day_window_letter (Rotor values) slot = option_map (λ w. w.letter) (numbered_item values.wheels slot)
 day_window_letter (Pin values) wheel = numbered_item values.window wheel
 
--- The letters are the letters of one of the groups, in any order.
+-- `letters` are the letters of one of the groups `groups`, in any order.
 abbrev pub AreOneOfGroups : List (List ℕ) → List ℕ → Type 0
 AreOneOfGroups groups letters = Any (λ group. IsPermutation group letters) groups
 
--- The letters are the letters of one of the day's groups, in any order. A Converter's day has no groups.
+-- `letters` are the letters of one of the day's groups, in any order. A Converter's day has no groups.
 abbrev pub AreADaysGroup : Day → List ℕ → Type 0
 AreADaysGroup (Rotor values) letters = AreOneOfGroups values.groups letters
 AreADaysGroup (Pin values) letters = ⊥

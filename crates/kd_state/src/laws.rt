@@ -32,7 +32,8 @@ pub fn settings_keep_machines()
 
 /// A machine carries a setting out exactly if it has no reason to refuse the setting. Then only one thing changes.
 ///
-/// Nothing else changes, not even the rings and letters of wheels in the box.
+/// Nothing else changes, not even the rings and letters of wheels in the box. But `Setting::Seat` also empties the
+/// wheel's old slot.
 #[tactic(auto, using(crate::proofs::OneChange::settings_change_one_thing))]
 pub fn settings_change_one_thing()
     ensures { SettingsChangeOneThing }

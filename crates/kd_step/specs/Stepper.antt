@@ -18,7 +18,7 @@ pub record Stepping : Type 0 where
 abbrev pub next_letter : ℕ → ℕ
 next_letter letter = (letter + 1) % 26
 
--- whether a wheel is at one of its notches; the number 0 means the right wheel, and 1 means the middle wheel
+-- whether the wheel at `from_right` is at one of its notches; 0 is the right wheel, and 1 is the middle wheel
 abbrev pub stands_at_notch : List Wheel → List ℕ → ℕ → Bool
 stands_at_notch wheels window from_right =
     let index = length window - (from_right + 1) in
@@ -49,13 +49,13 @@ LeadsInSteps wheels first zero last = last ≡ first
 LeadsInSteps wheels first (suc n) last =
     (between : List ℕ) × LeadsInSteps wheels first n between × IsStep wheels between last
 
--- the window after one step from this window
+-- the window after one step from `window`
 abbrev pub next_window : List Wheel → List ℕ → List ℕ
 next_window wheels window =
     if stands_at_notch wheels window 1 then with_last_moved 3 window
     else (if stands_at_notch wheels window 0 then with_last_moved 2 window else with_last_moved 1 window)
 
--- the window after `n` steps from this window
+-- the window after `n` steps from `window`
 abbrev pub window_after : List Wheel → List ℕ → ℕ → List ℕ
 window_after wheels window zero = window
 window_after wheels window (suc n) = next_window wheels (window_after wheels window n)

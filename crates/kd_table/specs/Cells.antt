@@ -43,7 +43,7 @@ option_of options cells.Reflector = options.reflector
 option_of options cells.Window = options.window
 option_of options cell = []
 
--- the text of a cell in a row. If the cell is blank, the text of the cell's option, such as `--model`.
+-- the text of `cell` in `row`; if this text is blank, the text of the cell's option, such as `--model`
 abbrev pub text_of : OptionTexts → Columns → List (List ℕ) → Cell → List ℕ
 text_of options columns row cell = cell_or (option_of options cell) (column_of columns cell) row
 
@@ -63,7 +63,7 @@ pin_cells =
     cells.List ∷ cells.Window ∷ cells.Pins1 ∷ cells.Pins2 ∷ cells.Pins3 ∷ cells.Pins4 ∷ cells.Pins5 ∷ cells.Pins6
     ∷ cells.Bars ∷ []
 
--- the cells that a day of this model has besides its number and its model
+-- the cells in a row for `model`, except the day's number and the model
 abbrev pub cells_of : Model → List Cell
 cells_of model = by_family rotor_cells pin_cells (family_of model)
 
@@ -71,7 +71,7 @@ cells_of model = by_family rotor_cells pin_cells (family_of model)
 abbrev pub row_model : OptionTexts → Columns → List (List ℕ) → Option Model
 row_model options columns row = model_named (text_of options columns row cells.Model)
 
--- All cells of a row of this model. If the model isn't known, only the cells of the day and the model.
+-- All cells in a row for `model`. If `model` is `None`, only the day's number and the model.
 abbrev pub row_cells : Option Model → List Cell
 row_cells model = cells.Day ∷ cells.Model ∷ option_map_or cells_of model []
 
@@ -80,7 +80,7 @@ abbrev pub is_optional : Cell → Bool
 is_optional cells.Groups = true
 is_optional cell = false
 
--- whether, for each column that the row's model needs, the table has the column, or an option replaces it
+-- whether each column that the row's model needs is in the table or is replaced by an option
 abbrev pub has_columns : OptionTexts → Columns → List (List ℕ) → Bool
 has_columns options columns row =
     list_all (λ cell. is_optional cell || has_text options columns cell) (row_cells (row_model options columns row))
@@ -101,12 +101,12 @@ slots model = option_map_or slots_of model 0
 abbrev pub are_pins : ℕ → List ℕ → Bool
 are_pins wheel text = is_some (joined text >>= pins_of_text (ring_of wheel))
 
--- how many window letters a machine of this model has; 0 if the model isn't known
+-- how many window letters a machine of `model` has; 0 if `model` is `None`
 abbrev pub windows : Option Model → ℕ
 windows (Some model) = by_family (slots_of model) 6 (family_of model)
 windows None = 0
 
--- whether the text of a cell can be read, in a row of this model
+-- whether a cell with the text `text`, in a row for `model`, can be read
 abbrev pub is_read : Option Model → Cell → List ℕ → Bool
 is_read model cells.Day text = is_some (day_in text)
 is_read model cells.Model text = is_some (model_named text)

@@ -10,11 +10,11 @@ use Rattle.kd_table.specs.declared.cell.Cell.{Cell}
 use Rattle.kd_table.specs.declared.cell.Cell.TheVariants as cells
 use Rattle.kd_table.specs.declared.columns.Columns.{Columns}
 
--- The text of a row in a column. Empty if the table has no such column, or the row is too short.
+-- The text of `row` in `column`. Empty if the table has no such column, or the row is too short.
 abbrev pub cell_at : Option ℕ → List (List ℕ) → List ℕ
 cell_at column row = option_map_or (λ text. text) (option_and_then (field_at row) column) []
 
--- the text of a row in a column or, if this text is blank, `otherwise`
+-- the text of `row` in `column`; `otherwise` if this text is blank
 abbrev pub cell_or : List ℕ → Option ℕ → List (List ℕ) → List ℕ
 cell_or otherwise column row = if is_blank (cell_at column row) then otherwise else cell_at column row
 

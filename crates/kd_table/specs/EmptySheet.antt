@@ -18,8 +18,8 @@ unknown_line key count = key_line key (quoted_text (replicate count 63))
 unfoldable pub unknown_items_line : Key → ℕ → List ℕ → List ℕ
 unknown_items_line key count item = key_line key (array_text (replicate count item))
 
--- The lines of a rotor machine's day, after the day's number and model. There are ten pairs and four groups, as on most
--- sheets.
+-- The lines that follow the number and the model of a rotor machine's day. There are ten pairs and four groups, as on
+-- most sheets.
 abbrev pub empty_rotor_lines : ℕ → List (List ℕ)
 empty_rotor_lines slots =
     unknown_line keys.Reflector 1
@@ -30,7 +30,7 @@ empty_rotor_lines slots =
     ∷ unknown_items_line keys.Groups 4 (codes "???")
     ∷ []
 
--- the lines of a Converter's day, after the day's number and model
+-- the lines that follow the number and the model of a Converter's day
 abbrev pub empty_pin_lines : List (List ℕ)
 empty_pin_lines =
     unknown_line keys.List 2
@@ -39,7 +39,7 @@ empty_pin_lines =
     ∷ unknown_items_line keys.Rows 27 (codes "?-?")
     ∷ []
 
--- all lines of a day of this model
+-- all lines of day `number` for a machine of `model`
 abbrev pub empty_day_lines : Model → ℕ → List (List ℕ)
 empty_day_lines model number =
     day_head_lines number model ++ by_family (empty_rotor_lines (slots_of model)) empty_pin_lines (family_of model)

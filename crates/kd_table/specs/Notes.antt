@@ -79,12 +79,12 @@ HasHead table head = (rows : List (List (List ℕ))) × AreRows table (head ∷ 
 
 -- ---- A table that means days.
 
--- The note on a table that isn't refused, with the first row `head` and these days. It has the notes on unread columns.
--- It also warns about each day that has fewer pairs, or fewer groups, than another day of its model.
+-- The note on a table that isn't refused, with the first row `head` and the days `days`. It has the notes on unread
+-- columns. It also warns about each day that has fewer pairs, or fewer groups, than another day of its model.
 unfoldable pub taken_note : List (List ℕ) → List Day → List ℕ
 taken_note head days = unread_note head ++ few_lines (codes "warning: ") (map counts_of days)
 
--- The table means these days, and `note` is the note on the table.
+-- `table` means the days `days`, and `note` is the note on `table`.
 pub record IsTaken (options : OptionTexts) (table : List ℕ) (days : List Day) (note : List ℕ) : Type 0 where
   pub means : TableMeans options table days
   pub head : List (List ℕ)
@@ -98,7 +98,7 @@ TellsTaken options table notes =
 
 -- ---- Faults.
 
--- the words for a row's number and, if the row's day is known, for this day
+-- the text of a row's number and, if the row's day is known, of the day
 abbrev pub row_number : ℕ → Option ℕ → List ℕ
 row_number number None = decimal number ++ codes ", "
 row_number number (Some day) = (decimal number ++ codes " (day ") ++ (decimal day ++ codes "), ")
@@ -120,12 +120,12 @@ abbrev pub cell_name : Columns → List (List ℕ) → Cell → List ℕ
 cell_name columns head cell =
     option_map_or (λ place. shown (cell_at (Some place) head)) (column_of columns cell) (option_name cell)
 
--- the words for a cell's place: the words `row` for the row's place, and the name of the cell's column
+-- the words for the place of `cell`: first `row`, the words for the row's place, and then the name of the cell's column
 abbrev pub cell_place : Columns → List (List ℕ) → List ℕ → Cell → List ℕ
 cell_place columns head row cell = row ++ cell_name columns head cell ++ codes ": "
 
--- The notes on these cells of a row. Each line begins with the place of the cell that the line is about. There is at
--- least one line for each cell that can't be read.
+-- The notes on the cells in a list, which are cells of `row`. Each line begins with the place of the cell that the line
+-- is about. There is at least one line for each cell that can't be read.
 pub data TellsCells (options : OptionTexts) (columns : Columns) (head : List (List ℕ)) (place : List ℕ)
     (row : List (List ℕ)) : List Cell → List ℕ → Type 0 where
   NoCells : TellsCells options columns head place row [] []
@@ -217,8 +217,8 @@ pub record HasRowsNote (options : OptionTexts) (columns : Columns) (head : List 
   pub told : TellsRows options columns head (drop 1 (row_numbers table)) rows text
   pub empty : list_all (is_blank_row columns) rows ≡ true → 0 < length words
 
--- The rows under the first row have these days, of which there is at least one. No column is misnamed, and `note` is
--- the note on the table.
+-- `rows`, the rows under the first row, have the days `days`, at least one. No column is misnamed, and `note` is the
+-- note on the table.
 pub record IsTakenOfRows (options : OptionTexts) (head : List (List ℕ)) (rows : List (List (List ℕ))) (days : List Day)
     (note : List ℕ) : Type 0 where
   pub named : is_misnamed (columns_of head) head ≡ false

@@ -33,7 +33,7 @@ is_blank_row columns row =
     list_all (λ column. is_blank (cell_at column row)) (places_of columns)
     && list_all (λ column. is_blank (cell_at column row)) columns.pins
 
--- the values of a row, read as a day of this model
+-- the values of `row`, read as a day of `model`
 abbrev pub values_of_model : OptionTexts → Columns → List (List ℕ) → Model → Option Day
 values_of_model options columns row model =
     by_family (option_map Rotor (rotor_values options columns row model))
@@ -55,7 +55,7 @@ cell_values options columns row = do
 abbrev pub row_values : OptionTexts → Columns → List (List ℕ) → Option Day
 row_values options columns row = if fits_columns columns row then cell_values options columns row else None
 
--- The row has the values of this day, and the day is legal.
+-- `row` has the values of `day`, and `day` is legal.
 pub record IsDayOfRow (options : OptionTexts) (columns : Columns) (row : List (List ℕ)) (day : Day) : Type 0 where
   pub values : row_values options columns row ≡ Some day
   pub legal : IsLegalDay day

@@ -21,11 +21,11 @@ separator_of table = option_map_or (λ byte. byte) (find is_separator table) 44
 abbrev pub separated : ℕ → Config
 separated separator = record default_config { delimiter = separator }
 
--- whether the byte ends a cell: a separator, CR or LF
+-- whether `byte` ends a cell: it is `separator`, CR or LF
 abbrev pub ends_cell : ℕ → ℕ → Bool
 ends_cell separator byte = byte == separator || byte == 13 || byte == 10
 
--- the state of quotes in a table after one more byte
+-- the state of quotes in a table after `byte`, if the state before `byte` is `quoting`
 abbrev pub quoting_after_byte : ℕ → Quoting → ℕ → Quoting
 quoting_after_byte separator CellStart byte =
     if byte == 34 then Quoted else if ends_cell separator byte then CellStart else Unquoted

@@ -12,12 +12,12 @@ use Rattle.kd_table.specs.Rows.{separated, separator_of, is_well_quoted}
 use Rattle.kd_table.specs.declared.columns.Columns.{Columns}
 use Rattle.kd_table.specs.Options.{OptionTexts}
 
--- whether one of the days has this number
+-- whether one of `days` has the number `number`
 abbrev pub is_taken : List Day → ℕ → Bool
 is_taken days number = list_any (λ day. day_number day == number) days
 
--- The rows under a table's first row have these days, in order. Blank rows have no day. No two days have the same
--- number.
+-- `rows`, the rows under a table's first row, have the days `days`, in order. Blank rows have no day. No two days have
+-- the same number.
 pub data AreDaysOfRows (options : OptionTexts) (columns : Columns) : List (List (List ℕ)) → List Day → Type 0 where
   NoRows : AreDaysOfRows options columns [] []
   BlankRow : (rows : List (List (List ℕ))) (days : List Day) (row : List (List ℕ)) → AreDaysOfRows options columns rows days
@@ -32,7 +32,7 @@ pub record IsRefusedRow (options : OptionTexts) (columns : Columns) (days : List
   pub why : IsNoDay (row_values options columns row)
       ⊎ ((day : Day) × IsDayOfRow options columns row day × (is_taken days (day_number day) ≡ true))
 
--- One of the rows is refused. Each row before it is blank, or has a day.
+-- One of `rows` is refused. Each row before the refused row is blank, or has a day.
 pub record HasRefusedRow (options : OptionTexts) (columns : Columns) (rows : List (List (List ℕ))) : Type 0 where
   pub before : List (List (List ℕ))
   pub row : List (List ℕ)
@@ -46,7 +46,7 @@ pub record HasRefusedRow (options : OptionTexts) (columns : Columns) (rows : Lis
 abbrev pub AreRows : List ℕ → List (List (List ℕ)) → Type 0
 AreRows table rows = AreRecords (separated (separator_of table)) st.StartRecord (strip_bom table) rows
 
--- The table means these days: its rows have these days, and there is at least one day. The table's quotes are right,
+-- `table` means the days `days`: its rows have these days, and there is at least one day. The table's quotes are right,
 -- and no column is misnamed.
 pub record TableMeans (options : OptionTexts) (table : List ℕ) (days : List Day) : Type 0 where
   pub quoted : is_well_quoted table ≡ true
@@ -70,8 +70,8 @@ pub data IsRefusedTable (options : OptionTexts) (table : List ℕ) : Type 0 wher
 
 -- ---- Reading row by row. No public contract cites these definitions.
 
--- If the last argument is `false`, the rows under the first row have these days. If it is `true`, one of these rows is
--- refused.
+-- If the last argument is `false`, `rows`, the rows under the first row, have the days `days`. If the last argument is
+-- `true`, one of `rows` is refused.
 abbrev pub IsBodyRead : OptionTexts → Columns → List (List (List ℕ)) → List Day → Bool → Type 0
 IsBodyRead options columns rows days false = AreDaysOfRows options columns rows days
 IsBodyRead options columns rows days true = HasRefusedRow options columns rows

@@ -41,7 +41,7 @@ pub enum Cell {
     Bars,
 }
 
-/// Whether, for each column that the model of `row` needs, the table has the column, or an option replaces it.
+/// Whether each column that the model of `row` needs is in the table or is replaced by an option.
 pub fn has_columns(options: &TableOptions<&[u8]>, columns: &Columns, row: &ByteRecord) -> bool
     ensures { result ≡ has_columns (texts_of options.now) columns.now (fields_of row.now) }
 {
@@ -77,7 +77,7 @@ pub fn known_cells(
     }
 }
 
-/// The cells that a day of `model` has besides its number and its model.
+/// The cells in a row for `model`, except the day's number and the model.
 pub fn cells_of(model: Model) -> &'static [Cell]
     ensures { result.now ≡ cells_of model }
 {
@@ -153,7 +153,7 @@ pub fn is_optional(cell: Cell) -> bool
     matches!(cell, Cell::Groups)
 }
 
-/// Whether the text of `cell` can be read, in a row of this model.
+/// Whether `cell` with the text `text`, in a row for `model`, can be read.
 pub fn is_read(model: Option<Model>, cell: Cell, text: &[u8]) -> bool
     ensures { result ≡ is_read model cell text.now }
 {
@@ -189,7 +189,7 @@ pub fn day_in(text: &[u8]) -> Option<u8>
     }
 }
 
-/// How many window letters a machine of this model has; 0 if the model isn't known.
+/// How many window letters a machine of `model` has; 0 if `model` is `None`.
 pub fn windows(model: Option<Model>) -> usize
     ensures { result ≡ windows model }
 {
@@ -202,7 +202,7 @@ pub fn windows(model: Option<Model>) -> usize
     }
 }
 
-/// How many slots a machine of this model has; 0 if the model isn't known.
+/// How many slots a machine of `model` has; 0 if `model` is `None`.
 pub fn slots(model: Option<Model>) -> usize
     ensures { result ≡ slots model }
 {
@@ -212,15 +212,14 @@ pub fn slots(model: Option<Model>) -> usize
     }
 }
 
-/// Whether the table has the column of `cell`, has an option in its place, or doesn't need the column.
+/// Whether the table has the column of `cell`, an option replaces the column, or the column is optional.
 fn has_column(options: &TableOptions<&[u8]>, columns: &Columns, cell: Cell) -> bool
     ensures { result ≡ (is_optional cell || has_text (texts_of options.now) columns.now cell) }
 {
     is_optional(cell) || has_text(options, columns, cell)
 }
 
-/// Whether, for each of `cells`, the table has the cell's column, has an option in its place, or doesn't need the
-/// column.
+/// Whether, for each of `cells`, the table has the column, an option replaces the column, or the column is optional.
 fn has_each_column(options: &TableOptions<&[u8]>, columns: &Columns, cells: &[Cell]) -> bool
     ensures { result ≡ list_all
         (λ cell. is_optional cell || has_text (texts_of options.now) columns.now cell) cells.now }
@@ -233,7 +232,7 @@ fn has_each_column(options: &TableOptions<&[u8]>, columns: &Columns, cells: &[Ce
     }
 }
 
-/// The cells that a Converter's day has besides its number and its model.
+/// The cells in a row for a Converter, except the day's number and the model.
 static PIN_CELLS: [Cell; 9] = [
     Cell::List,
     Cell::Window,
@@ -246,7 +245,7 @@ static PIN_CELLS: [Cell; 9] = [
     Cell::Bars,
 ];
 
-/// The cells that a rotor machine's day has besides its number and its model.
+/// The cells in a row for a rotor machine, except the day's number and the model.
 static ROTOR_CELLS: [Cell; 6] = [
     Cell::Reflector,
     Cell::Wheels,

@@ -24,7 +24,7 @@ pub fn write_empty_month<W: Sink>(sink: &mut W, model: Model, days: u8) -> Resul
     put_empty(sink, false, model, 1, days)
 }
 
-/// Writes the sections of `count` days from number `number` on.
+/// Writes the sections of `count` days. The first is day `number`.
 fn put_empty<W: Sink>(
     sink: &mut W,
     started: bool,
@@ -58,7 +58,7 @@ fn empty_section(started: bool, model: Model, number: u8) -> FileString
     text
 }
 
-/// Appends all lines of a day of this model.
+/// Appends all lines of day `number` for `model`, with `?` for each missing letter and number.
 fn push_empty_day(text: &mut FileString, model: Model, number: u8)
     requires { array_string_len text.old ≤ 16 }
     ensures { text.new.bytes ≡ text.old.bytes ++ concat (empty_day_lines model number) }
@@ -70,7 +70,7 @@ fn push_empty_day(text: &mut FileString, model: Model, number: u8)
     }
 }
 
-/// Appends the lines of a Converter's day, after the day's number and model.
+/// Appends the lines that follow the number and the model of a Converter's day.
 fn push_empty_pin(text: &mut FileString)
     requires { array_string_len text.old ≤ 64 }
     ensures { text.new.bytes ≡ text.old.bytes ++ concat empty_pin_lines }
@@ -113,7 +113,7 @@ fn push_unknown_items<const N: usize>(text: &mut FileString, key: Key, item: &st
     push_list_line(text, key, &[item; N]);
 }
 
-/// Appends the lines of a rotor machine's day, after the day's number and model.
+/// Appends the lines that follow the number and the model of a rotor machine's day.
 fn push_empty_rotor(text: &mut FileString, model: Model)
     requires room { array_string_len text.old ≤ 64 }
     requires slots { 0 < slots_of model }

@@ -312,7 +312,7 @@ fn digit_of(byte: u8) -> Option<u8>
     }
 }
 
-/// The letter with this number, from 1 (A) to 26 (Z).
+/// The letter with the number `number`, from 1 (A) to 26 (Z); `None` for any other number.
 fn numbered_letter(number: Option<u8>) -> Option<Letter>
     ensures { result ≡ numbered_letter number }
 {

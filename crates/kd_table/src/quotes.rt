@@ -20,7 +20,7 @@ pub enum Quoting {
 }
 
 impl Quoting {
-    /// The state of quotes after one more byte.
+    /// The state of quotes after `byte`, if `self` is the state before `byte`.
     pub fn after_byte(self, separator: u8, byte: u8) -> Self
         ensures { result ≡ quoting_after_byte separator self byte }
     {
@@ -36,7 +36,7 @@ impl Quoting {
         }
     }
 
-    /// Whether a table may end in this state.
+    /// Whether a table may end in the state `self`.
     pub fn may_end(self) -> bool
         ensures { result ≡ may_end self }
     {

@@ -68,7 +68,7 @@ fn read_body_row(
     Ok(refused)
 }
 
-/// Whether one of `days` has this number.
+/// Whether one of `days` has the number `number`.
 fn is_taken(days: &[SheetDay], number: u8) -> bool
     ensures { result ≡ is_taken days.now number }
 {

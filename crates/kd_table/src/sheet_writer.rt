@@ -133,7 +133,7 @@ fn push_pin_day(text: &mut FileString, entry: &PinEntry)
     push_converter_lines(text, entry);
 }
 
-/// Appends the lines of a Converter's day, after the day's number and model.
+/// Appends the lines that follow the number and the model of a Converter's day.
 fn push_converter_lines(text: &mut FileString, entry: &PinEntry)
     requires legal { IsLegalPinDay (pin_values entry.now) }
     requires room { array_string_len text.old ≤ 64 }

@@ -7,7 +7,7 @@ use Rattle.std.specs.List.{flat_map, list_any, IsDistinct}
 abbrev pub has_letter : List ℕ → ℕ → Bool
 has_letter letters letter = list_any (λ other. nat_eq other letter) letters
 
--- whether the letters of the first list differ from each other, and from all letters of the second list
+-- whether the letters of the first list differ from each other and from all letters of `others`
 abbrev pub are_new_and_distinct : List ℕ → List ℕ → Bool
 are_new_and_distinct [] others = true
 are_new_and_distinct (first ∷ rest) others = not (has_letter (rest ++ others) first) && are_new_and_distinct rest others

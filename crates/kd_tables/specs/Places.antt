@@ -7,7 +7,7 @@ use Rattle.kd_tables.specs.declared.place.Place.TheVariants.{One, ZeroLeft, Two,
 use Rattle.kd_tables.specs.declared.lug.Lug.{Lug}
 use Rattle.kd_tables.specs.declared.lug.Lug.TheVariants as lugs
 
--- for each place: its name, the number of places to its left, and its pin wheel's number (0 if no wheel acts there)
+-- for each place: its name, how many places are to its left, and its pin wheel's number (0 if no wheel acts there)
 abbrev pub place_table : Place → List ℕ × ℕ × ℕ
 place_table One = (codes "1", 0, 1)
 place_table ZeroLeft = (codes "0L", 1, 0)
@@ -22,11 +22,11 @@ place_table Six = (codes "6", 7, 6)
 abbrev pub place_text : Place → List ℕ
 place_text place = (place_table place).0
 
--- the number of places to the left of a place
+-- how many of a bar's places are to the left of `place`
 abbrev pub place_rank : Place → ℕ
 place_rank place = (place_table place).1
 
--- the number of the pin wheel that acts at a place, or 0 if no wheel does
+-- the number of the pin wheel that acts at `place`, or 0 if no wheel acts there
 abbrev pub place_number : Place → ℕ
 place_number place = (place_table place).2
 
@@ -67,7 +67,8 @@ pub record IsReading (numbers : ℕ × ℕ) : Type 0 where
   pub within : numbers.1 ≤ 6
   pub equal : numbers.0 ≡ numbers.1 → numbers.0 ≡ 0
 
--- the reading of a bar with its lugs at these places: the pin wheels' numbers there, the smaller number first
+-- the reading of a bar with the standing `standing`: the numbers of the pin wheels at its two lugs, the smaller number
+-- first
 abbrev pub reading_of : Place × Place → ℕ × ℕ
 reading_of standing = smaller_first (place_number standing.0) (place_number standing.1)
 

@@ -40,7 +40,7 @@ wheel_text wheel = (wheel_table wheel).0
 unfoldable pub wiring_of : Wheel → List ℕ
 wiring_of wheel = letters_of (wheel_table wheel).1
 
--- whether the wheel is at a notch when this letter shows in the wheel's window
+-- whether `wheel` is at a notch while `letter` shows in its window
 abbrev pub is_notch : Wheel → ℕ → Bool
 is_notch wheel letter = list_any (λ notch. notch == letter) (letters_of (wheel_table wheel).2)
 

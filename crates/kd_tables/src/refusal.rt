@@ -45,7 +45,8 @@ pub enum Refusal {
     PriceTooHigh,
     /// The sum of a card's prices isn't the number of the card's lines for cables or bars.
     SumDiffers,
-    /// A line of a card isn't needed: it doesn't lower the number of differences from the day, such as slots or rings.
+    /// A line of a card isn't needed: it doesn't lower the number of things, such as slots or rings, that differ from
+    /// the day.
     ///
     /// Lines for cables and bars aren't refused for this reason.
     NeedlessLine,

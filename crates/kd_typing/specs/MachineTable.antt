@@ -25,12 +25,12 @@ abbrev pub table_text : MachineTable → List ℕ
 table_text (Rotor table) = lines_text (rotor_lines table)
 table_text (Pin table) = lines_text (pin_lines table)
 
--- the table of a machine with this key
+-- the table of a machine with the key `key`
 abbrev pub table_of_key : EngineKey → MachineTable
 table_of_key (keys.Rotor key) = Rotor (rotor_table key)
 table_of_key (keys.Pin key) = Pin (pin_table key)
 
--- the letters that a machine with this key shows
+-- the letters that a machine with the key `key` shows
 abbrev pub shown_letters : EngineKey → List ℕ
 shown_letters (keys.Rotor key) = key.window
 shown_letters (keys.Pin key) = key.letters

@@ -22,7 +22,7 @@ pub record PinTable : Type 0 where
 
 -- ---- Typing on a table.
 
--- the number with these binary digits
+-- the number whose binary digits are the items of the list: 1 for `true`, 0 for `false`
 abbrev pub binary : List Bool → ℕ
 binary [] = 0
 binary (digit ∷ digits) = from_bool digit * 2 ^ length digits + binary digits
@@ -52,22 +52,22 @@ printed_text table letters (letter ∷ text) =
 
 -- ---- The table of a key.
 
--- Whether a set of wheels has this wheel. The set's number has six binary digits, for wheels 1 to 6; 1 means that the
--- set has the wheel.
+-- Whether wheel `wheel` is in set `number` of wheels. The set's number has six binary digits, for wheels 1 to 6; 1
+-- means that the set has the wheel.
 abbrev pub is_in_row : ℕ → ℕ → Bool
 is_in_row number wheel = (nat_le 1 wheel && nat_le wheel 6) && nat_eq (number / 2 ^ (6 - wheel) % 2) 1
 
--- How many bars have a lug at some wheel of a set. The set's number has six binary digits, for wheels 1 to 6; 1 means
--- that the set has the wheel.
+-- How many bars have a lug at some wheel of set `number`. The set's number has six binary digits, for wheels 1 to 6; 1
+-- means that the set has the wheel.
 abbrev pub bars_met_in_row : List (ℕ × ℕ) → ℕ → ℕ
 bars_met_in_row bars number = count_by (λ bar. is_in_row number bar.0 || is_in_row number bar.1) bars
 
--- The letters that are printed for A to Z while exactly the wheels of a set have an effective acting pin. The set's
--- number has six binary digits, for wheels 1 to 6; 1 means that the set has the wheel.
+-- The letters that are printed for A to Z while exactly the wheels of set `number` have an effective acting pin. The
+-- set's number has six binary digits, for wheels 1 to 6; 1 means that the set has the wheel.
 unfoldable pub pin_row : PinKey → ℕ → List ℕ
 pin_row key number = map (λ letter. (25 + bars_met_in_row key.bars number - letter) % 26) alphabet
 
--- for each letter of a wheel, whether the acting pin is effective while the wheel shows this letter
+-- for each letter of wheel `wheel`, whether the acting pin is effective while the wheel shows this letter
 unfoldable pub acting_pins : PinKey → ℕ → List Bool
 acting_pins key wheel =
     map (λ place. is_effective (pins_on key.pins wheel) ((place + acting_offset wheel) % length (ring_of wheel)))
@@ -76,6 +76,6 @@ acting_pins key wheel =
 unfoldable pub pin_rows : PinKey → List (List ℕ)
 pin_rows key = map (pin_row key) (range_with_len 0 64)
 
--- the table of a Converter with this key
+-- the table of a Converter with the key `key`
 abbrev pub pin_table : PinKey → PinTable
 pin_table key = record { rows = pin_rows key; pins = map (acting_pins key) pin_wheels }

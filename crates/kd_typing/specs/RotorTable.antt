@@ -38,7 +38,7 @@ right_slot slots = drop (length slots - 1) slots
 abbrev pub letter_in : List ℕ → ℕ → ℕ
 letter_in window from_right = slice_index window (length window - (from_right + 1))
 
--- the number of the core's row for these window letters; the letters are the number's digits in base 26
+-- the number of the core's row for the window letters in the list; these letters are the number's digits in base 26
 abbrev pub row_number : List ℕ → ℕ
 row_number [] = 0
 row_number (letter ∷ letters) = letter * 26 ^ length letters + row_number letters
@@ -49,7 +49,7 @@ window_by table window =
     with_last_moved (slice_index table.steps (26 * letter_in window 1 + letter_in window 0)) window
 
 -- The letter that lights up for `key` while the windows show `window`. The current of `key` comes out of the core at
--- some place. One key leads its own current into the core at this place. This key's letter lights up.
+-- some place. The letter belongs to the key whose own current enters the core at this place.
 abbrev pub lamp_by : RotorTable → List ℕ → ℕ → ℕ
 lamp_by table window key =
     let into = slice_index_or table.into (letter_in window 0) [] in
@@ -85,8 +85,7 @@ core_key key = record {
 unfoldable pub core_row : RotorKey → List ℕ → List ℕ
 core_row key window = path (core_key key) window
 
--- the `count` window letters that belong to the core's row with this number: the number's last `count` digits in base
--- 26
+-- the `count` window letters for row `number` of the core: the last `count` digits of `number` in base 26
 abbrev pub letters_with_number : ℕ → ℕ → List ℕ
 letters_with_number zero number = []
 letters_with_number (suc count) number = number / 26 ^ count % 26 ∷ letters_with_number count number
@@ -96,7 +95,7 @@ abbrev pub is_at_notch : List Wheel → ℕ → ℕ → Bool
 is_at_notch wheels from_right letter =
     option_map_or (λ wheel. is_notch wheel letter) (slice_get wheels (length wheels - (from_right + 1))) false
 
--- how many wheels move at the next key press, if the middle and the right window show these letters
+-- how many wheels move at the next key press, if the middle window shows `middle`, and the right window `right`
 unfoldable pub wheels_moved : List Wheel → ℕ → ℕ → ℕ
 wheels_moved wheels middle right =
     if is_at_notch wheels 1 middle then 3 else (if is_at_notch wheels 0 right then 2 else 1)
@@ -115,11 +114,12 @@ core_rows key =
 unfoldable pub all_steps : List Wheel → List ℕ
 all_steps wheels = map (λ number. wheels_moved wheels (number / 26) (number % 26)) (range_with_len 0 676)
 
--- the table of a rotor machine with this key
+-- the table of a rotor machine with the key `key`
 abbrev pub rotor_table : RotorKey → RotorTable
 rotor_table key = record { into = into_rows key; core = core_rows key; steps = all_steps key.wheels }
 
--- The machine with this key has three or four slots, and its windows can show these letters.
+-- The machine with the key `key` has three or four slots and a legal plugboard, and its windows can show the letters
+-- `window`.
 pub record CanShow (key : RotorKey) (window : List ℕ) : Type 0 where
   pub least : 3 ≤ length key.wheels
   pub most : length key.wheels ≤ 4

@@ -55,7 +55,8 @@ pin_table_in text =
 
 -- ---- Lines in parts. No public contract cites these definitions.
 
--- The line of digits for a wheel with these pins. The acting pin is `offset` places after the pin of the shown letter.
+-- The line of digits for a wheel with the pins `pins`. The acting pin is `offset` places after the pin of the shown
+-- letter.
 unfoldable pub acting_text : List Bool → ℕ → List ℕ
 acting_text pins offset =
     pins_text (map (λ place. is_effective pins ((place + offset) % length pins)) (range_with_len 0 (length pins)))

@@ -25,7 +25,7 @@ impl Model for PinRows {
 }
 
 impl PinRows {
-    /// The rows for a Converter with these pins, these shown letters, and bars with the readings `bars`.
+    /// The rows for a Converter with the pins `pins`, the shown letters `letters`, and the bars' readings `bars`.
     pub fn new(pins: PinSet, letters: [Letter; 6], bars: [Reading; 27]) -> Self
         ensures { result ≡ record { pins = pins_of pins; letters = letters; bars = bars } }
     {
@@ -38,7 +38,7 @@ impl PinRows {
 
     /// The letters that are printed for A to Z while exactly the wheels of set `number` have an effective acting pin.
     ///
-    /// The number has six binary digits, for wheels 1 to 6; 1 means that the set has the wheel.
+    /// The set's number has six binary digits, for wheels 1 to 6; 1 means that the set has the wheel.
     pub fn row_at(&self, number: usize) -> [Letter; 26]
         requires { number < 64 }
         ensures { result ≡ pin_row self.now number }
@@ -66,9 +66,9 @@ impl PinRows {
     }
 }
 
-/// How many bars have a lug at some wheel of the set with the number `number`.
+/// How many bars have a lug at some wheel of set `number`.
 ///
-/// The number has six binary digits, for wheels 1 to 6; 1 means that the set has the wheel.
+/// The set's number has six binary digits, for wheels 1 to 6; 1 means that the set has the wheel.
 fn bars_met(bars: &[Reading; 27], number: usize) -> u8
     ensures value { result ≡ bars_met_in_row bars.now number }
     ensures most { result ≤ 27 }
@@ -82,9 +82,9 @@ fn bars_met(bars: &[Reading; 27], number: usize) -> u8
     met
 }
 
-/// Whether a bar with the reading `bar` has a lug at some wheel of the set with the number `number`.
+/// Whether a bar with the reading `bar` has a lug at some wheel of set `number`.
 ///
-/// The number has six binary digits, for wheels 1 to 6; 1 means that the set has the wheel.
+/// The set's number has six binary digits, for wheels 1 to 6; 1 means that the set has the wheel.
 fn is_met(bar: Reading, number: usize) -> bool
     ensures { result ≡ (is_in_row number bar.0 || is_in_row number bar.1) }
 {
@@ -92,9 +92,9 @@ fn is_met(bar: Reading, number: usize) -> bool
     is_in_row(number, smaller) || is_in_row(number, larger)
 }
 
-/// Whether `wheel` is from 1 to 6, and is in the set with the number `number`.
+/// Whether `wheel` is from 1 to 6, and is in set `number` of wheels.
 ///
-/// The number has six binary digits, for wheels 1 to 6; 1 means that the set has the wheel.
+/// The set's number has six binary digits, for wheels 1 to 6; 1 means that the set has the wheel.
 fn is_in_row(number: usize, wheel: u8) -> bool
     ensures { result ≡ is_in_row number wheel }
 {

@@ -68,7 +68,7 @@ fn draw_letters<W: Sink>(sink: &mut W, letters: &[Letter])
     }
 }
 
-/// Writes the line of a wheel with these pins, with an LF before it.
+/// Writes an LF, then the line of digits for a wheel with the pins `pins`.
 fn draw_wheel<W: Sink>(sink: &mut W, pins: &[bool], offset: usize)
     requires pins { length pins.now ≤ 26 }
     requires offset { offset ≤ 26 }
@@ -78,8 +78,8 @@ fn draw_wheel<W: Sink>(sink: &mut W, pins: &[bool], offset: usize)
     draw(sink, acting_text(pins, offset).as_str());
 }
 
-/// The digits for a wheel's letters: 1 if the acting pin is effective, and 0 if it isn't. The acting pin is `offset`
-/// places after the letter's pin.
+/// The digits for a wheel with the pins `pins`: for each shown letter, 1 if the acting pin is effective, and otherwise
+/// 0. The acting pin is `offset` places after the letter's pin.
 fn acting_text(pins: &[bool], offset: usize) -> ArrayString<26>
     requires pins { length pins.now ≤ 26 }
     requires offset { offset ≤ 26 }

@@ -35,7 +35,8 @@ impl RotorRows {
     ghost use Rattle.arrayvec.specs.ArrayVec.{array_vec_len};
     ghost use Rattle.kd_state.specs.SeatedWheels.{key_of_wheels};
 
-    /// The rows for a machine with these three or four wheels, this reflector and this plugboard.
+    /// The rows for a machine with the three or four wheels `wheels`, the reflector `reflector` and the plugboard
+    /// `plugs`.
     pub fn new(wheels: ArrayVec<SheetWheel, 4>, reflector: Reflector, plugs: Plugs) -> Self
         requires wheels { 3 ≤ array_vec_len wheels }
         requires plugs { IsPlugboard plugs }
@@ -76,7 +77,7 @@ impl RotorRows {
         )
     }
 
-    /// How many wheels move at the next key press, if the middle and the right window show these letters.
+    /// How many wheels move at the next key press, if the middle window shows `middle`, and the right window `right`.
     #[tactic(auto, unfolding(crate::specs::RotorTable::wheels_moved))]
     pub fn steps_at(&self, middle: Letter, right: Letter) -> u8
         ensures value { result ≡ wheels_moved self.now.wheels middle right }

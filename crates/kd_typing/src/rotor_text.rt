@@ -71,7 +71,7 @@ impl RotorRows {
         }
     }
 
-    /// The row of the core with this number.
+    /// Row `number` of the core, counted from 0.
     fn core_row(&self, number: u16) -> [Letter; 26]
         ensures { result ≡ core_row self.now (letters_with_number (length self.now.wheels - 1) number) }
     {
@@ -99,14 +99,14 @@ fn draw_windows<W: Sink>(sink: &mut W, wheels: &[SheetWheel])
     }
 }
 
-/// The three letters with this number. They are the number's last three digits in base 26, from 0 (A) to 25 (Z).
+/// The last three digits of `number` in base 26, as letters: A for 0, and Z for 25.
 fn three_letters(number: u16) -> [Letter; 3]
     ensures { result ≡ letters_with_number 3 number }
 {
     [letter(number / 676), letter(number / 26), letter(number)]
 }
 
-/// The letter with this number: the number's last digit in base 26, from 0 (A) to 25 (Z).
+/// The last digit of `number` in base 26, as a letter: A for 0, and Z for 25.
 fn letter(number: u16) -> Letter
     ensures { result ≡ number % 26 }
 {

@@ -23,7 +23,7 @@ unfoldable pub rotor_setting : Language → Parts → List ℕ
 rotor_setting l m =
     text_in l texts.ROTOR_SETTING ++ machine_words l m ++ text_in l texts.CABLES ++ all_cables l m ++ texts.SETTING_END.now
 
--- the letter of a pin; nothing if the pin isn't effective
+-- the text of `letter` if its pin is effective; otherwise nothing
 abbrev pub pin_letter : ℕ → Option Bool → List ℕ
 pin_letter letter (Some true) = letter_text letter
 pin_letter letter (Some false) = []

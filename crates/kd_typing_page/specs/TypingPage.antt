@@ -18,8 +18,8 @@ use Rattle.kd_typing_page.specs.PinWheels.{pin_desk}
 use Rattle.kd_typing_page.specs.Setting.{setting_text}
 use Rattle.kd_typing_page.specs.Windows.{rotor_desk}
 
--- The file up to its body: the title, a policy, and the style sheet. The policy names the only script and style sheet
--- that the page may use.
+-- The file up to its body: the title, the content security policy, and the style sheet. The policy names the only
+-- script and the only style sheet that the page may use.
 unfoldable pub page_head : Language → Model → List ℕ
 page_head l model =
     file_head l ++ filled (text_in l texts.TITLE) (model_name model ∷ []) ++ texts.POLICY.now ++ STYLE.now

@@ -58,8 +58,8 @@ fn draw_page<W: Sink>(sink: &mut W, language: Language, machine: &Machine, rows:
     draw_script(sink);
 }
 
-/// Writes the file up to its body: the title, a policy, and the style sheet. The policy names the only script and style
-/// sheet that the page may use.
+/// Writes the file up to its body: the title, the content security policy, and the style sheet. The policy names the
+/// only script and the only style sheet that the page may use.
 fn draw_page_head<W: Sink>(sink: &mut W, language: Language, model: Model)
     ensures { Draws W.taken W.has_failed sink.old sink.new (page_head language model) }
 {

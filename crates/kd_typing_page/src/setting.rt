@@ -109,7 +109,7 @@ fn draw_effective<W: Sink>(sink: &mut W, machine: &Machine, wheel: u8, letters: 
     }
 }
 
-/// Writes the letter of a pin; nothing if the pin isn't effective.
+/// Writes `letter` if its pin is effective; otherwise nothing.
 fn draw_pin<W: Sink>(sink: &mut W, letter: Letter, effective: Option<bool>)
     ensures { Draws W.taken W.has_failed sink.old sink.new (pin_letter letter effective) }
 {

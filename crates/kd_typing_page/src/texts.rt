@@ -3,9 +3,9 @@
 
 use kd_pictures::texts::Text;
 
-/// The file's title; the machine's model stands in place of `~`. The next text is the policy: it names, by their
-/// SHA-256, the only script and the only style sheet that the page may use. The text after the policy is the start of
-/// the body.
+/// The file's title; the machine's model stands in place of `~`. The next text is the content security policy: it
+/// names, by their SHA-256, the only script and the only style sheet that the page may use. The text after the policy
+/// is the start of the body.
 pub const TITLE: Text = ("~: typing", "~: Tippen");
 
 pub const POLICY: &str =
@@ -40,8 +40,7 @@ pub const WINDOW_END: Text = (
     "</select><small></small></label><button type=button value=-1 aria-label=\"Platz ~: voriger Buchstabe\">▼</button></div>\n",
 );
 
-/// The start of a pin wheel, before its letters. The next text is one letter, and the text after it is the end of the
-/// wheel.
+/// The start of a pin wheel, before its letters. The next two texts are one letter, and the end of the wheel.
 pub const WHEEL: Text = (
     "<div class=wheel><button type=button value=1 aria-label=\"wheel ~: next letter\">▲</button><label><span>wheel ~</span><select autocomplete=off aria-label=\"wheel ~: letter\">",
     "<div class=wheel><button type=button value=1 aria-label=\"Rad ~: nächster Buchstabe\">▲</button><label><span>Rad ~</span><select autocomplete=off aria-label=\"Rad ~: Buchstabe\">",

@@ -17,7 +17,7 @@ use arrayvec::ArrayVec;
 use kd_state::{SheetDay, is_word};
 use kd_tables::Letter;
 
-/// The reader keeps at most this number of a body's letters.
+/// The greatest number of letters of a body that the reader keeps.
 ///
 /// A body has at most 520 letters. One letter more shows that the body is too long. Four letters more may be the `PART`
 /// of the next heading.
@@ -26,7 +26,7 @@ const KEPT_LETTERS: usize = 525;
 /// The number of letters in `PART`. If a heading line follows a body, these letters are kept with the body's letters.
 pub(crate) const HEADING_LETTERS: usize = 4;
 
-/// The reader keeps at most this number of bytes of a line: enough to see whether it is a heading line.
+/// The greatest number of bytes of a line that the reader keeps: enough to recognize a heading line.
 const LINE_START: usize = 6;
 
 /// The body of a part of a form, as far as it has been read.

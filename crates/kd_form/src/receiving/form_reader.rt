@@ -14,7 +14,7 @@ use crate::text_bytes::is_text_byte;
 use arrayvec::ArrayVec;
 use kd_state::SheetDay;
 
-/// The reader keeps at most this number of bytes of a heading line.
+/// The greatest number of bytes of a heading line that the reader keeps.
 ///
 /// A valid heading line, with its line end, has fewer bytes.
 const KEPT_LINE: usize = 64;
@@ -151,7 +151,7 @@ fn heading_line_start(digit: u8) -> ArrayVec<u8, KEPT_LINE>
     line
 }
 
-/// Returns `heading` if its part number is `number` and its number of parts is the expected one.
+/// Returns `heading` if its part number is `number`, and `is_expected` accepts its number of parts.
 ///
 /// The fault is `BadHeading` if there is no heading, and `PartOrder` if one of the two numbers is wrong.
 fn check_heading(

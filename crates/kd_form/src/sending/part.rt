@@ -20,7 +20,7 @@ use arrayvec::{ArrayString, ArrayVec};
 use kd_state::{PerSlot, SheetDay};
 use kd_tables::Letter;
 
-/// The longest part has at most this number of bytes: a heading line, and 520 letters in groups of five.
+/// An upper bound for the bytes of a part: a heading line, and 520 letters in groups of five.
 pub(crate) const LONGEST_PART: usize = 1100;
 
 /// The greatest number of letters of text that a part can have.

@@ -15,7 +15,7 @@ const MOST_BLANKS: usize = 13;
 /// Why bytes aren't a line that fits a pattern.
 #[derive(Clone, Copy)]
 pub(crate) enum PatternFault {
-    /// Bytes are missing at the end: with some more bytes, the line fits.
+    /// The bytes fit the pattern so far, but bytes are missing at the end.
     Incomplete,
     /// The line doesn't fit the pattern, whatever bytes follow.
     Mismatch,

@@ -22,7 +22,7 @@ fn push_some_letter(letters: &mut ArrayVec<Letter, CHUNK>, letter: Option<Letter
     }
 }
 
-/// Reads `bytes` as capital letters, many at a time; returns false if some byte isn't a capital letter.
+/// Reads `bytes` into `letters` as capital letters, many at a time; returns false if a byte isn't a capital letter.
 ///
 /// If the result is false, the contents of `letters` mean nothing.
 fn read_capitals(bytes: &[u8], letters: &mut [Letter]) -> bool

@@ -13,7 +13,8 @@ use toml::{Table, Value};
 ///
 /// `Given` is what a reader needs besides the items, such as the key and the model for wheels in slots.
 pub trait FromItem<Given> {
-    /// The rule for reading an item. It gives a value or a fault for `Given`, the earlier items' values, and the item.
+    /// The rule for reading an item. From `Given`, the earlier items' values, and the item, the rule gives a value or a
+    /// fault.
     ghost parse: { Given → List Self → Data → Result Self SheetFault };
 
     /// Reads `item`. The slice `earlier` has the values of the earlier items.
@@ -58,7 +59,7 @@ pub fn read_up_to<T: FromItem<()> + Copy + Default, const N: usize>(
     read_items(&(), items)
 }
 
-/// Reads all `items`, at most `N`, or returns the first fault.
+/// Reads all of `items`, or returns the first fault. There are at most `N` items.
 fn read_items<T: FromItem<G> + Copy + Default, G, const N: usize>(
     given: &G,
     items: &[Value],

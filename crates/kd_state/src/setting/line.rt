@@ -107,7 +107,7 @@ fn ring_setting_line(wheel: Wheel, letter: Letter) -> ArrayString<24>
     line
 }
 
-/// The setting whose line has these words; `None` if no setting's line has them.
+/// The setting whose line has exactly the words `words`; `None` if there is no such setting.
 fn setting_of_words(words: &[&[u8]]) -> Option<Setting>
     ensures { IsSettingOfWords (map (λ word. word.now) words.now) result }
 {
@@ -119,7 +119,7 @@ fn setting_of_words(words: &[&[u8]]) -> Option<Setting>
     }
 }
 
-/// Reads a line of two words as a setting. `None` if no setting has this line.
+/// The setting whose line has the words `keyword` and `value`; `None` if there is no such setting.
 fn setting_of_two_words(keyword: &[u8], value: &[u8]) -> Option<Setting>
     ensures { IsSettingOfWords (keyword.now ∷ value.now ∷ []) result }
 {
@@ -131,7 +131,7 @@ fn setting_of_two_words(keyword: &[u8], value: &[u8]) -> Option<Setting>
     })
 }
 
-/// Reads a line of three words as a setting. `None` if no setting has this line.
+/// The setting whose line has the words `keyword`, `first` and `second`; `None` if there is no such setting.
 fn setting_of_three_words(keyword: &[u8], first: &[u8], second: &[u8]) -> Option<Setting>
     ensures { IsSettingOfWords (keyword.now ∷ first.now ∷ second.now ∷ []) result }
 {
@@ -169,7 +169,7 @@ fn setting_of_three_words(keyword: &[u8], first: &[u8], second: &[u8]) -> Option
     }
 }
 
-/// Reads a line of four words as a setting. `None` if no setting has this line.
+/// The setting whose line has the words `keyword`, `first`, `second` and `third`; `None` if there is no such setting.
 fn setting_of_four_words(
     keyword: &[u8],
     first: &[u8],

@@ -17,9 +17,7 @@ pub type Settings = ArrayVec<Setting, 192>;
 /// Why bytes aren't a list of settings.
 #[derive(Clone, Copy, Debug, PartialEq, Eq, Error)]
 pub enum ListFault {
-    /// The line with this number is the first line that has no LF or isn't the line of a setting.
-    ///
-    /// Lines are counted from 1.
+    /// The number, counted from 1, of the first line that has no LF or isn't the line of a setting.
     BadLine(usize),
     /// There are more than 192 settings.
     TooMany,

@@ -10,7 +10,7 @@ use thiserror::Error;
 pub enum Why {
     /// The setting is for Enigmas but the machine is a Converter, or the other way round.
     OtherModel,
-    /// There is no cable with this number.
+    /// No cable has the number in the setting.
     NoSuchCable,
     /// The letter isn't in the cable.
     NotThere,
@@ -18,15 +18,15 @@ pub enum Why {
     NoLooseEnd,
     /// The letter is in a cable already.
     SocketTaken,
-    /// The model doesn't have this wheel or reflector, or doesn't take the wheel in this slot.
+    /// The model doesn't have the setting's wheel or reflector, or doesn't take the wheel in the setting's slot.
     WheelNotAllowed,
-    /// The slot is empty or doesn't exist, or there is no pin wheel with this number.
+    /// The setting turns the wheel in an empty or missing slot, or a pin wheel that doesn't exist.
     SlotEmpty,
-    /// The letter isn't on the pin wheel. Or the setting is for a pin, and no pin wheel has this number.
+    /// The letter isn't on the pin wheel, or a setting for a pin names a pin wheel that doesn't exist.
     NotOnWheel,
-    /// There is no bar with this number.
+    /// No bar has the number in the setting.
     NoSuchBar,
-    /// The bar's other lug is at this place.
+    /// The bar's other lug is already at the place in the setting.
     PlaceTaken,
     /// The place lies beyond the bar's other lug.
     WouldPass,

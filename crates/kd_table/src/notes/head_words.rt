@@ -103,7 +103,7 @@ fn says_separator(cell: &[u8]) -> bool {
     is_named("sep=", start)
 }
 
-/// The name of the column of `cell` that `name` nearly equals: English, German or short German.
+/// The English, German or short German name of the column of `cell`: the name that `name` nearly equals.
 fn meant_name(cell: Cell, name: &[u8]) -> &'static str {
     if is_near_name(name, english_name(cell)) {
         english_name(cell)

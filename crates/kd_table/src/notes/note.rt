@@ -78,7 +78,8 @@ pub fn row_place(alloc: Global, number: u64, day: Option<u8>) -> Result<Vec<u8>,
     Ok(place)
 }
 
-/// The words for a cell's place: the words `row` for the row's place, and the name of the cell's column.
+/// The words for the place of `cell`: first `row`, the words for the row's place, and then the name of the cell's
+/// column.
 pub fn cell_place(head: &Head<'_>, row: &[u8], cell: Cell) -> Result<Vec<u8>, SpreadsheetFault>
     ensures { IfOk result (λ place. place.items
         ≡ cell_place head.now.columns head.now.names row.now cell) }
@@ -123,7 +124,7 @@ pub fn option_name(cell: Cell) -> &'static str
     }
 }
 
-/// Appends the words for a row's number and, if the row's day is known, for this day.
+/// Appends a row's number and, if the row's day is known, the day.
 fn push_row_number(
     place: &mut Vec<u8>,
     number: u64,
@@ -140,7 +141,7 @@ fn push_row_number(
     }
 }
 
-/// Appends a number, then `after`.
+/// Appends `number`, then `after`.
 fn push_number(note: &mut Vec<u8>, number: u64, after: &[u8]) -> Result<(), SpreadsheetFault>
     ensures { IfOk result (λ _. note.new.items ≡ note.old.items ++ (decimal number ++ after.now)) }
 {
@@ -148,8 +149,8 @@ fn push_number(note: &mut Vec<u8>, number: u64, after: &[u8]) -> Result<(), Spre
     push_bytes(note, after)
 }
 
-/// Appends the name of the cell's column in the table. If the table lacks the column, appends the name of the cell's
-/// option, such as `--model`.
+/// Appends the name that the table has for the column of `cell`. If the table lacks the column, appends the name of the
+/// cell's option, such as `--model`.
 fn push_cell_name(place: &mut Vec<u8>, head: &Head<'_>, cell: Cell) -> Result<(), SpreadsheetFault>
     ensures { IfOk result (λ _. place.new.items
         ≡ place.old.items ++ cell_name head.now.columns head.now.names cell) }

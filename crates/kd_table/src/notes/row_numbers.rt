@@ -68,7 +68,7 @@ fn after_line_end(rest: &[u8]) -> Option<&[u8]>
     }
 }
 
-/// The bytes after the first row of `rest` and its line end.
+/// `rest` without its first row, and without the line end of this row.
 fn skip_row(separator: u8, rest: &[u8]) -> &[u8]
     requires { StartsRow rest.now }
     ensures { IsRowBefore separator rest.now result.now }

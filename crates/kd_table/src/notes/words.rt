@@ -118,7 +118,7 @@ pub fn shown_byte(is_long: bool, byte: u8) -> u8
     }
 }
 
-/// If the lines have this many bytes, further lines are left out.
+/// Once the lines have this many bytes (2,048), further lines are left out.
 const ROOM: usize = 2048;
 
 /// The last line, if further lines are left out because there is no room.
