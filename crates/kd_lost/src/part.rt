@@ -56,8 +56,8 @@ pub struct DamagedPart {
     /// The first line of the body that has letters, but not 50, though letters follow it. `None` if there is no such
     /// line.
     pub short_line: Option<ShortLine>,
-    /// The number of the first group that doesn't have five letters, though letters follow the group. `None` if each group
-    /// but the last has five letters.
+    /// The number of the first group that doesn't have five letters, though letters follow the group. `None` if each
+    /// group but the last has five letters.
     pub short_group: Option<usize>,
     /// Whether needless blanks in the part's first line were dropped. They are dropped if the line, with its blanks,
     /// isn't a heading.

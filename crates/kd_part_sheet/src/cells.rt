@@ -223,8 +223,8 @@ pub(crate) fn cells_with<const N: usize>(
     shown
 }
 
-/// The cell with its result. If `results` are left open and its letter is pressed, its sign below the line is left open,
-/// and it has no mark.
+/// The cell with its result. If `results` are left open and its letter is pressed, its sign below the line is left
+/// open, and it has no mark.
 fn cell_with(results: Results, cell: Cell) -> Cell
     ensures { result ≡ cell_with results cell }
 {

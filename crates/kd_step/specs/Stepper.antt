@@ -29,9 +29,9 @@ abbrev pub with_last_moved : ℕ → List ℕ → List ℕ
 with_last_moved count window = take (length window - count) window
     ++ map next_letter (drop (length window - count) window)
 
--- One step leads from the window `before` to the window `after`. If the middle wheel is at a notch, the left, middle and
--- right wheels move. Otherwise, if the right wheel is at a notch, the middle and right wheels move. If neither is at a
--- notch, only the right wheel moves.
+-- One step leads from the window `before` to the window `after`. If the middle wheel is at a notch, the left, middle
+-- and right wheels move. Otherwise, if the right wheel is at a notch, the middle and right wheels move. If neither is
+-- at a notch, only the right wheel moves.
 pub record IsStep (wheels : List Wheel) (before after : List ℕ) : Type 0 where
   pub from_middle_notch : IsTrue (stands_at_notch wheels before 1) → after ≡ with_last_moved 3 before
   pub from_right_notch : IsFalse (stands_at_notch wheels before 1) → IsTrue (stands_at_notch wheels before 0)

@@ -7,8 +7,8 @@ use kd_sheet::SheetFault::{self, BadValue, Missing};
 
 /// Faults with their texts.
 ///
-/// The first three come of no file: these keys may be missing, and each row has a fault of its own. Want of memory depends on the
-/// host. Of the faults that runs say, two with two places are printed here too.
+/// The first three come of no file: these keys may be missing, and each row has a fault of its own. Want of memory
+/// depends on the host. Of the faults that runs say, two with two places are printed here too.
 static FAULTS: [(DeskFault, &str); 7] = [
     (File(Missing(Key::Cables)), "20 Missing cables"),
     (File(Missing(Key::Groups)), "20 Missing groups"),

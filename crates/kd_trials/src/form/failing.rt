@@ -20,9 +20,11 @@ struct Case {
     steps: &'static [(usize, usize)],
 }
 
-/// Of an order, a part is complete at the first letter of the next part. The lines of keys and `TEXT` have 45, 65 and 33 bytes.
+/// Of an order, a part is complete at the first letter of the next part. The lines of keys and `TEXT` have 45, 65 and
+/// 33 bytes.
 ///
-/// Of the form of two parts, the first is complete at the digit of the second heading. The messages without steps have one part.
+/// Of the form of two parts, the first is complete at the digit of the second heading. The messages without steps have
+/// one part.
 static CASES: [Case; 9] = [
     Case {
         told: PLAIN,
@@ -102,7 +104,8 @@ fn written_after(read: usize, steps: &[(usize, usize)]) -> usize {
 
 /// Lets each `get` of a message's source fail in turn, also the last one, which would tell the end.
 ///
-/// Checks that the answer is `Device`, and that exactly those bytes of the form or the text are written which the steps say.
+/// Checks that the answer is `Device`, and that exactly those bytes of the form or the text are written which the steps
+/// say.
 fn each_get_fails(rt: &impl Abort, alloc: Global, case: &Case) {
     let keyed = keyed(alloc, &case.told).expect(rt, "a machine and its day");
     let message = text_of(alloc, &case.message).ok().expect(rt, "memory");

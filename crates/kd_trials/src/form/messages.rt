@@ -1,4 +1,5 @@
-//! Tests of short messages that are sent or received, at once and as streams; and of the same calls where memory runs out.
+//! Tests of short messages that are sent or received, at once and as streams; and of the same calls where memory runs
+//! out.
 use super::long_texts::{TWO_PARTS as LONG_TEXT, is_sent_and_received};
 use super::samples::{
     CONVERTER_FORM, CONVERTER_ORDER, FORM, OF_1941, ORDER, TWO_PARTS, Way, is_streamed, make,
@@ -15,8 +16,8 @@ use kd_form::FormFault::{
 use std::alloc::Global;
 use std::process::Abort;
 
-/// The direction of a message, the message, how its form or text begins and how long this is, or its fault, and what the
-/// stream writes before the fault.
+/// The direction of a message, the message, how its form or text begins and how long this is, or its fault, and what
+/// the stream writes before the fault.
 type Case = (
     Way,
     File,

@@ -63,8 +63,8 @@ pub fn make(
 
 /// Sends or receives `message` as a stream, and checks the fault, if there is one, and the bytes that are written.
 ///
-/// The source gives at most as many bytes at once as `pieces` says, one number after another. If it has a number of `gets`, the
-/// next one fails.
+/// The source gives at most as many bytes at once as `pieces` says, one number after another. If it has a number of
+/// `gets`, the next one fails.
 pub fn is_streamed(
     rt: &impl Abort,
     (machine, day): &Keyed,

@@ -12,10 +12,12 @@ use kd_tables::MemorySink;
 use std::alloc::Global;
 use std::process::Abort;
 
-/// A machine; settings that are carried out one after another, each with the reason if it is refused; and the machine after them.
+/// A machine; settings that are carried out one after another, each with the reason if it is refused; and the machine
+/// after them.
 type Case = (File, &'static [(&'static str, Option<Why>)], File);
 
-/// A setting that is refused changes nothing. If there are two reasons to refuse it, the error has the one that is tested first.
+/// A setting that is refused changes nothing. If there are two reasons to refuse it, the error has the one that is
+/// tested first.
 static CASES: [Case; 4] = [
     (
         (M1, "version = 1", "version = 1\ncables = [\"AB\"]"),

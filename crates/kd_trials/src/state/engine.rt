@@ -9,8 +9,8 @@ use std::process::Abort;
 /// A machine; letters to turn its engine to, and whether the engine turns; a text; and its ciphertext after that.
 type Case = (TextName, &'static [u8], bool, &'static [u8], &'static [u8]);
 
-/// An engine turns if there is a letter for each slot or pin wheel, and the letter is on it. If not, its ciphertext stays
-/// the machine's.
+/// An engine turns if there is a letter for each slot or pin wheel, and the letter is on it. If not, its ciphertext
+/// stays the machine's.
 static CASES: [Case; 14] = [
     (TenCables, b"WXC", true, b"KCH", b"BLA"),
     (TenCables, b"WXC", true, b"BLA", b"KCH"),
