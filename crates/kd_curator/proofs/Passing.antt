@@ -26,7 +26,7 @@ use Rattle.kd_tables.specs.declared.ports.write_fault.WriteFault.{WriteFault}
 use Rattle.kd_look.specs.declared.outcome.Outcome.{Outcome}
 use Rattle.kd_tables.specs.Writing.{Writes}
 use Rattle.kd_curator.specs.Sheets.{MakesSheet, Sheet, Faulty, NoMemory as NoSheetMemory}
-use Rattle.kd_table.specs.Options.{OptionTexts}
+use Rattle.kd_spreadsheet.specs.Options.{OptionTexts}
 use Rattle.kd_pictures.specs.declared.language.Language.{Language}
 use Rattle.kd_curator_command.specs.CommandLine.{NamedCommand}
 use Rattle.kd_curator_command.specs.declared.command.Command.TheVariants as commands

@@ -3,7 +3,7 @@ use Rattle.std.proofs.Common.{◌≡◌, ◌∙◌, ℕ, [], IsErr, None, append
 use Rattle.std.proofs.lemmas.Bool.{false≢true}
 use Rattle.std.specs.Io.KnownBytes.{Appends, Keeps}
 use Rattle.kd_tables.specs.Ports.{Port, port}
-use Rattle.kd_table.specs.Notes.{Tells}
+use Rattle.kd_spreadsheet.specs.Notes.{Tells}
 use Rattle.kd_pictures.specs.Drawing.{Draws}
 use Rattle.kd_state.specs.declared.machine.parts.Parts.{Parts}
 use Rattle.kd_state.specs.SheetDay.{Day}

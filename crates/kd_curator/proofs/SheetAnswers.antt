@@ -6,10 +6,10 @@ use Rattle.kd_tables.specs.declared.ports.write_fault.WriteFault.TheVariants.{De
 use Rattle.kd_tables.specs.Writing.{TakesPrefix}
 use Rattle.kd_state.specs.SheetDay.{Day}
 use Rattle.kd_sheet.specs.SheetText.{sheet_text}
-use Rattle.kd_table.specs.Options.{OptionTexts}
-use Rattle.kd_table.specs.Table.{IsRefusedTable, TableMeans}
-use Rattle.kd_table.specs.declared.fault.SpreadsheetFault.{SpreadsheetFault}
-use Rattle.kd_table.specs.declared.fault.SpreadsheetFault.TheVariants as spreadsheets
+use Rattle.kd_spreadsheet.specs.Options.{OptionTexts}
+use Rattle.kd_spreadsheet.specs.Table.{IsRefusedTable, TableMeans}
+use Rattle.kd_spreadsheet.specs.declared.fault.SpreadsheetFault.{SpreadsheetFault}
+use Rattle.kd_spreadsheet.specs.declared.fault.SpreadsheetFault.TheVariants as spreadsheets
 use Rattle.kd_curator.specs.Refusals.{refused_by, refused_table}
 use Rattle.kd_curator.specs.Sheets.{MakesSheet, Sheet, Faulty, NoMemory}
 

@@ -2,7 +2,7 @@
 use Rattle.std.proofs.Common.{◌≡◌, ℕ, List, ◌++◌, Option, Result, IsErrAnd}
 use Rattle.std.specs.Io.KnownBytes.{Appends}
 use Rattle.kd_host.proofs.Failing.{err-holds}
-use Rattle.kd_table.proofs.Writings.{takes_second}
+use Rattle.kd_spreadsheet.proofs.Writings.{takes_second}
 use Rattle.kd_tables.specs.Writing.{TakesPrefix, Writes}
 
 -- the first text, and a prefix of the second, if there is a fault

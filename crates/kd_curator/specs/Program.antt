@@ -12,9 +12,9 @@ use Rattle.kd_tables.specs.Answers.{AgreesOrNoMemory}
 use Rattle.kd_host.specs.Files.{AreAskedFor, AskedName}
 use Rattle.kd_host.specs.Writing.{WritesText}
 use Rattle.kd_new_file.specs.declared.why_unread.WhyUnread.{WhyUnread}
-use Rattle.kd_table.specs.EmptySheet.{empty_month_text}
-use Rattle.kd_table.specs.Notes.{Tells}
-use Rattle.kd_table.specs.Options.{OptionTexts}
+use Rattle.kd_spreadsheet.specs.EmptySheet.{empty_month_text}
+use Rattle.kd_spreadsheet.specs.Notes.{Tells}
+use Rattle.kd_spreadsheet.specs.Options.{OptionTexts}
 use Rattle.kd_state.specs.Machine.{model_of}
 use Rattle.kd_tables.specs.Ports.{Port}
 use Rattle.kd_curator_command.specs.CommandLine.{AsksForHelp, IsCommandLineOf, IsNoCommandLine, NamedCommand}

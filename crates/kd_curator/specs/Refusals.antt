@@ -18,8 +18,8 @@ use Rattle.kd_host.specs.declared.file_fault.FileFault.{FileFault}
 use Rattle.kd_new_file.specs.declared.why_unread.WhyUnread.{WhyUnread}
 use Rattle.kd_lost.specs.declared.form.DamagedFormFault.{DamagedFormFault}
 use Rattle.kd_lost.specs.declared.form.DamagedFormFault.TheVariants as damages
-use Rattle.kd_table.specs.declared.fault.SpreadsheetFault.{SpreadsheetFault}
-use Rattle.kd_table.specs.declared.fault.SpreadsheetFault.TheVariants as spreadsheets
+use Rattle.kd_spreadsheet.specs.declared.fault.SpreadsheetFault.{SpreadsheetFault}
+use Rattle.kd_spreadsheet.specs.declared.fault.SpreadsheetFault.TheVariants as spreadsheets
 use Rattle.kd_curator.specs.Blame.{blame_on, unread_blame}
 use Rattle.kd_curator.specs.declared.blame.Blame.{Blame}
 use Rattle.kd_curator.specs.declared.blame.Remark.{Remark}

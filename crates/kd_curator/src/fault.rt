@@ -9,7 +9,7 @@ use kd_form::FormFault;
 use kd_host::FileFault;
 use kd_lost::DamagedFormFault;
 use kd_sheet::SheetFault;
-use kd_table::SpreadsheetFault;
+use kd_spreadsheet::SpreadsheetFault;
 use kd_tables::{Device, Refusal, Text, WriteFault};
 
 /// Why a command is refused. A part of the command's output may be written nevertheless.

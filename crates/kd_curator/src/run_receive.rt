@@ -4,7 +4,7 @@ ghost use Rattle.kd_tables.specs.Ports.{port};
 ghost use Rattle.kd_curator.specs.Refusals.{has_written, is_device};
 ghost use Rattle.kd_curator.specs.RunReceive.{TellsOfForm, WritesReceivePage};
 ghost use Rattle.kd_pictures.specs.Drawing.{Draws};
-ghost use Rattle.kd_table.specs.Notes.{Tells};
+ghost use Rattle.kd_spreadsheet.specs.Notes.{Tells};
 
 use crate::fault::{PageFault, Refused};
 use kd_form::machine_check::check_machine;

@@ -1,15 +1,15 @@
 //! The command `sheet`: makes a key sheet from a spreadsheet's table, or writes a key sheet to fill in.
 ghost use Rattle.std.specs.Prelude.{◌≡◌, ◌≤◌, ◌||◌, false, IsErr};
 ghost use Rattle.kd_tables.specs.Ports.{port};
-ghost use Rattle.kd_table.specs.Notes.{Tells};
-ghost use Rattle.kd_table.specs.Options.{texts_of};
+ghost use Rattle.kd_spreadsheet.specs.Notes.{Tells};
+ghost use Rattle.kd_spreadsheet.specs.Options.{texts_of};
 ghost use Rattle.kd_host.specs.Writing.{WritesText};
-ghost use Rattle.kd_table.specs.EmptySheet.{empty_month_text};
+ghost use Rattle.kd_spreadsheet.specs.EmptySheet.{empty_month_text};
 ghost use Rattle.kd_curator.specs.Refusals.{is_device, refused_device};
 ghost use Rattle.kd_curator.specs.Sheets.{MakesSheet};
 
 use crate::fault::Refused;
-use kd_table::{TableOptions, run_sheet, write_empty_month};
+use kd_spreadsheet::{TableOptions, run_sheet, write_empty_month};
 use kd_tables::{Model, Sink};
 use std::alloc::Global;
 

@@ -21,12 +21,12 @@ use Rattle.kd_tables.specs.declared.direction.Direction.TheVariants as direction
 use Rattle.kd_curator_command.specs.Locale.{language_code}
 use Rattle.kd_curator_command.specs.declared.command.MessageTask.{MessageTask}
 use Rattle.kd_pictures.specs.declared.language.Language.{Language}
-use Rattle.kd_table.specs.Options.{OptionTexts}
+use Rattle.kd_spreadsheet.specs.Options.{OptionTexts}
 use Rattle.kd_curator_command.specs.CommandLine.{IsMonthNamed, are_blank, option_text, option_texts}
 use Rattle.kd_tables.specs.declared.model.Model.{Model}
 use Rattle.std.specs.Prelude.{unwrap_or}
-use Rattle.kd_key_table.specs.declared.table_file.TableForm.{TableForm}
-use Rattle.kd_key_table.specs.declared.table_file.TableForm.TheVariants as forms
+use Rattle.kd_printed_sheet.specs.declared.table_file.TableForm.{TableForm}
+use Rattle.kd_printed_sheet.specs.declared.table_file.TableForm.TheVariants as forms
 use Rattle.clap.proofs.{OnLiterals.clap_on_literals, WalkLemmas.first_value-rows}
 use Rattle.clap.specs.declared.parser.matches.{ArgMatches.ArgMatches, Found.Found}
 use Rattle.kd_curator_command.specs.{CommandLine.curator_grammar, declared.command.NoCommand.NoCommand}

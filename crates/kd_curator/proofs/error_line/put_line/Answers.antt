@@ -1,5 +1,5 @@
 use Rattle.std.proofs.Common.{[], ◌∷◌, ◌++◌}
-use Rattle.kd_table.proofs.Writings.{takes_second, writes_front, writes_then}
+use Rattle.kd_spreadsheet.proofs.Writings.{takes_second, writes_front, writes_then}
 use Rattle.kd_curator.proofs.Writings.{writes_second}
 use Rattle.kd_curator.proofs.error_line.put_line.Goals as goal
 

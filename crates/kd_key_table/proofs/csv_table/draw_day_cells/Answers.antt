@@ -1,9 +1,0 @@
-use Rattle.std.proofs.Common.{arith}
-use Rattle.std.proofs.lemmas.Grind.{common_steps}
-use Rattle.kd_pictures.proofs.Drawings.{both, joined}
-use Rattle.kd_key_table.proofs.csv_table.draw_day_cells.Goals as goal
-
-pub returns : goal.returns
-returns g c =
-    joined (both (both (both c.draw.ensures c.draw-2.ensures) c.draw-3.ensures) c.draw-4.ensures)
-    c.draw-5.ensures (grind (arith, common_steps))

@@ -1,5 +1,0 @@
-use Rattle.std.proofs.Common.{length}
-use Rattle.kd_key_table.proofs.days.+add_days.Given as goal
-
-abbrev pub decreases-add_days : goal.decreases-add_days
-decreases-add_days l = length l.numbers.now

@@ -1,5 +1,0 @@
-use Rattle.std.proofs.Common.{length}
-use Rattle.kd_key_table.proofs.days.+first_of.Given as goal
-
-abbrev pub decreases-first_of : goal.decreases-first_of
-decreases-first_of l = length l.earlier.now

@@ -1,8 +1,0 @@
-use Rattle.std.proofs.Common.{arith}
-use Rattle.std.proofs.lemmas.Grind.{common_steps}
-use Rattle.kd_pictures.proofs.Drawings.{joined}
-use Rattle.kd_key_table.proofs.month_table.+draw_wheels.Goals as goal
-
-pub returns-in-len1-up : goal.returns-in-len1-up
-returns-in-len1-up g t c =
-    joined c.fill.ensures c.draw_wheels.ensures (grind (arith, common_steps))

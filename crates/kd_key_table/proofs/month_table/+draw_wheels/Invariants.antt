@@ -1,5 +1,0 @@
-use Rattle.std.proofs.Common.{length}
-use Rattle.kd_key_table.proofs.month_table.+draw_wheels.Given as goal
-
-abbrev pub decreases-draw_wheels : goal.decreases-draw_wheels
-decreases-draw_wheels g l = length l.wheels.now

@@ -1,0 +1,5 @@
+use Rattle.std.proofs.Common.{length}
+use Rattle.kd_printed_sheet.proofs.key_list.+draw_lines.Given as goal
+
+abbrev pub decreases-draw_lines : goal.decreases-draw_lines
+decreases-draw_lines g l = length l.rows.now

@@ -1,0 +1,86 @@
+//! The file with a sheet's tables.
+ghost use Rattle.std.specs.Prelude.{◌≡◌, ◌||◌, ◌++◌, is_err};
+ghost use Rattle.kd_tables.specs.Writing.{Writes};
+ghost use Rattle.kd_pictures.specs.Drawing.{Draws};
+ghost use Rattle.kd_printed_sheet.specs.Days.{has_days};
+ghost use Rattle.kd_printed_sheet.specs.TableFile.{file_text, no_days, page_text, tables_of};
+
+use crate::csv_table::draw_csv;
+use crate::days::{DAYS, has_any_day};
+use crate::key_list::draw_key_lists;
+use crate::month_table::draw_month;
+use crate::texts::{NO_DAYS, TITLE, WIDE_BODY};
+use kd_pictures::file_head::draw_file_head;
+use kd_pictures::texts::{FOOT, MORE_STYLE, STYLE};
+use kd_pictures::{Language, draw, draw_in};
+use kd_sheet::Sheet;
+use kd_tables::{Device, Model, Sink};
+
+/// The form of the file with a sheet's tables.
+#[derive(Clone, Copy, Debug, PartialEq, Eq)]
+pub enum TableForm {
+    /// An HTML page to print.
+    Page,
+    /// A CSV table for a spreadsheet.
+    Csv,
+}
+
+/// Writes the tables of the key sheet `sheet` in `form`. A page is in `language`. Allocates no memory.
+///
+/// A page has a table for each model of rotor machine that has days; the last day comes first. It also has a key list
+/// for each day of a Converter. A CSV table has a row for each day; the first day comes first. A CSV table is the same
+/// in all languages.
+pub fn write_tables<W: Sink>(
+    sink: &mut W,
+    language: Language,
+    form: TableForm,
+    sheet: &Sheet,
+) -> Result<(), Device>
+    ensures text { Writes (W.taken sink.old) (W.taken sink.new)
+        (file_text language form sheet.now) result }
+    ensures failed { W.has_failed sink.new ≡ (W.has_failed sink.old || is_err result) }
+{
+    draw_file(sink, language, form, sheet);
+    if sink.failed() { Err(Device) } else { Ok(()) }
+}
+
+fn draw_file<W: Sink>(sink: &mut W, language: Language, form: TableForm, sheet: &Sheet)
+    ensures { Draws W.taken W.has_failed sink.old sink.new (file_text language form sheet.now) }
+{
+    match form {
+        TableForm::Page => draw_page(sink, language, sheet),
+        TableForm::Csv => draw_csv(sink, sheet),
+    }
+}
+
+fn draw_page<W: Sink>(sink: &mut W, language: Language, sheet: &Sheet)
+    ensures { Draws W.taken W.has_failed sink.old sink.new (page_text language sheet.now) }
+{
+    draw_file_head(sink, language);
+    draw_in(sink, language, TITLE);
+    draw(sink, STYLE);
+    draw(sink, MORE_STYLE);
+    draw(sink, WIDE_BODY);
+    draw_no_days(sink, language, sheet);
+    draw_tables(sink, language, sheet);
+    draw(sink, FOOT);
+}
+
+/// Writes that the sheet has no days. If the sheet has a day, writes nothing.
+fn draw_no_days<W: Sink>(sink: &mut W, language: Language, sheet: &Sheet)
+    ensures { Draws W.taken W.has_failed sink.old sink.new (no_days language (has_days sheet.now)) }
+{
+    if !has_any_day(sheet, &DAYS) {
+        draw_in(sink, language, NO_DAYS);
+    }
+}
+
+/// Writes a table for each model of rotor machine that has days, and a key list for each day of a Converter.
+fn draw_tables<W: Sink>(sink: &mut W, language: Language, sheet: &Sheet)
+    ensures { Draws W.taken W.has_failed sink.old sink.new (tables_of language sheet.now) }
+{
+    draw_month(sink, language, Model::EnigmaI, sheet);
+    draw_month(sink, language, Model::M3, sheet);
+    draw_month(sink, language, Model::M4, sheet);
+    draw_key_lists(sink, language, sheet, &DAYS);
+}

@@ -1,0 +1,160 @@
+-- Notes that are written, and lines that make up a note.
+use Rattle.std.proofs.Common.{◌≡◌, ◌∙◌, ◌&&◌, ◌||◌, ◌+◌, ◌<◌, ◌++◌, ◌∷◌, ℕ, Bool, true, false, List, [], ap, codes, length, Option, Some, Result, Ok, Err, is_err, refl, sym, subst, arith, append_assoc}
+use Rattle.std.proofs.lemmas.Grind.{common_steps}
+use Rattle.std.proofs.lemmas.List.{append-nil}
+use Rattle.std.specs.Prelude.{flat_map}
+use Rattle.std.specs.List.{list_all}
+use Rattle.kd_state.specs.SheetDay.{Day}
+use Rattle.kd_tables.specs.Writing.{Writes}
+use Rattle.kd_spreadsheet.specs.Cells.{day_in, has_columns, is_faulty, row_cells, row_model}
+use Rattle.kd_spreadsheet.specs.Columns.{cell_at, columns_of}
+use Rattle.kd_spreadsheet.specs.Items.{is_blank}
+use Rattle.kd_spreadsheet.specs.Options.{OptionTexts}
+use Rattle.kd_spreadsheet.specs.Notes.{NextCell, NoCells, TellsCells, TellsPlacedRow, TellsText, cell_place, line_at, shown, unread_line, unread_note, unread_words, HasRowsNote, OfRows, TellsRow, TellsTable, row_place}
+use Rattle.kd_spreadsheet.specs.NearNames.{is_misnamed}
+use Rattle.kd_spreadsheet.specs.Row.{IsDayOfRow, IsNoDay, is_column_read, row_values}
+use Rattle.kd_spreadsheet.specs.declared.cell.Cell.{Cell}
+use Rattle.kd_spreadsheet.specs.declared.columns.Columns.{Columns}
+
+-- a text, or a prefix of it, was written
+pub tells_whole : {T E : Type 0} (a b : Option (List ℕ)) (before after : Bool) (text : List ℕ) (answer : Result T E)
+    → Writes a b text answer → after ≡ (before || is_err answer)
+    → TellsText (record { had = a; has = b; had_failed = before; has_failed = after }) text
+tells_whole a b before after text (Ok done) writes failed =
+    record { whole = λ well. writes.whole; part = (length text, grind (arith, common_steps, writes.whole)) }
+tells_whole a b before after text (Err fault) writes failed =
+    let front = writes.front in
+    record { whole = λ well. grind (arith, common_steps, failed, well); part = (front.0, front.2) }
+
+-- a row that describes a day isn't a row that is no day
+pub is_some_day : (options : OptionTexts) (columns : Columns) (row : List (List ℕ)) (day : Day)
+    → IsDayOfRow options columns row day → IsNoDay (row_values options columns row) → ⊥
+is_some_day options columns row day is none = subst IsNoDay is.values none is.legal
+
+-- ---- parts of a note
+
+pub three_parts : (old one two three a b c : List ℕ) → one ≡ old ++ a → two ≡ one ++ b → three ≡ two ++ c
+    → three ≡ old ++ (a ++ (b ++ c))
+three_parts old one two three a b c first second third =
+    third ∙ ap (λ t. t ++ c) (second ∙ ap (λ t. t ++ b) first) ∙ append_assoc (old ++ a) b c ∙ append_assoc old a (b ++ c)
+
+pub two_parts : (old one two a b : List ℕ) → one ≡ old ++ a → two ≡ one ++ b → two ≡ old ++ (a ++ b)
+two_parts old one two a b first second = second ∙ ap (λ t. t ++ b) first ∙ append_assoc old a b
+
+-- At least one line was appended, each with this place.
+abbrev pub HasLines : List ℕ → List ℕ → List ℕ → Type 0
+HasLines place old new = (lines : List (List ℕ)) × (0 < length lines) × (new ≡ old ++ flat_map (line_at place) lines)
+
+pub line_first : (place old middle new line : List ℕ) → middle ≡ old ++ line_at place line → HasLines place middle new
+    → HasLines place old new
+line_first place old middle new line first (lines, some, rest) =
+    (line ∷ lines, omega arith, two_parts old middle new (line_at place line) (flat_map (line_at place) lines) first rest)
+
+pub line_alone : (place old new line : List ℕ) → new ≡ old ++ line_at place line → HasLines place old new
+line_alone place old new line is =
+    (line ∷ [], omega arith, is ∙ ap (λ t. old ++ t) (sym (append-nil (line_at place line))))
+
+-- ---- the note on a row's cells
+
+module _ (options : OptionTexts) (columns : Columns) (head : List (List ℕ)) (place : List ℕ) (row : List (List ℕ)) where
+  abbrev pub TellsCell : Cell → List ℕ → List ℕ → Type 0
+  TellsCell cell old new = (lines : List (List ℕ))
+      × (new ≡ old ++ flat_map (line_at (cell_place columns head place cell)) lines)
+      × (is_faulty options columns row cell ≡ true → 0 < length lines)
+
+  abbrev pub TellsMore : List Cell → List ℕ → List ℕ → Type 0
+  TellsMore cells old new = (more : List ℕ) × (new ≡ old ++ more) × TellsCells options columns head place row cells more
+
+  pub cell_first : (cell : Cell) (cells all : List Cell) (old middle new : List ℕ) → all ≡ cell ∷ cells
+      → TellsCell cell old middle → TellsMore cells middle new → TellsMore all old new
+  cell_first cell cells all old middle new split (lines, first, some) (more, rest, told) =
+      let of_cell = flat_map (line_at (cell_place columns head place cell)) lines in
+      let P : List Cell → Type 0 = λ cs. TellsCells options columns head place row cs (of_cell ++ more) in
+      (of_cell ++ more, two_parts old middle new of_cell more first rest, subst P (sym split) (NextCell cell cells lines more some told))
+
+  pub no_cells : (cells : List Cell) (old : List ℕ) → cells ≡ [] → TellsMore cells old old
+  no_cells cells old none =
+      let P : List Cell → Type 0 = λ cs. TellsCells options columns head place row cs [] in
+      ([], sym (append-nil old), subst P (sym none) NoCells)
+
+  -- a line was appended, if nothing was said of the cells of a row that is no day
+  some_line : (of_cells : List ℕ) (words : List (List ℕ)) (before after : List ℕ) (is_due : Bool)
+      → after ≡ before ++ of_cells → (is_due ≡ true → 0 < length words)
+      → (length after ≡ length before → is_due ≡ true) → 0 < length of_cells + length words
+  some_line [] words before after is_due appended some due =
+      let told = some (due (ap length appended ∙ ap length (append-nil before))) in omega arith
+  some_line (byte ∷ of_cells) words before after is_due appended some due = omega arith
+
+  pub placed_told : (n1 n2 n3 : List ℕ) (is_due : Bool) → TellsMore (row_cells (row_model options columns row)) n1 n2
+      → ((words : List (List ℕ)) × (n3 ≡ n2 ++ flat_map (line_at place) words) × (is_due ≡ true → 0 < length words))
+      → (IsNoDay (row_values options columns row) → has_columns options columns row ≡ true → length n2 ≡ length n1
+      → is_due ≡ true)
+      → TellsPlacedRow options columns head place row n1 n3
+  placed_told n1 n2 n3 is_due (of_cells, second, told) (words, third, some) due = record {
+    of_cells = of_cells;
+    words = words;
+    appended = two_parts n1 n2 n3 of_cells (flat_map (line_at place) words) second third;
+    cells = told;
+    some = λ none has. some_line of_cells words n1 n2 is_due second some (due none has);
+  }
+
+  pub row_told : (number : ℕ) (n0 n1 n2 : List ℕ) → place ≡ row_place number (day_in (cell_at columns.day row))
+      → ((missing : List (List ℕ)) × (n1 ≡ n0 ++ flat_map (line_at (codes "row 1: ")) missing))
+      → TellsPlacedRow options columns head place row n1 n2
+      → (more : List ℕ) × (n2 ≡ n0 ++ more) × TellsRow options columns head number row more
+  row_told number n0 n1 n2 same (missing, first) told =
+      let of_missing = flat_map (line_at (codes "row 1: ")) missing in
+      let of_row = flat_map (line_at place) told.words in
+      let P : List ℕ → Type 0 = λ p.
+      TellsCells options columns head p row (row_cells (row_model options columns row)) told.of_cells in (
+        of_missing ++ (told.of_cells ++ of_row),
+        two_parts n0 n1 n2 of_missing (told.of_cells ++ of_row) first told.appended,
+        record {
+          missing = missing;
+          of_cells = told.of_cells;
+          of_row = of_row;
+          words = told.words;
+          joined = refl;
+          cells = subst P same told.cells;
+          whole = ap (λ p. flat_map (line_at p) told.words) same;
+          some = told.some;
+        },
+      )
+
+-- ---- blank rows
+
+and_true : (b : Bool) → (b && true) ≡ b
+and_true true = refl
+and_true false = refl
+
+and_assoc : (a b c : Bool) → (a && (b && c)) ≡ ((a && b) && c)
+and_assoc true b c = refl
+and_assoc false b c = refl
+
+pub all_more : {A : Type 0} (p : A → Bool) (xs : List A) (x : A) → list_all p (xs ++ x ∷ []) ≡ (list_all p xs && p x)
+all_more p [] x = and_true (p x)
+all_more p (y ∷ xs) x = ap (λ b. p y && b) (all_more p xs x) ∙ and_assoc (p y) (list_all p xs) (p x)
+
+-- the line on a column that isn't read
+pub unread_is : (head : List (List ℕ)) (place : ℕ) → is_blank (cell_at (Some place) head) ≡ false
+    → is_column_read (columns_of head) place ≡ false
+    → unread_line head place ≡ codes "column " ++ (shown (cell_at (Some place) head) ++ unread_words)
+unread_is head place filled unread = rw (filled, unread) refl
+
+-- ---- the note on a table
+
+pub of_text : (options : OptionTexts) (table text old new : List ℕ) → old ≡ [] → new ≡ old ++ text
+    → TellsTable options table text → TellsTable options table new
+of_text options table text old new none is told = rw (is, none) told
+
+pub of_rows : (options : OptionTexts) (table : List ℕ) (head : List (List ℕ)) (old middle new : List ℕ) → old ≡ []
+    → ((missing : List (List ℕ)) × (middle ≡ old ++ (unread_note head ++ flat_map (line_at (codes "row 1: ")) missing))
+    × (is_misnamed (columns_of head) head ≡ true → 0 < length missing))
+    → HasRowsNote options (columns_of head) head table middle new → TellsTable options table new
+of_rows options table head old middle new none (missing, first, named) has =
+    let of_missing = flat_map (line_at (codes "row 1: ")) missing in
+    let of_end = flat_map (line_at []) has.words in
+    let is : new ≡ unread_note head ++ (of_missing ++ (has.text ++ of_end)) =
+    has.appended ∙ ap (λ t. t ++ (has.text ++ of_end)) (first ∙ ap (λ t. t ++ (unread_note head ++ of_missing)) none)
+    ∙ append_assoc (unread_note head) of_missing (has.text ++ of_end) in
+    rw is (OfRows head has.rows missing has.text has.words has.are has.told has.empty named)

@@ -1,0 +1,33 @@
+use Rattle.std.proofs.Common.{subst, sym}
+use Rattle.std.proofs.lemmas.Result.{IfOk-weaker}
+use Rattle.csv.specs.Records.{fields_of}
+use Rattle.kd_spreadsheet.specs.Notes.{OfNothing, nothing_note}
+use Rattle.kd_spreadsheet.specs.Options.{texts_of}
+use Rattle.kd_spreadsheet.specs.Table.{AreRows}
+use Rattle.kd_spreadsheet.proofs.Noting.{of_rows, of_text}
+use Rattle.kd_spreadsheet.proofs.ReadRows.{first_row, no_row}
+use Rattle.kd_spreadsheet.proofs.notes.push_table.Goals as goal
+
+pub returns-in_default : goal.returns-in_default
+returns-in_default c =
+    let table = c.args.table.now in
+    let none = no_row c.in_ok-records.records.items (rw c.as_slice.ensures.value at c.in_default.len_below) in
+    let are = subst (AreRows table) none c.in_ok-records.ensures in
+    IfOk-weaker c.push_line.result _ _ (λ done told. of_text (texts_of c.args.options.now) table nothing_note
+    c.args.note.now.items _ c.requires told (OfNothing are))
+    (rw c.as_bytes.ensures.value at c.push_line.ensures)
+
+pub push_rows-requires : goal.push_rows-requires
+push_rows-requires c =
+    let table = c.args.table.now in
+    let first = first_row c.as_slice.result.now c.names-item.result c.in-len1-up.len_at_least c.names-item.is in
+    let are = rw (sym c.as_slice.ensures.value) at c.in_ok-records.ensures in
+    rw c.new-head.ensures (subst (AreRows table) first are)
+
+pub returns : goal.returns
+returns c =
+    let rows = rw (c.new-head.ensures, c.of_head-columns.ensures) at c.push_rows.ensures in
+    let pushed = rw (c.new-head.ensures, c.of_head-columns.ensures) at c.in_ok-push_head.ensures in
+    IfOk-weaker c.push_rows.result _ _ (λ done has. of_rows (texts_of c.args.options.now) c.args.table.now
+    (fields_of c.names-item.result) _ _ _ c.requires pushed has)
+    rows

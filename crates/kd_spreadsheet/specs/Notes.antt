@@ -1,0 +1,227 @@
+-- The notes on a table, on standard error. The notes on unread columns, and the warnings about days with few pairs or
+-- groups, are defined to the byte.
+-- The notes on a refused table have a line for each cell that can't be read. They also have a line for each row that
+-- isn't a day, unless the table lacks a column that the row needs. Such a line begins with the place of the cell or the
+-- row. No definition gives the words after the place.
+-- Test: tests/cases/curator-sheet.toml
+use Rattle.std.specs.Prelude.{◌≡◌, ◌<◌, ◌+◌, ◌==◌, ◌&&◌, ◌||◌, codes, decimal, nat_lt, ℕ, Bool, true, false, List, [], ◌∷◌, ◌++◌, drop, flat_map, length, map, slice_get, take, Option, Some, None, IfSome, IsTrue, if◌then◌else◌}
+use Rattle.std.specs.Io.KnownBytes.{Appends}
+use Rattle.std.specs.List.{list_all, range_with_len}
+use Rattle.std.specs.Option.{option_map_or}
+use Rattle.kd_tables.specs.Ports.{Port}
+use Rattle.kd_state.specs.SheetDay.{Day}
+use Rattle.kd_slips.specs.Counts.{counts_of, few_lines}
+use Rattle.kd_spreadsheet.specs.Cells.{column_of, day_in, has_columns, is_faulty, row_cells, row_model}
+use Rattle.kd_spreadsheet.specs.Columns.{cell_at, columns_of}
+use Rattle.kd_spreadsheet.specs.Items.{is_blank}
+use Rattle.kd_spreadsheet.specs.Options.{OptionTexts}
+use Rattle.kd_spreadsheet.specs.NearNames.{is_misnamed}
+use Rattle.kd_spreadsheet.specs.Row.{IsNoDay, is_blank_row, is_column_read, row_values}
+use Rattle.kd_spreadsheet.specs.RowNumbers.{row_numbers}
+use Rattle.kd_spreadsheet.specs.Rows.{is_well_quoted}
+use Rattle.kd_spreadsheet.specs.Table.{AreDaysOfRows, AreRows, TableMeans}
+use Rattle.kd_spreadsheet.specs.declared.cell.Cell.{Cell}
+use Rattle.kd_spreadsheet.specs.declared.cell.Cell.TheVariants as cells
+use Rattle.kd_spreadsheet.specs.declared.columns.Columns.{Columns}
+
+-- ---- The port of the notes.
+
+-- The call only appended text to the port of the notes. If the port had failed before the call, it has failed after the
+-- call, too.
+pub record Tells (notes : Port) : Type 0 where
+  pub text : List ℕ
+  pub written : Appends notes.had notes.has text
+  pub failed : IsTrue notes.had_failed → IsTrue notes.has_failed
+
+-- `text` was written to the port of the notes or, if the port has failed, a prefix of `text`.
+pub record TellsText (notes : Port) (text : List ℕ) : Type 0 where
+  pub whole : notes.has_failed ≡ false → Appends notes.had notes.has text
+  pub part : (count : ℕ) × Appends notes.had notes.has (take count text)
+
+-- ---- What is shown of a cell: of a cell with more than 60 bytes, only the start.
+
+-- The byte that a note shows for a byte of a cell: `?` if the byte can't be printed. In a long cell, `?` also stands
+-- for each byte outside of ASCII.
+abbrev pub shown_byte : Bool → ℕ → ℕ
+shown_byte is_long byte = if nat_lt byte 32 || byte == 127 || is_long && nat_lt 127 byte then 63 else byte
+
+abbrev pub shown : List ℕ → List ℕ
+shown cell =
+    if nat_lt 60 (length cell) then map (shown_byte true) (take 60 cell) ++ codes "..."
+    else map (shown_byte false) cell
+
+-- a line of notes: a place, then words about this place
+abbrev pub line_at : List ℕ → List ℕ → List ℕ
+line_at place words = place ++ words ++ 10 ∷ []
+
+-- ---- Columns that aren't read.
+
+abbrev pub unread_words : List ℕ
+unread_words = codes ": this column isn't read\n"
+
+-- the note on the column at `place`; empty if the column has no name, or is read
+abbrev pub unread_line : List (List ℕ) → ℕ → List ℕ
+unread_line head place =
+    if is_blank (cell_at (Some place) head) || is_column_read (columns_of head) place then []
+    else codes "column " ++ shown (cell_at (Some place) head) ++ unread_words
+
+-- the notes on the unread ones of `count` columns, from `place` on, of a table whose first row is `head`
+unfoldable pub unread_from : List (List ℕ) → ℕ → ℕ → List ℕ
+unread_from head place count = flat_map (unread_line head) (range_with_len place count)
+
+-- the notes on all unread columns, among the first 64, of a table whose first row is `head`
+abbrev pub unread_note : List (List ℕ) → List ℕ
+unread_note head = unread_from head 0 64
+
+-- The table has the first row `head`.
+abbrev pub HasHead : List ℕ → List (List ℕ) → Type 0
+HasHead table head = (rows : List (List (List ℕ))) × AreRows table (head ∷ rows)
+
+-- ---- A table that means days.
+
+-- The note on a table that isn't refused, with the first row `head` and the days `days`. It has the notes on unread
+-- columns. It also warns about each day that has fewer pairs, or fewer groups, than another day of its model.
+unfoldable pub taken_note : List (List ℕ) → List Day → List ℕ
+taken_note head days = unread_note head ++ few_lines (codes "warning: ") (map counts_of days)
+
+-- `table` means the days `days`, and `note` is the note on `table`.
+pub record IsTaken (options : OptionTexts) (table : List ℕ) (days : List Day) (note : List ℕ) : Type 0 where
+  pub means : TableMeans options table days
+  pub head : List (List ℕ)
+  pub has : HasHead table head
+  pub is : note ≡ taken_note head days
+
+-- The table means days, and the note on the table was written.
+abbrev pub TellsTaken : OptionTexts → List ℕ → Port → Type 0
+TellsTaken options table notes =
+    (days : List Day) × (note : List ℕ) × IsTaken options table days note × TellsText notes note
+
+-- ---- Faults.
+
+-- the text of a row's number and, if the row's day is known, of the day
+abbrev pub row_number : ℕ → Option ℕ → List ℕ
+row_number number None = decimal number ++ codes ", "
+row_number number (Some day) = (decimal number ++ codes " (day ") ++ (decimal day ++ codes "), ")
+
+-- the words for a row's place: the row's number and, if the row's day is known, this day
+abbrev pub row_place : ℕ → Option ℕ → List ℕ
+row_place number day = codes "row " ++ row_number number day
+
+-- the name of the option that replaces a blank cell, such as `--model`; empty if the cell has no option
+abbrev pub option_name : Cell → List ℕ
+option_name cells.Model = codes "--model"
+option_name cells.Reflector = codes "--reflector"
+option_name cells.Window = codes "--window"
+option_name cell = []
+
+-- the name of a cell's column in the table. If the table lacks the column, the name of the cell's option, such as
+-- `--model`.
+abbrev pub cell_name : Columns → List (List ℕ) → Cell → List ℕ
+cell_name columns head cell =
+    option_map_or (λ place. shown (cell_at (Some place) head)) (column_of columns cell) (option_name cell)
+
+-- the words for the place of `cell`: first `row`, the words for the row's place, and then the name of the cell's column
+abbrev pub cell_place : Columns → List (List ℕ) → List ℕ → Cell → List ℕ
+cell_place columns head row cell = row ++ cell_name columns head cell ++ codes ": "
+
+-- The notes on the cells in a list, which are cells of `row`. Each line begins with the place of the cell that the line
+-- is about. There is at least one line for each cell that can't be read.
+pub data TellsCells (options : OptionTexts) (columns : Columns) (head : List (List ℕ)) (place : List ℕ)
+    (row : List (List ℕ)) : List Cell → List ℕ → Type 0 where
+  NoCells : TellsCells options columns head place row [] []
+  NextCell : (cell : Cell) (rest : List Cell) (words : List (List ℕ)) (note : List ℕ)
+      → (is_faulty options columns row cell ≡ true → 0 < length words)
+      → TellsCells options columns head place row rest note
+      → TellsCells options columns head place row (cell ∷ rest)
+      (flat_map (line_at (cell_place columns head place cell)) words ++ note)
+
+-- The notes on a row: on columns that the table lacks, then on the row's cells, then on the row as a whole. If the row
+-- isn't a day, there is at least one note on the row or on one of its cells. There may be no note if the table lacks a
+-- column that the row needs.
+pub record TellsRow (options : OptionTexts) (columns : Columns) (head : List (List ℕ)) (number : ℕ)
+    (row : List (List ℕ)) (note : List ℕ) : Type 0 where
+  pub missing : List (List ℕ)
+  pub of_cells : List ℕ
+  pub of_row : List ℕ
+  pub words : List (List ℕ)
+  pub joined : note ≡ flat_map (line_at (codes "row 1: ")) missing ++ (of_cells ++ of_row)
+  pub cells : TellsCells options columns head (row_place number (day_in (cell_at columns.day row))) row
+      (row_cells (row_model options columns row)) of_cells
+  pub whole : of_row ≡ flat_map (line_at (row_place number (day_in (cell_at columns.day row)))) words
+  pub some : IsNoDay (row_values options columns row) → has_columns options columns row ≡ true
+      → 0 < length of_cells + length words
+
+-- The notes on the rows under the first row `head`, in the order of the rows. `numbers` are the rows' numbers. Blank
+-- rows have no notes.
+pub data TellsRows (options : OptionTexts) (columns : Columns) (head : List (List ℕ)) (numbers : List ℕ)
+    : List (List (List ℕ)) → List ℕ → Type 0 where
+  NoneTold : TellsRows options columns head numbers [] []
+  BlankTold : (rows : List (List (List ℕ))) (note : List ℕ) (row : List (List ℕ))
+      → TellsRows options columns head numbers rows note → is_blank_row columns row ≡ true
+      → TellsRows options columns head numbers (rows ++ row ∷ []) note
+  RowTold : (rows : List (List (List ℕ))) (note : List ℕ) (row : List (List ℕ)) (number : ℕ) (more : List ℕ)
+      → TellsRows options columns head numbers rows note → is_blank_row columns row ≡ false
+      → IfSome (slice_get numbers (length rows)) (λ due. number ≡ due)
+      → TellsRow options columns head number row more
+      → TellsRows options columns head numbers (rows ++ row ∷ []) (note ++ more)
+
+abbrev pub quotes_note : List ℕ
+quotes_note = codes "a quote isn't closed, or something follows the closing quote of a cell\n"
+
+abbrev pub nothing_note : List ℕ
+nothing_note = codes "the table has no row with a day\n"
+
+-- The notes on a refused table:
+-- - If the table's quotes are wrong, a single line.
+-- - If the table has no rows, a single line.
+-- - Otherwise, the notes on unread columns, on misnamed or missing columns, and on each row. If a column is misnamed,
+--   there is at least one line about columns. If all rows under the first row are blank, there is at least one line
+--   about the whole table.
+pub data TellsTable (options : OptionTexts) (table : List ℕ) : List ℕ → Type 0 where
+  OfQuotes : is_well_quoted table ≡ false → TellsTable options table quotes_note
+  OfNothing : AreRows table [] → TellsTable options table nothing_note
+  OfRows : (head : List (List ℕ)) (rows : List (List (List ℕ))) (missing : List (List ℕ)) (note : List ℕ)
+      (words : List (List ℕ)) → AreRows table (head ∷ rows)
+      → TellsRows options (columns_of head) head (drop 1 (row_numbers table)) rows note
+      → (list_all (is_blank_row (columns_of head)) rows ≡ true → 0 < length words)
+      → (is_misnamed (columns_of head) head ≡ true → 0 < length missing)
+      → TellsTable options table
+      (unread_note head ++ (flat_map (line_at (codes "row 1: ")) missing ++ (note ++ flat_map (line_at []) words)))
+
+-- The notes on a refused table were written.
+abbrev pub TellsRefused : OptionTexts → List ℕ → Port → Type 0
+TellsRefused options table notes = (text : List ℕ) × TellsTable options table text × TellsText notes text
+
+-- ---- Reading row by row. No public contract cites these definitions.
+
+-- `new` is `old`, followed by the notes on a row's cells and on the row as a whole. If the row isn't a day, and the
+-- table has each column that the row needs, there is at least one note.
+pub record TellsPlacedRow (options : OptionTexts) (columns : Columns) (head : List (List ℕ)) (place : List ℕ)
+    (row : List (List ℕ)) (old new : List ℕ) : Type 0 where
+  pub of_cells : List ℕ
+  pub words : List (List ℕ)
+  pub appended : new ≡ old ++ (of_cells ++ flat_map (line_at place) words)
+  pub cells : TellsCells options columns head place row (row_cells (row_model options columns row)) of_cells
+  pub some : IsNoDay (row_values options columns row) → has_columns options columns row ≡ true
+      → 0 < length of_cells + length words
+
+-- `new` is `old`, followed by the notes on the rows under the first row `head`. If all these rows are blank, a line
+-- about the whole table follows.
+pub record HasRowsNote (options : OptionTexts) (columns : Columns) (head : List (List ℕ)) (table old new : List ℕ)
+    : Type 0 where
+  pub rows : List (List (List ℕ))
+  pub text : List ℕ
+  pub words : List (List ℕ)
+  pub are : AreRows table (head ∷ rows)
+  pub appended : new ≡ old ++ (text ++ flat_map (line_at []) words)
+  pub told : TellsRows options columns head (drop 1 (row_numbers table)) rows text
+  pub empty : list_all (is_blank_row columns) rows ≡ true → 0 < length words
+
+-- `rows`, the rows under the first row, have the days `days`, at least one. No column is misnamed, and `note` is the
+-- note on the table.
+pub record IsTakenOfRows (options : OptionTexts) (head : List (List ℕ)) (rows : List (List (List ℕ))) (days : List Day)
+    (note : List ℕ) : Type 0 where
+  pub named : is_misnamed (columns_of head) head ≡ false
+  pub described : AreDaysOfRows options (columns_of head) rows days
+  pub some : 0 < length days
+  pub is : note ≡ taken_note head days

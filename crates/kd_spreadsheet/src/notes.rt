@@ -1,0 +1,159 @@
+//! Writes notes on the faults of a table.
+//!
+//! It is proved which rows and cells have notes. The words of the notes are only tested.
+ghost use Rattle.std.specs.Prelude.{◌≡◌, ◌<◌, ◌&&◌, ◌++◌, ◌∷◌, [], true, codes, flat_map, length, map, slice_get, ℕ, List, IfOk, IfSome};
+ghost use Rattle.csv.specs.Records.{fields_of};
+ghost use Rattle.kd_tables.specs.Ports.{port};
+ghost use Rattle.kd_spreadsheet.specs.Notes.{line_at, unread_note, HasRowsNote, Tells, TellsRows, TellsTable, TellsText};
+ghost use Rattle.kd_spreadsheet.specs.NearNames.{is_misnamed};
+ghost use Rattle.kd_spreadsheet.specs.Options.{texts_of};
+ghost use Rattle.kd_spreadsheet.specs.Row.{is_blank_row};
+ghost use Rattle.kd_spreadsheet.specs.Table.{AreRows};
+
+mod cell_words;
+mod found;
+mod head;
+mod head_words;
+mod letter_words;
+mod note;
+mod row_note;
+mod row_numbers;
+mod taken;
+mod unread;
+mod words;
+
+use crate::columns::Columns;
+use crate::fault::SpreadsheetFault;
+use crate::near_names::is_misnamed;
+use crate::options::TableOptions;
+use crate::quotes::{is_well_quoted, separator_of, strip_bom};
+use crate::records::read_records;
+use crate::row::is_blank_row;
+use csv::ByteRecord;
+use found::Found;
+use head::Head;
+use head_words::head_words;
+use kd_tables::{Sink, put_all};
+use note::{push_bytes, push_due_words, push_line};
+use row_note::push_row;
+use row_numbers::RowNumbers;
+use std::alloc::Global;
+pub use taken::taken_note;
+use unread::unread_note;
+use words::Words;
+
+/// Writes `note` to the sink `notes`. A failure of the sink is ignored.
+pub fn put_note<N: Sink>(notes: &mut N, note: &[u8])
+    ensures told { Tells (port N.taken N.has_failed notes.old notes.new) }
+    ensures text { TellsText (port N.taken N.has_failed notes.old notes.new) note.now }
+{
+    let _ = put_all(notes, note);
+}
+
+/// The notes on a refused table: on its quotes, its unread columns, its missing columns, and its rows.
+pub fn refused_note(
+    alloc: Global,
+    table: &[u8],
+    options: &TableOptions<&[u8]>,
+) -> Result<Vec<u8>, SpreadsheetFault>
+    ensures { IfOk result (λ note. TellsTable (texts_of options.now) table.now note.items) }
+{
+    let mut note = Vec::new(alloc);
+    if !is_well_quoted(table) {
+        push_line(&mut note, b"", OPEN_QUOTE)?;
+        return Ok(note);
+    }
+    push_table(&mut note, alloc, table, options)?;
+    Ok(note)
+}
+
+/// The note on a table whose quotes are wrong.
+const OPEN_QUOTE: &[u8] = b"a quote isn't closed, or something follows the closing quote of a cell";
+
+/// Appends the notes on a refused table whose quotes are right.
+fn push_table(
+    note: &mut Vec<u8>,
+    alloc: Global,
+    table: &[u8],
+    options: &TableOptions<&[u8]>,
+) -> Result<(), SpreadsheetFault>
+    requires { note.old.items ≡ [] }
+    ensures { IfOk result (λ _. TellsTable (texts_of options.now) table.now note.new.items) }
+{
+    let records = read_records(alloc, table)?;
+    let [names, rows @ ..] = records.as_slice() else {
+        return push_line(note, b"", NO_DAY.as_bytes());
+    };
+    let columns = Columns::of_head(names);
+    let head = Head::new(alloc, options, &columns, names);
+    push_head(note, &head)?;
+    push_rows(note, table, &head, rows)
+}
+
+/// The note on a table without rows, or with only blank rows under the first row.
+const NO_DAY: &str = "the table has no row with a day";
+
+/// Appends the notes on unread columns, on misnamed columns, and on missing columns that every table needs.
+fn push_head(note: &mut Vec<u8>, head: &Head<'_>) -> Result<(), SpreadsheetFault>
+    ensures { IfOk result (λ _. (missing : List (List ℕ)) × (note.new.items ≡ note.old.items
+        ++ (unread_note head.now.names ++ flat_map (line_at (codes "row 1: ")) missing))
+        × (is_misnamed head.now.columns head.now.names ≡ true → 0 < length missing)) }
+{
+    let unread = unread_note(head.alloc(), head.names())?;
+    push_bytes(note, unread.as_slice())?;
+    let is_due = is_misnamed(head.columns(), head.names());
+    push_due_words(note, b"row 1: ", &head_words(head), is_due, MISNAMED)
+}
+
+/// The note on a table with a misnamed column, if no other line says what is wrong with the columns.
+const MISNAMED: &str = "the name of a column is nearly that of another, which isn't there";
+
+fn push_rows(
+    note: &mut Vec<u8>,
+    table: &[u8],
+    head: &Head<'_>,
+    rows: &[ByteRecord],
+) -> Result<(), SpreadsheetFault>
+    requires { AreRows table.now (head.now.names ∷ map fields_of rows.now) }
+    ensures { IfOk result (λ _. HasRowsNote head.now.options head.now.columns head.now.names
+        table.now note.old.items note.new.items) }
+{
+    let mut numbers = RowNumbers::new(separator_of(table), strip_bom(table));
+    numbers.next_row();
+    let mut found = Found::new();
+    let mut blank = true;
+    for row in rows {
+        let number = numbers.next_row();
+        push_body_row(note, &mut found, head, number, row)?;
+        blank = is_still_blank(blank, head, row);
+    }
+    push_due_words(note, b"", &Words::new(), blank, NO_DAY)
+}
+
+/// Appends the notes on a row under the first row. A blank row has no notes.
+fn push_body_row(
+    note: &mut Vec<u8>,
+    found: &mut Found,
+    head: &Head<'_>,
+    number: u64,
+    row: &ByteRecord,
+) -> Result<(), SpreadsheetFault>
+    ensures { IfOk result (λ _. (more : List ℕ) × (note.new.items ≡ note.old.items ++ more)
+        × ((numbers : List ℕ) (rows : List (List (List ℕ))) (text : List ℕ)
+        → IfSome (slice_get numbers (length rows)) (λ due. number ≡ due)
+        → TellsRows head.now.options head.now.columns head.now.names numbers rows text
+        → TellsRows head.now.options head.now.columns head.now.names numbers
+        (rows ++ fields_of row.now ∷ []) (text ++ more))) }
+{
+    if is_blank_row(head.columns(), row) {
+        return Ok(());
+    }
+    push_row(note, found, head, number, row)
+}
+
+/// Whether `row` and all rows before it are blank. `blank` says whether all rows before `row` are blank.
+fn is_still_blank(blank: bool, head: &Head<'_>, row: &ByteRecord) -> bool
+    ensures { result ≡ (blank && is_blank_row head.now.columns (fields_of row.now)) }
+{
+    blank && is_blank_row(head.columns(), row)
+}

@@ -1,0 +1,115 @@
+//! `Head` and `PlacedRow`: the values from which notes on a table's rows are made.
+use crate::columns::Columns;
+use crate::options::TableOptions;
+use csv::ByteRecord;
+use std::alloc::Global;
+
+/// The options, the columns and the first row of a table, for the notes on each row. The first row has the columns'
+/// names.
+#[derive(Drop)]
+pub struct Head<'a> {
+    alloc: Global,
+    options: &'a TableOptions<&'a [u8]>,
+    columns: &'a Columns,
+    names: &'a ByteRecord,
+}
+
+impl<'a> std::marker::Model for Head<'a> {
+    ghost use Rattle.csv.specs.Records.{fields_of};
+    ghost use Rattle.kd_spreadsheet.specs.Head.{Head};
+    ghost use Rattle.kd_spreadsheet.specs.Options.{texts_of};
+
+    ghost Value = { Head };
+
+    ghost view = { λ head. record {
+      options = texts_of head.options.now;
+      columns = head.columns.now;
+      names = fields_of head.names.now;
+    } };
+}
+
+impl<'a> Head<'a> {
+    ghost use Rattle.std.specs.Prelude.{◌≡◌};
+    ghost use Rattle.csv.specs.Records.{fields_of};
+    ghost use Rattle.kd_spreadsheet.specs.Head.{head_of};
+    ghost use Rattle.kd_spreadsheet.specs.Options.{texts_of};
+
+    /// The head of a table whose first row is `names`.
+    pub fn new(
+        alloc: Global,
+        options: &'a TableOptions<&'a [u8]>,
+        columns: &'a Columns,
+        names: &'a ByteRecord,
+    ) -> Self
+        ensures { result ≡ head_of (texts_of options.now) columns.now (fields_of names.now) }
+    {
+        Head {
+            alloc,
+            options,
+            columns,
+            names,
+        }
+    }
+
+    pub fn alloc(&self) -> Global {
+        self.alloc
+    }
+
+    pub fn options(&self) -> &'a TableOptions<&'a [u8]>
+        ensures { texts_of result.now ≡ self.now.options }
+    {
+        self.options
+    }
+
+    pub fn columns(&self) -> &'a Columns
+        ensures { result.now ≡ self.now.columns }
+    {
+        self.columns
+    }
+
+    pub fn names(&self) -> &'a ByteRecord
+        ensures { fields_of result.now ≡ self.now.names }
+    {
+        self.names
+    }
+}
+
+/// A row, and the words for its place. Each line about the row begins with these words.
+#[derive(Drop)]
+pub struct PlacedRow<'a> {
+    place: &'a [u8],
+    cells: &'a ByteRecord,
+}
+
+impl<'a> std::marker::Model for PlacedRow<'a> {
+    ghost use Rattle.csv.specs.Records.{fields_of};
+    ghost use Rattle.kd_spreadsheet.specs.Head.{PlacedRow};
+
+    ghost Value = { PlacedRow };
+
+    ghost view = { λ row. record { place = row.place.now; cells = fields_of row.cells.now } };
+}
+
+impl<'a> PlacedRow<'a> {
+    ghost use Rattle.std.specs.Prelude.{◌≡◌};
+    ghost use Rattle.csv.specs.Records.{fields_of};
+    ghost use Rattle.kd_spreadsheet.specs.Head.{placed_row};
+
+    pub fn new(place: &'a [u8], cells: &'a ByteRecord) -> Self
+        ensures { result ≡ placed_row place.now (fields_of cells.now) }
+    {
+        PlacedRow { place, cells }
+    }
+
+    pub fn place(&self) -> &'a [u8]
+        ensures { result.now ≡ self.now.place }
+    {
+        self.place
+    }
+
+    pub fn cells(&self) -> &'a ByteRecord
+        ensures { fields_of result.now ≡ self.now.cells }
+    {
+        self.cells
+    }
+}

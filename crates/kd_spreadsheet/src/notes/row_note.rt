@@ -1,0 +1,192 @@
+//! The notes on a row.
+ghost use Rattle.std.specs.Prelude.{◌≡◌, ◌++◌, ◌<◌, [], ℕ, List, true, flat_map, length, IfOk};
+ghost use Rattle.std.specs.Option.{option_map_or};
+ghost use Rattle.csv.specs.Records.{fields_of};
+ghost use Rattle.kd_spreadsheet.specs.Cells.{cells_of, day_in, has_columns, is_faulty, row_cells, row_model};
+ghost use Rattle.kd_spreadsheet.specs.Columns.{cell_at};
+ghost use Rattle.kd_spreadsheet.specs.Notes.{cell_place, line_at, row_place, TellsCells, TellsPlacedRow, TellsRow};
+ghost use Rattle.kd_spreadsheet.specs.Row.{row_values, IsNoDay};
+
+use super::cell_words::cell_words;
+use super::found::Found;
+use super::head::{Head, PlacedRow};
+use super::note::{cell_place, push_due_words, push_words, row_place};
+use super::words::Words;
+use crate::cell::{Cell, day_in, has_columns, has_text, is_read, known_cells, row_model, text_of};
+use crate::columns::cell_at;
+use crate::fault::SpreadsheetFault;
+use crate::items::is_blank;
+use crate::row::row_day;
+use csv::ByteRecord;
+
+/// Appends the notes on a row that isn't blank. Adds the row's day and model to `found`.
+pub fn push_row(
+    note: &mut Vec<u8>,
+    found: &mut Found,
+    head: &Head<'_>,
+    number: u64,
+    row: &ByteRecord,
+) -> Result<(), SpreadsheetFault>
+    ensures { IfOk result (λ _. (more : List ℕ) × (note.new.items ≡ note.old.items ++ more)
+        × TellsRow head.now.options head.now.columns head.now.names number
+        (fields_of row.now) more) }
+{
+    let place = place_of_row(head, number, row)?;
+    let missing = found.missing(head, row);
+    let day_words = found.day_words(head.columns(), row, number);
+    push_words(note, b"row 1: ", &missing)?;
+    push_placed_row(note, head, place.as_slice(), row, &day_words)
+}
+
+/// The words for a row's place: the row's number and, if the row's day is known, this day.
+fn place_of_row(head: &Head<'_>, number: u64, row: &ByteRecord) -> Result<Vec<u8>, SpreadsheetFault>
+    ensures { IfOk result (λ place. place.items
+        ≡ row_place number (day_in (cell_at head.now.columns.day (fields_of row.now)))) }
+{
+    let day = day_in(cell_at(row, head.columns().day));
+    row_place(head.alloc(), number, day)
+}
+
+/// Appends the notes on a row's cells, and on the row as a whole.
+fn push_placed_row(
+    note: &mut Vec<u8>,
+    head: &Head<'_>,
+    place: &[u8],
+    row: &ByteRecord,
+    day_words: &Words,
+) -> Result<(), SpreadsheetFault>
+    ensures { IfOk result (λ _. TellsPlacedRow head.now.options head.now.columns head.now.names
+        place.now (fields_of row.now) note.old.items note.new.items) }
+{
+    let start = note.len();
+    push_row_cells(note, head, &PlacedRow::new(place, row), day_words)?;
+    let is_due = is_untold(head, row, start, note.len());
+    push_due_words(
+        note,
+        place,
+        &end_words(head, row),
+        is_due,
+        "this row isn't a day",
+    )
+}
+
+/// Appends the notes on all cells of a row.
+fn push_row_cells(
+    note: &mut Vec<u8>,
+    head: &Head<'_>,
+    row: &PlacedRow<'_>,
+    day_words: &Words,
+) -> Result<(), SpreadsheetFault>
+    ensures { IfOk result (λ _. (more : List ℕ) × (note.new.items ≡ note.old.items ++ more)
+        × TellsCells head.now.options head.now.columns head.now.names row.now.place row.now.cells
+        (row_cells (row_model head.now.options head.now.columns row.now.cells)) more) }
+{
+    let known = cells_of_row(head, row);
+    push_cell(note, head, row, Cell::Day, day_words)?;
+    let model_words = words_of(head, row, Cell::Model);
+    push_cell(note, head, row, Cell::Model, &model_words)?;
+    push_cells(note, head, row, known)
+}
+
+/// The cells of a row that depend on the row's model. No cells if the model's name can't be read.
+fn cells_of_row(head: &Head<'_>, row: &PlacedRow<'_>) -> &'static [Cell]
+    ensures { result.now ≡ option_map_or cells_of
+        (row_model head.now.options head.now.columns row.now.cells) [] }
+{
+    known_cells(head.options(), head.columns(), row.cells())
+}
+
+fn push_cell(
+    note: &mut Vec<u8>,
+    head: &Head<'_>,
+    row: &PlacedRow<'_>,
+    cell: Cell,
+    words: &Words,
+) -> Result<(), SpreadsheetFault>
+    ensures { IfOk result (λ _. (lines : List (List ℕ))
+        × (note.new.items ≡ note.old.items
+        ++ flat_map (line_at (cell_place head.now.columns head.now.names row.now.place cell)) lines)
+        × (is_faulty head.now.options head.now.columns row.now.cells cell ≡ true
+        → 0 < length lines)) }
+{
+    let place = cell_place(head, row.place(), cell)?;
+    let is_due = is_faulty(head, row, cell);
+    push_due_words(note, place.as_slice(), words, is_due, "this can't be read")
+}
+
+/// Whether the text of `cell` can't be read, though there is a column or an option for the cell.
+fn is_faulty(head: &Head<'_>, row: &PlacedRow<'_>, cell: Cell) -> bool
+    ensures { result ≡ is_faulty head.now.options head.now.columns row.now.cells cell }
+{
+    let options = head.options();
+    let columns = head.columns();
+    if !has_text(options, columns, cell) {
+        return false;
+    }
+    let model = row_model(options, columns, row.cells());
+    !is_read(model, cell, text_of(options, columns, row.cells(), cell))
+}
+
+/// Says what is wrong with `cell`.
+fn words_of(head: &Head<'_>, row: &PlacedRow<'_>, cell: Cell) -> Words {
+    let options = head.options();
+    let columns = head.columns();
+    if !has_text(options, columns, cell) {
+        return Words::new();
+    }
+    let model = row_model(options, columns, row.cells());
+    cell_words(cell, model, text_of(options, columns, row.cells(), cell))
+}
+
+fn push_cells(
+    note: &mut Vec<u8>,
+    head: &Head<'_>,
+    row: &PlacedRow<'_>,
+    cells: &[Cell],
+) -> Result<(), SpreadsheetFault>
+    ensures { IfOk result (λ _. (more : List ℕ) × (note.new.items ≡ note.old.items ++ more)
+        × TellsCells head.now.options head.now.columns head.now.names row.now.place
+        row.now.cells cells.now more) }
+{
+    if let [cell, rest @ ..] = cells {
+        let words = words_of(head, row, *cell);
+        push_cell(note, head, row, *cell, &words)?;
+        return push_cells(note, head, row, rest);
+    }
+    Ok(())
+}
+
+/// Whether a row isn't a day, though its cells have no notes. `start` and `end` are the note's lengths before and after
+/// the cells' notes. False if the table lacks a column that the row needs.
+fn is_untold(head: &Head<'_>, row: &ByteRecord, start: usize, end: usize) -> bool
+    ensures { IsNoDay (row_values head.now.options head.now.columns (fields_of row.now))
+        → has_columns head.now.options head.now.columns (fields_of row.now) ≡ true
+        → end ≡ start → result ≡ true }
+{
+    let options = head.options();
+    let columns = head.columns();
+    if end != start || !has_columns(options, columns, row) {
+        return false;
+    }
+    match row_day(options, columns, row) {
+        Some(_) => false,
+        None => true,
+    }
+}
+
+/// Says before which column a row ends, or which texts stand beyond the last column.
+fn end_words(head: &Head<'_>, row: &ByteRecord) -> Words {
+    let mut lines = Words::new();
+    let count = head.columns().count;
+    if row.len() < count {
+        let name = cell_at(head.names(), Some(row.len()));
+        lines.tell_item("", name, ": the row ends before this column");
+    }
+    for column in count..row.len() {
+        let cell = cell_at(row, Some(column));
+        if !is_blank(cell) {
+            lines.tell_item("beyond the last column: ", cell, " is there");
+        }
+    }
+    lines
+}

@@ -1,0 +1,63 @@
+//! The notes on unread columns.
+ghost use Rattle.std.specs.Prelude.{◌≡◌, ◌++◌, ◌+◌, ◌≤◌, IfOk};
+ghost use Rattle.csv.specs.Records.{fields_of};
+ghost use Rattle.kd_spreadsheet.specs.Columns.{columns_of};
+ghost use Rattle.kd_spreadsheet.specs.Notes.{unread_from, unread_line, unread_note};
+
+use super::note::{push_bytes, push_shown};
+use crate::columns::{Columns, cell_at};
+use crate::fault::SpreadsheetFault;
+use crate::items::is_blank;
+use crate::row::is_column_read;
+use csv::ByteRecord;
+use std::alloc::Global;
+
+/// The notes on unread columns, among the first 64, of a table whose first row is `head`.
+pub fn unread_note(alloc: Global, head: &ByteRecord) -> Result<Vec<u8>, SpreadsheetFault>
+    ensures { IfOk result (λ note. note.items ≡ unread_note (fields_of head.now)) }
+{
+    let mut note = Vec::new(alloc);
+    push_unread(&mut note, &Columns::of_head(head), head, 0, 64)?;
+    Ok(note)
+}
+
+/// Appends the notes on unread columns from `place` on.
+#[tactic(auto, unfolding(crate::specs::Notes::unread_from))]
+fn push_unread(
+    note: &mut Vec<u8>,
+    columns: &Columns,
+    head: &ByteRecord,
+    place: usize,
+    count: usize,
+) -> Result<(), SpreadsheetFault>
+    requires columns { columns.now ≡ columns_of (fields_of head.now) }
+    requires few { place + count ≤ 64 }
+    ensures { IfOk result (λ _. note.new.items
+        ≡ note.old.items ++ unread_from (fields_of head.now) place count) }
+{
+    if count == 0 {
+        return Ok(());
+    }
+    push_unread_line(note, columns, head, place)?;
+    push_unread(note, columns, head, place + 1, count - 1)
+}
+
+/// Appends the note on the column at `place`, if the column has a name, but isn't read.
+fn push_unread_line(
+    note: &mut Vec<u8>,
+    columns: &Columns,
+    head: &ByteRecord,
+    place: usize,
+) -> Result<(), SpreadsheetFault>
+    requires { columns.now ≡ columns_of (fields_of head.now) }
+    ensures { IfOk result (λ _. note.new.items
+        ≡ note.old.items ++ unread_line (fields_of head.now) place) }
+{
+    let name = cell_at(head, Some(place));
+    if is_blank(name) || is_column_read(columns, place) {
+        return Ok(());
+    }
+    push_bytes(note, b"column ")?;
+    push_shown(note, name)?;
+    push_bytes(note, b": this column isn't read\n")
+}

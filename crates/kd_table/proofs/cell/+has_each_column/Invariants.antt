@@ -1,5 +1,0 @@
-use Rattle.std.proofs.Common.{length}
-use Rattle.kd_table.proofs.cell.+has_each_column.Given as goal
-
-abbrev pub decreases-has_each_column : goal.decreases-has_each_column
-decreases-has_each_column l = length l.cells.now

@@ -1,4 +1,0 @@
-use Rattle.kd_table.proofs.near_names.+near_from.Given as goal
-
-abbrev pub decreases-near_from : goal.decreases-near_from
-decreases-near_from l = l.count

@@ -1,6 +1,0 @@
-use Rattle.std.proofs.Common.{◌≡◌, map, take}
-use Rattle.kd_slips.specs.Counts.{counts_of}
-use Rattle.kd_table.proofs.notes.taken.counts_of_days.Given as goal
-
-abbrev pub invariant-loop-day : goal.invariant-loop-day
-invariant-loop-day l = l.counts.items ≡ map counts_of (take l.day-index l.days)

@@ -1,5 +1,0 @@
-use Rattle.std.proofs.Common.{length}
-use Rattle.kd_table.proofs.row.+has_nothing.Given as goal
-
-abbrev pub decreases-has_nothing : goal.decreases-has_nothing
-decreases-has_nothing l = length l.columns.now
