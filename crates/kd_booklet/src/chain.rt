@@ -30,27 +30,6 @@ pub fn plan_days(machine: &Machine, sheet: &Sheet, numbers: &[u8]) -> Result<Day
     Ok(plans)
 }
 
-/// Plans the days `numbers`, and appends their plans to `plans`.
-fn add_plans(
-    plans: &mut DayPlans,
-    machine: &Machine,
-    sheet: &Sheet,
-    numbers: &[u8],
-) -> Result<(), DayFault>
-    requires { array_vec_len plans.old + length numbers.now ≤ 31 }
-    ensures planned { OnOk result
-        (AddsPlans sheet.now machine.now numbers.now plans.old.items plans.new.items) }
-    ensures fault { IfErr result (IsFirstFault (model_of machine.now) sheet.now numbers.now) }
-{
-    let Some((number, numbers)) = numbers.split_first() else {
-        return Ok(());
-    };
-    let day = day_of_model(machine, sheet, *number)?;
-    let (plan, after) = plan_day(machine, day);
-    plans.push(plan);
-    add_plans(plans, &after, sheet, numbers)
-}
-
 /// The day `number` of the sheet, if the day is for the machine's model. The fault says that the sheet doesn't have the
 /// day, or that the models differ.
 pub fn day_of_model<'a>(
@@ -75,4 +54,25 @@ pub fn day_of_model<'a>(
         });
     }
     Ok(day)
+}
+
+/// Plans the days `numbers`, and appends their plans to `plans`.
+fn add_plans(
+    plans: &mut DayPlans,
+    machine: &Machine,
+    sheet: &Sheet,
+    numbers: &[u8],
+) -> Result<(), DayFault>
+    requires { array_vec_len plans.old + length numbers.now ≤ 31 }
+    ensures planned { OnOk result
+        (AddsPlans sheet.now machine.now numbers.now plans.old.items plans.new.items) }
+    ensures fault { IfErr result (IsFirstFault (model_of machine.now) sheet.now numbers.now) }
+{
+    let Some((number, numbers)) = numbers.split_first() else {
+        return Ok(());
+    };
+    let day = day_of_model(machine, sheet, *number)?;
+    let (plan, after) = plan_day(machine, day);
+    plans.push(plan);
+    add_plans(plans, &after, sheet, numbers)
 }

@@ -12,7 +12,8 @@ ghost use Rattle.kd_booklet.specs.Booklet.{ArePages, AreDrawable, IsBooklet, IsD
 
 use crate::day_plan::DayPlan;
 use arrayvec::ArrayVec;
-use kd_page::{Language, ListedDay, Page, draw, draw_day, draw_foot, draw_head};
+use kd_page::{FileDays, Language, ListedDay, Page, draw_day, draw_foot, draw_head};
+use kd_pictures::draw;
 use kd_state::{Machine, Parts, carry_all};
 use kd_tables::{Device, Sink};
 
@@ -73,17 +74,16 @@ fn draw_listed<W: Sink>(
 {
     let mut listed = ArrayVec::new();
     list_days(&mut listed, others);
-    draw_head(
-        sink,
+    let days = FileDays {
         language,
-        machine.model(),
+        model: machine.model(),
         sheet,
-        listed_day(first),
-        listed.as_slice(),
-    );
+        first: listed_day(first),
+        others: listed.as_slice(),
+    };
+    draw_head(sink, &days);
 }
 
-/// Adds the planned days to `listed`.
 fn list_days(listed: &mut ArrayVec<ListedDay, 31>, plans: &[DayPlan])
     requires { array_vec_len listed.old + length plans.now ≤ 31 }
     ensures { listed.new.items ≡ listed.old.items ++ map listed_day plans.now }

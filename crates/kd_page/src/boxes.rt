@@ -10,6 +10,7 @@ ghost use Rattle.kd_pictures.specs.declared.numbers.TheConstants.{SLOTS as ALL_S
 
 use crate::page::Page;
 use crate::spots::{Spot, is_at};
+use kd_pictures::Language;
 use kd_pictures::numbers::SLOTS;
 use kd_pictures::template::{Value, fill, fill_in};
 use kd_pictures::texts::{
@@ -17,7 +18,6 @@ use kd_pictures::texts::{
 };
 use kd_pictures::wheels::is_seated;
 use kd_pictures::words::{Mark, Word};
-use kd_pictures::{Language, draw};
 use kd_state::{Machine, Setting};
 use kd_tables::{Letter, Lug, Model, Place, Sink, Standing, Wheel};
 
@@ -26,6 +26,27 @@ pub(crate) fn draw_boxes<W: Sink>(sink: &mut W, page: &Page<'_>, spot: &Spot)
     ensures { Draws W.taken W.has_failed sink.old sink.new (boxes_at page.now spot.now) }
 {
     draw_boxes_of(sink, page, spot, page.settings());
+}
+
+/// Which of `slots` holds the wheel. `None` if none of them holds it: it is then a spare wheel in the box.
+pub(crate) fn slot_holding(machine: &Machine, wheel: Wheel, slots: &[u8]) -> Option<u8>
+    ensures { result ≡ slot_holding machine.now wheel slots.now }
+{
+    match slots {
+        [slot, ..] if is_seated(machine, *slot, wheel) => Some(*slot),
+        [_, rest @ ..] => slot_holding(machine, wheel, rest),
+        [] => None,
+    }
+}
+
+pub(crate) fn pin_mark(effective: bool) -> Mark
+    ensures { result ≡ pin_mark effective }
+{
+    if effective {
+        Mark::Effective
+    } else {
+        Mark::Ineffective
+    }
 }
 
 /// Writes the checkbox of each setting of `settings` whose checkbox is at `spot`.
@@ -45,8 +66,6 @@ fn draw_box_at<W: Sink>(sink: &mut W, page: &Page<'_>, spot: &Spot, setting: &Se
 {
     if is_at(spot, setting) {
         draw_box(sink, page, setting);
-    } else {
-        draw(sink, "");
     }
 }
 
@@ -142,12 +161,24 @@ fn draw_from_box<W: Sink>(sink: &mut W, page: &Page<'_>, slot: u8, wheel: Wheel)
     fill(sink, page.language(), SEAT_END, &[line]);
 }
 
+/// The name of a slot: right, middle, left or, on the M4, Greek.
+fn slot_name(model: Model, slot: u8) -> Word
+    ensures { result ≡ slot_name model slot }
+{
+    match model.slots().saturating_sub(slot) {
+        0 => Word::Right,
+        1 => Word::Middle,
+        2 => Word::Left,
+        _ => Word::Greek,
+    }
+}
+
 /// Writes the letter on which the ring of a spare wheel has to stand.
 fn draw_box_ring<W: Sink>(sink: &mut W, language: Language, ring: Option<Letter>)
     ensures { Draws W.taken W.has_failed sink.old sink.new (box_ring_text language ring) }
 {
     match ring {
-        None => draw(sink, ""),
+        None => {}
         Some(ring) => fill_in(
             sink,
             language,
@@ -155,6 +186,12 @@ fn draw_box_ring<W: Sink>(sink: &mut W, language: Language, ring: Option<Letter>
             &[Value::Letter(ring), Value::Ordinal(ring)],
         ),
     }
+}
+
+fn pin_word(effective: bool) -> Word
+    ensures { result ≡ pin_word effective }
+{
+    if effective { Word::On } else { Word::Off }
 }
 
 /// Writes the checkbox to move a lug to a place of its bar. The checkbox also has the lug's place before the settings.
@@ -170,40 +207,6 @@ fn draw_lug<W: Sink>(sink: &mut W, page: &Page<'_>, bar: u8, lug: Lug, place: Pl
     fill_in(sink, language, LUG_END, &[Value::Place(place), line]);
 }
 
-/// Writes the place of the lug before the settings. If the machine has no bar with this number, writes nothing.
-fn draw_lug_from<W: Sink>(sink: &mut W, language: Language, lug: Lug, bar: Option<Standing>)
-    ensures { Draws W.taken W.has_failed sink.old sink.new (lug_from_text language lug bar) }
-{
-    match (bar, lug) {
-        (None, _) => draw(sink, ""),
-        (Some(bar), Lug::Left) => fill_in(sink, language, LUG_FROM, &[Value::Place(bar.left())]),
-        (Some(bar), Lug::Right) => fill_in(sink, language, LUG_FROM, &[Value::Place(bar.right())]),
-    }
-}
-
-/// The name of a slot: right, middle, left or, on the M4, Greek.
-fn slot_name(model: Model, slot: u8) -> Word
-    ensures { result ≡ slot_name model slot }
-{
-    match model.slots().saturating_sub(slot) {
-        0 => Word::Right,
-        1 => Word::Middle,
-        2 => Word::Left,
-        _ => Word::Greek,
-    }
-}
-
-/// Which of `slots` holds the wheel. `None` if none of them holds it: it is then a spare wheel in the box.
-pub(crate) fn slot_holding(machine: &Machine, wheel: Wheel, slots: &[u8]) -> Option<u8>
-    ensures { result ≡ slot_holding machine.now wheel slots.now }
-{
-    match slots {
-        [slot, ..] if is_seated(machine, *slot, wheel) => Some(*slot),
-        [_, rest @ ..] => slot_holding(machine, wheel, rest),
-        [] => None,
-    }
-}
-
 fn lug_word(lug: Lug) -> Word
     ensures { result ≡ lug_word lug }
 {
@@ -213,18 +216,13 @@ fn lug_word(lug: Lug) -> Word
     }
 }
 
-pub(crate) fn pin_mark(effective: bool) -> Mark
-    ensures { result ≡ pin_mark effective }
+/// Writes the place of the lug before the settings. If the machine has no bar with this number, writes nothing.
+fn draw_lug_from<W: Sink>(sink: &mut W, language: Language, lug: Lug, bar: Option<Standing>)
+    ensures { Draws W.taken W.has_failed sink.old sink.new (lug_from_text language lug bar) }
 {
-    if effective {
-        Mark::Effective
-    } else {
-        Mark::Ineffective
+    match (bar, lug) {
+        (None, _) => {}
+        (Some(bar), Lug::Left) => fill_in(sink, language, LUG_FROM, &[Value::Place(bar.left())]),
+        (Some(bar), Lug::Right) => fill_in(sink, language, LUG_FROM, &[Value::Place(bar.right())]),
     }
-}
-
-fn pin_word(effective: bool) -> Word
-    ensures { result ≡ pin_word effective }
-{
-    if effective { Word::On } else { Word::Off }
 }

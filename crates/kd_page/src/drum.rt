@@ -1,9 +1,9 @@
 //! The table of a Converter's bars, with marks for the lugs that stay, leave a place, or come to a place.
 ghost use Rattle.std.specs.Prelude.{◌≡◌, ◌++◌, flat_map};
 ghost use Rattle.kd_tables.specs.Places.{places};
-ghost use Rattle.kd_state.specs.Machine.{machine_standing};
+ghost use Rattle.kd_state.specs.{Machine.{machine_standing}, Setting.{is_same_place}};
 ghost use Rattle.kd_pictures.specs.Drawing.{Draws};
-ghost use Rattle.kd_page.specs.Drum.{bar_item, bar_end, bar_head, bar_row, cell_mark, drum_head, has_lug};
+ghost use Rattle.kd_page.specs.Drum.{bar_end, bar_head, bar_row, cell_mark, drum_head, has_lug};
 ghost use Rattle.kd_page.specs.Drum.{is_same_standing, lug_cell, lugs_step, marked_cell};
 
 use crate::boxes::draw_boxes;
@@ -19,7 +19,6 @@ use kd_pictures::words::{Mark, Word};
 use kd_pictures::{Language, draw};
 use kd_tables::{Place, Sink, Standing};
 
-/// Writes the step in which lugs are moved.
 pub(crate) fn draw_lugs_step<W: Sink>(sink: &mut W, page: &Page<'_>)
     ensures { Draws W.taken W.has_failed sink.old sink.new
         (lugs_step page.now) }
@@ -71,20 +70,13 @@ fn draw_bar<W: Sink>(
 )
     ensures { Draws W.taken W.has_failed sink.old sink.new (bar_row page.now bar was is) }
 {
-    match (was, is) {
-        (Some(was), Some(is)) => draw_bar_item(sink, page, bar, was, is),
-        _ => draw(sink, ""),
+    if let (Some(was), Some(is)) = (was, is) {
+        let spot = Step::Lugs.row(bar);
+        draw_bar_head(sink, page.language(), bar, was, is);
+        draw_cells(sink, page.language(), was, is, &Place::all());
+        draw_boxes(sink, page, &spot);
+        draw(sink, bar_end(page.count_at(&spot)));
     }
-}
-
-fn draw_bar_item<W: Sink>(sink: &mut W, page: &Page<'_>, bar: u8, was: Standing, is: Standing)
-    ensures { Draws W.taken W.has_failed sink.old sink.new (bar_item page.now bar was is) }
-{
-    let spot = Step::Lugs.row(bar);
-    draw_bar_head(sink, page.language(), bar, was, is);
-    draw_cells(sink, page.language(), was, is, &Place::all());
-    draw_boxes(sink, page, &spot);
-    draw(sink, bar_end(page.count_at(&spot)));
 }
 
 fn draw_bar_head<W: Sink>(sink: &mut W, language: Language, bar: u8, was: Standing, is: Standing)
@@ -105,7 +97,13 @@ fn draw_bar_head<W: Sink>(sink: &mut W, language: Language, bar: u8, was: Standi
 fn is_same_standing(was: Standing, is: Standing) -> bool
     ensures { result ≡ is_same_standing was is }
 {
-    was.left() == is.left() && was.right() == is.right()
+    is_same_place(was.left(), is.left()) && is_same_place(was.right(), is.right())
+}
+
+fn is_same_place(one: Place, other: Place) -> bool
+    ensures { result ≡ is_same_place one other }
+{
+    one == other
 }
 
 /// The empty cells at the end of a bar's row that has `count` checkboxes. Each row has two cells for checkboxes.
@@ -170,5 +168,5 @@ fn draw_marked_cell<W: Sink>(sink: &mut W, language: Language, mark: Option<Mark
 fn has_lug(standing: Standing, place: Place) -> bool
     ensures { result ≡ has_lug standing place }
 {
-    standing.left() == place || standing.right() == place
+    is_same_place(standing.left(), place) || is_same_place(standing.right(), place)
 }

@@ -21,25 +21,29 @@ pub struct ListedDay {
     pub settings: u8,
 }
 
-/// Writes the head of a file with the pages of the day `first` and of the later days `others`.
-///
-/// `sheet` is the name of the key sheet's file.
-pub fn draw_head<W: Sink>(
-    sink: &mut W,
-    language: Language,
-    model: Model,
-    sheet: &str,
-    first: ListedDay,
-    others: &[ListedDay],
-)
+/// The days whose pages are in a file, with the words of the file's title.
+#[derive(Clone, Copy)]
+pub struct FileDays<'a> {
+    pub language: Language,
+    pub model: Model,
+    /// The name of the key sheet's file.
+    pub sheet: &'a str,
+    pub first: ListedDay,
+    /// The days after `first`.
+    pub others: &'a [ListedDay],
+}
+
+/// Writes the head of a file with the pages of the days `days`.
+pub fn draw_head<W: Sink>(sink: &mut W, days: &FileDays<'_>)
     ensures { Draws W.taken W.has_failed sink.old sink.new
-        (head_text language model sheet.now first others.now) }
+        (head_text days.now.language days.now.model days.now.sheet.now days.now.first
+        days.now.others.now) }
 {
-    draw_file_head(sink, language);
-    draw_title(sink, language, model, sheet, first, others);
+    draw_file_head(sink, days.language);
+    draw_title(sink, days);
     draw(sink, STYLE);
     draw(sink, BODY);
-    draw_nav(sink, language, model, sheet, first, others);
+    draw_nav(sink, days);
 }
 
 /// Writes the end of the file.
@@ -47,25 +51,6 @@ pub fn draw_foot<W: Sink>(sink: &mut W)
     ensures { Draws W.taken W.has_failed sink.old sink.new FOOT_TEXT.now }
 {
     draw(sink, FOOT);
-}
-
-fn draw_title<W: Sink>(
-    sink: &mut W,
-    language: Language,
-    model: Model,
-    sheet: &str,
-    first: ListedDay,
-    others: &[ListedDay],
-)
-    ensures { Draws W.taken W.has_failed sink.old sink.new
-        (title_text language model sheet.now first others.now) }
-{
-    if let [next, rest @ ..] = others {
-        let last = last_of(*next, rest);
-        draw_days_title(sink, language, model, sheet, first.day, last.day);
-    } else {
-        draw_day_title(sink, language, model, sheet, first.day);
-    }
 }
 
 /// Writes the title of a day: the model, the day, and the name of the key sheet.
@@ -83,27 +68,32 @@ pub(crate) fn draw_day_title<W: Sink>(
     draw_sheet_name(sink, sheet);
 }
 
-/// Writes the title of several days: the model, the first day, the last day, and the name of the key sheet.
-fn draw_days_title<W: Sink>(
-    sink: &mut W,
-    language: Language,
-    model: Model,
-    sheet: &str,
-    first: u8,
-    last: u8,
-)
+fn draw_title<W: Sink>(sink: &mut W, days: &FileDays<'_>)
     ensures { Draws W.taken W.has_failed sink.old sink.new
-        (days_title language model sheet.now first last) }
+        (title_text days.now.language days.now.model days.now.sheet.now days.now.first
+        days.now.others.now) }
 {
-    let first = Value::Number(u16::from(first));
+    if let [next, rest @ ..] = days.others {
+        draw_days_title(sink, days, last_of(*next, rest).day);
+    } else {
+        draw_day_title(sink, days.language, days.model, days.sheet, days.first.day);
+    }
+}
+
+/// Writes the title of several days: the model, the first day, the day `last`, and the name of the key sheet.
+fn draw_days_title<W: Sink>(sink: &mut W, days: &FileDays<'_>, last: u8)
+    ensures { Draws W.taken W.has_failed sink.old sink.new
+        (days_title days.now.language days.now.model days.now.sheet.now days.now.first.day last) }
+{
+    let first = Value::Number(u16::from(days.first.day));
     let last = Value::Number(u16::from(last));
     fill_in(
         sink,
-        language,
+        days.language,
         TITLE_DAYS,
-        &[Value::Model(model), first, last],
+        &[Value::Model(days.model), first, last],
     );
-    draw_sheet_name(sink, sheet);
+    draw_sheet_name(sink, days.sheet);
 }
 
 /// The last of the days `day` and `others`.
@@ -117,50 +107,27 @@ fn last_of(day: ListedDay, others: &[ListedDay]) -> ListedDay
 }
 
 /// Writes the list of the days. Writes nothing if there is only one day.
-fn draw_nav<W: Sink>(
-    sink: &mut W,
-    language: Language,
-    model: Model,
-    sheet: &str,
-    first: ListedDay,
-    others: &[ListedDay],
-)
+fn draw_nav<W: Sink>(sink: &mut W, days: &FileDays<'_>)
     ensures { Draws W.taken W.has_failed sink.old sink.new
-        (nav_text language model sheet.now first others.now) }
+        (nav_text days.now.language days.now.model days.now.sheet.now days.now.first
+        days.now.others.now) }
 {
-    if let [_, ..] = others {
-        draw_list_of_days(sink, language, model, sheet, first, others);
-    } else {
-        draw(sink, "");
+    if let [_, ..] = days.others {
+        draw_list_of_days(sink, days);
     }
 }
 
-fn draw_list_of_days<W: Sink>(
-    sink: &mut W,
-    language: Language,
-    model: Model,
-    sheet: &str,
-    first: ListedDay,
-    others: &[ListedDay],
-)
+fn draw_list_of_days<W: Sink>(sink: &mut W, days: &FileDays<'_>)
     ensures { Draws W.taken W.has_failed sink.old sink.new
-        (list_of_days language model sheet.now first others.now) }
+        (list_of_days days.now.language days.now.model days.now.sheet.now days.now.first
+        days.now.others.now) }
 {
-    draw_in(sink, language, NAV);
-    draw_title(sink, language, model, sheet, first, others);
+    draw_in(sink, days.language, NAV);
+    draw_title(sink, days);
     draw(sink, NAV_LIST);
-    draw_listed(sink, language, first);
-    draw_all_listed(sink, language, others);
+    draw_listed(sink, days.language, days.first);
+    draw_all_listed(sink, days.language, days.others);
     draw(sink, NAV_END);
-}
-
-fn draw_all_listed<W: Sink>(sink: &mut W, language: Language, days: &[ListedDay])
-    ensures { Draws W.taken W.has_failed sink.old sink.new (flat_map (listed_text language) days.now) }
-{
-    if let [day, rest @ ..] = days {
-        draw_listed(sink, language, *day);
-        draw_all_listed(sink, language, rest);
-    }
 }
 
 #[tactic(auto, unfolding(crate::specs::Head::listed_text))]
@@ -178,4 +145,13 @@ fn draw_listed<W: Sink>(sink: &mut W, language: Language, day: ListedDay)
             Value::Count(day.settings),
         ],
     );
+}
+
+fn draw_all_listed<W: Sink>(sink: &mut W, language: Language, days: &[ListedDay])
+    ensures { Draws W.taken W.has_failed sink.old sink.new (flat_map (listed_text language) days.now) }
+{
+    if let [day, rest @ ..] = days {
+        draw_listed(sink, language, *day);
+        draw_all_listed(sink, language, rest);
+    }
 }

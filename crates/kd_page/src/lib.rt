@@ -17,7 +17,7 @@ mod wheel_steps;
 mod windows;
 
 pub use day_page::draw_day;
-pub use head::{ListedDay, draw_foot, draw_head};
-pub use kd_pictures::{Language, draw};
+pub use head::{FileDays, ListedDay, draw_foot, draw_head};
+pub use kd_pictures::Language;
 pub use page::Page;
 pub use spots::{Spot, Step};

@@ -20,7 +20,6 @@ use kd_pictures::words::{Mark, Word};
 use kd_pictures::{Language, draw};
 use kd_tables::{Letter, Sink};
 
-/// Writes the step in which pins are set.
 pub(crate) fn draw_pins_step<W: Sink>(sink: &mut W, page: &Page<'_>)
     ensures { Draws W.taken W.has_failed sink.old sink.new
         (pins_step page.now) }
@@ -30,6 +29,17 @@ pub(crate) fn draw_pins_step<W: Sink>(sink: &mut W, page: &Page<'_>)
     draw_pins_caption(sink, page.language());
     draw_pin_wheels(sink, page, &PIN_WHEELS);
     draw(sink, PINS_END);
+}
+
+#[tactic(auto, using(crate::proofs::Alphabets::is_alphabet))]
+pub(crate) fn alphabet() -> [Letter; 26]
+    ensures { result ≡ alphabet }
+{
+    let mut letters = [Letter::A; 26];
+    for place in 0..26 {
+        letters[usize::from(place)] = Letter::at(place);
+    }
+    letters
 }
 
 /// Writes the caption with the meaning of the marks.
@@ -69,18 +79,6 @@ fn draw_pin_wheel<W: Sink>(sink: &mut W, page: &Page<'_>, wheel: u8)
     draw(sink, ROW_END);
 }
 
-/// The letters from A to Z.
-#[tactic(auto, using(crate::proofs::Alphabets::is_alphabet))]
-pub(crate) fn alphabet() -> [Letter; 26]
-    ensures { result ≡ alphabet }
-{
-    let mut letters = [Letter::A; 26];
-    for place in 0..26 {
-        letters[usize::from(place)] = Letter::at(place);
-    }
-    letters
-}
-
 /// Writes the heading of a wheel, with the wheel's number, and `count`, the number of pins to set.
 fn draw_pin_head<W: Sink>(sink: &mut W, language: Language, wheel: u8, count: u8)
     ensures { Draws W.taken W.has_failed sink.old sink.new (pin_head language wheel count) }
@@ -95,9 +93,7 @@ fn draw_pin_head<W: Sink>(sink: &mut W, language: Language, wheel: u8, count: u8
 fn draw_pin_lines<W: Sink>(sink: &mut W, language: Language, wheel: u8, count: u8)
     ensures { Draws W.taken W.has_failed sink.old sink.new (pin_lines wheel count) }
 {
-    if count == 0 {
-        draw(sink, "");
-    } else {
+    if count != 0 {
         fill(
             sink,
             language,

@@ -2,7 +2,7 @@
 ghost use Rattle.std.specs.Prelude.{◌≡◌, ◌++◌, flat_map};
 ghost use Rattle.kd_pictures.specs.Drawing.{Draws};
 ghost use Rattle.kd_pictures.specs.Language.{in_language};
-ghost use Rattle.kd_page.specs.PlugSteps.{in_step, in_table, moving_row, out_step, plug_row, plug_table, plugs_in, plugs_out};
+ghost use Rattle.kd_page.specs.PlugSteps.{in_step, in_table, out_step, plug_row, plug_table, plugs_in, plugs_out};
 
 use crate::boxes::draw_boxes;
 use crate::page::Page;
@@ -99,18 +99,11 @@ fn draw_plug_rows<W: Sink>(sink: &mut W, page: &Page<'_>, step: Step, numbers: &
 fn draw_plug_row<W: Sink>(sink: &mut W, page: &Page<'_>, step: Step, number: u8)
     ensures { Draws W.taken W.has_failed sink.old sink.new (plug_row page.now step number) }
 {
-    if page.count_at(&step.row(number)) == 0 {
-        draw(sink, "");
-    } else {
-        draw_moving_row(sink, page, step, number);
+    let spot = step.row(number);
+    if page.count_at(&spot) != 0 {
+        let name = Value::Number(u16::from(number));
+        fill(sink, page.language(), PLUG_ROW, &[name]);
+        draw_boxes(sink, page, &spot);
+        draw(sink, ROW_END);
     }
-}
-
-fn draw_moving_row<W: Sink>(sink: &mut W, page: &Page<'_>, step: Step, number: u8)
-    ensures { Draws W.taken W.has_failed sink.old sink.new (moving_row page.now step number) }
-{
-    let name = Value::Number(u16::from(number));
-    fill(sink, page.language(), PLUG_ROW, &[name]);
-    draw_boxes(sink, page, &step.row(number));
-    draw(sink, ROW_END);
 }

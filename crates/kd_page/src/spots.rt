@@ -18,16 +18,6 @@ pub enum Step {
     Turns,
 }
 
-/// Where checkboxes stand on a page: at a step, in a row of the step's table, or in a cell of the row.
-#[derive(Clone, Copy)]
-pub struct Spot {
-    pub step: Step,
-    /// The row: the number of the row's cable, pin wheel, bar or slot. `None` for a whole step.
-    pub row: Option<u8>,
-    /// The cell: the letter of the cell's pin. `None` for a whole row.
-    pub cell: Option<Letter>,
-}
-
 impl Step {
     pub(crate) fn spot(self) -> Spot
         ensures { result ≡ step_spot self }
@@ -64,6 +54,16 @@ impl Step {
     }
 }
 
+/// Where checkboxes stand on a page: at a step, in a row of the step's table, or in a cell of the row.
+#[derive(Clone, Copy)]
+pub struct Spot {
+    pub step: Step,
+    /// The row: the number of the row's cable, pin wheel, bar or slot. `None` for a whole step.
+    pub row: Option<u8>,
+    /// The cell: the letter of the cell's pin. `None` for a whole row.
+    pub cell: Option<Letter>,
+}
+
 /// How many of `settings` have their checkboxes at `spot`.
 pub(crate) fn count_at(spot: &Spot, settings: &[Setting]) -> u8
     requires { length settings.now ≤ 192 }
@@ -86,25 +86,6 @@ pub(crate) fn is_at(spot: &Spot, setting: &Setting) -> bool
         && is_cell(spot.cell, cell_of(setting))
 }
 
-/// Whether `row` is the row with number `number`, or is `None`.
-fn is_row(row: Option<u8>, number: u8) -> bool
-    ensures { result ≡ option_map_or (nat_eq number) row true }
-{
-    match row {
-        None => true,
-        Some(row) => row == number,
-    }
-}
-
-fn is_cell(cell: Option<Letter>, letter: Letter) -> bool
-    ensures { result ≡ option_map_or (nat_eq letter) cell true }
-{
-    match cell {
-        None => true,
-        Some(cell) => cell == letter,
-    }
-}
-
 fn step_of(setting: &Setting) -> Step
     ensures { result ≡ step_of setting.now }
 {
@@ -119,6 +100,16 @@ fn step_of(setting: &Setting) -> Step
     }
 }
 
+/// Whether `row` is the row with number `number`, or is `None`.
+fn is_row(row: Option<u8>, number: u8) -> bool
+    ensures { result ≡ option_map_or (nat_eq number) row true }
+{
+    match row {
+        None => true,
+        Some(row) => row == number,
+    }
+}
+
 fn row_of(setting: &Setting) -> u8
     ensures { result ≡ row_of setting.now }
 {
@@ -128,6 +119,15 @@ fn row_of(setting: &Setting) -> u8
         Setting::LugTo { bar, .. } => bar,
         Setting::Turn { slot, .. } => slot,
         Setting::RingTo { .. } | Setting::Seat { .. } | Setting::SeatReflector { .. } => 0,
+    }
+}
+
+fn is_cell(cell: Option<Letter>, letter: Letter) -> bool
+    ensures { result ≡ option_map_or (nat_eq letter) cell true }
+{
+    match cell {
+        None => true,
+        Some(cell) => cell == letter,
     }
 }
 

@@ -14,7 +14,6 @@ use kd_pictures::words::Word;
 use kd_pictures::{Language, draw};
 use kd_tables::Sink;
 
-/// Writes the title of the page.
 pub(crate) fn draw_page_title<W: Sink>(sink: &mut W, page: &Page<'_>)
     ensures { Draws W.taken W.has_failed sink.old sink.new (page_title page.now) }
 {

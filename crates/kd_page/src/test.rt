@@ -23,7 +23,6 @@ use kd_pictures::{Language, draw, draw_in};
 use kd_state::Machine;
 use kd_tables::{Letter, Model, Sink};
 
-/// Writes the test step, for the machine after the settings.
 pub(crate) fn draw_test_step<W: Sink>(sink: &mut W, page: &Page<'_>)
     requires { IsReady page.now.after }
     ensures { Draws W.taken W.has_failed sink.old sink.new (test_step page.now) }
@@ -151,24 +150,10 @@ fn draw_again_at<W: Sink>(
     ensures { Draws W.taken W.has_failed sink.old sink.new
         (again_at separator.now has_number shown) }
 {
-    match shown {
-        None => draw(sink, ""),
-        Some(letter) => draw_separated(sink, language, separator, has_number, letter),
+    if let Some(letter) = shown {
+        draw(sink, separator);
+        draw_again(sink, language, has_number, letter);
     }
-}
-
-fn draw_separated<W: Sink>(
-    sink: &mut W,
-    language: Language,
-    separator: &str,
-    has_number: bool,
-    letter: Letter,
-)
-    ensures { Draws W.taken W.has_failed sink.old sink.new
-        (separator.now ++ again_text has_number letter) }
-{
-    draw(sink, separator);
-    draw_again(sink, language, has_number, letter);
 }
 
 /// Writes a letter to set again. On a rotor machine, the letter's number stands beside it.
@@ -187,7 +172,6 @@ fn draw_again<W: Sink>(sink: &mut W, language: Language, has_number: bool, lette
     }
 }
 
-/// Writes the note at the end of the page.
 fn draw_note<W: Sink>(sink: &mut W, page: &Page<'_>)
     ensures { Draws W.taken W.has_failed sink.old sink.new
         (note_text page.now.language (model_of page.now.after) page.now.settings) }

@@ -2,7 +2,7 @@
 ghost use Rattle.std.specs.Prelude.{◌≡◌, ◌++◌, flat_map};
 ghost use Rattle.kd_pictures.specs.Drawing.{Draws};
 ghost use Rattle.kd_pictures.specs.Language.{in_language};
-ghost use Rattle.kd_page.specs.WheelSteps.{all_boxed_text, all_rings_in_box, boxed_reflector, boxed_text};
+ghost use Rattle.kd_page.specs.WheelSteps.{all_boxed_text, boxed_reflector, boxed_text};
 ghost use Rattle.kd_page.specs.WheelSteps.{from_box_shown, has_lone_wheel, lone_wheel, reflector_boxed_text};
 ghost use Rattle.kd_page.specs.WheelSteps.{rings_in_box, rings_step, seats_step, some_rings_text, some_seats_text};
 ghost use Rattle.kd_page.specs.WheelSteps.{wheel_boxed_text, wheel_from_box};
@@ -21,7 +21,6 @@ use kd_pictures::{Language, draw, draw_in};
 use kd_state::Machine;
 use kd_tables::{Letter, Reflector, Sink, Wheel};
 
-/// Writes the step in which rings are set.
 pub(crate) fn draw_rings_step<W: Sink>(sink: &mut W, page: &Page<'_>)
     ensures { Draws W.taken W.has_failed sink.old sink.new (rings_step page.now) }
 {
@@ -54,20 +53,10 @@ pub(crate) fn draw_rings_in_box<W: Sink>(
         machine.now) }
 {
     if has_lone_wheel(page.after(), page.before(), &SLOTS) {
-        draw_all_rings_in_box(sink, page, told, machine);
-    } else {
-        draw(sink, "");
+        draw_in(sink, page.language(), told);
+        draw_wheels_from_box(sink, page, machine, &SLOTS);
+        draw(sink, BOXED_END);
     }
-}
-
-fn draw_all_rings_in_box<W: Sink>(sink: &mut W, page: &Page<'_>, told: Text, machine: &Machine)
-    ensures { Draws W.taken W.has_failed sink.old sink.new
-        (all_rings_in_box page.now (in_language page.now.language told.entry.0.now told.entry.1.now)
-        machine.now) }
-{
-    draw_in(sink, page.language(), told);
-    draw_wheels_from_box(sink, page, machine, &SLOTS);
-    draw(sink, BOXED_END);
 }
 
 fn draw_wheels_from_box<W: Sink>(sink: &mut W, page: &Page<'_>, machine: &Machine, slots: &[u8])
@@ -84,7 +73,7 @@ fn draw_from_box<W: Sink>(sink: &mut W, language: Language, from_box: Option<(Wh
     ensures { Draws W.taken W.has_failed sink.old sink.new (from_box_shown from_box) }
 {
     match from_box {
-        None => draw(sink, ""),
+        None => {}
         Some((wheel, ring)) => fill(
             sink,
             language,
@@ -134,8 +123,6 @@ fn draw_boxed<W: Sink>(sink: &mut W, page: &Page<'_>)
 {
     if has_lone_wheel(page.before(), page.after(), &SLOTS) || boxed_reflector(page).is_some() {
         draw_all_boxed(sink, page);
-    } else {
-        draw(sink, "");
     }
 }
 
@@ -164,7 +151,7 @@ fn draw_boxed_wheel<W: Sink>(sink: &mut W, language: Language, wheel: Option<Whe
     ensures { Draws W.taken W.has_failed sink.old sink.new (wheel_boxed_text wheel) }
 {
     match wheel {
-        None => draw(sink, ""),
+        None => {}
         Some(wheel) => fill(sink, language, BOXED_WHEEL, &[Value::Wheel(wheel)]),
     }
 }
@@ -173,7 +160,7 @@ fn draw_boxed_reflector<W: Sink>(sink: &mut W, language: Language, reflector: Op
     ensures { Draws W.taken W.has_failed sink.old sink.new (reflector_boxed_text language reflector) }
 {
     match reflector {
-        None => draw(sink, ""),
+        None => {}
         Some(reflector) => fill_in(
             sink,
             language,

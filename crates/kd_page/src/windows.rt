@@ -2,8 +2,8 @@
 ghost use Rattle.std.specs.Prelude.{◌≡◌, ◌++◌, flat_map};
 ghost use Rattle.kd_state.specs.Machine.{machine_pin_letter};
 ghost use Rattle.kd_pictures.specs.Drawing.{Draws};
-ghost use Rattle.kd_page.specs.Windows.{letter_item, letter_box, letter_in_slot, letter_shown, letters_step};
-ghost use Rattle.kd_page.specs.Windows.{window_item, window_box, windows_step};
+ghost use Rattle.kd_page.specs.Windows.{letter_box, letter_in_slot, letter_shown, letters_step};
+ghost use Rattle.kd_page.specs.Windows.{window_box, windows_step};
 
 use crate::boxes::draw_boxes;
 use crate::page::Page;
@@ -19,7 +19,6 @@ use kd_pictures::{draw, draw_in};
 use kd_state::Machine;
 use kd_tables::{Letter, Sink};
 
-/// Writes the step in which the windows are set.
 pub(crate) fn draw_windows_step<W: Sink>(sink: &mut W, page: &Page<'_>)
     ensures { Draws W.taken W.has_failed sink.old sink.new (windows_step page.now) }
 {
@@ -43,24 +42,17 @@ fn draw_window_boxes<W: Sink>(sink: &mut W, page: &Page<'_>, slots: &[u8])
 fn draw_window_box<W: Sink>(sink: &mut W, page: &Page<'_>, slot: u8, shown: Option<Letter>)
     ensures { Draws W.taken W.has_failed sink.old sink.new (window_box page.now slot shown) }
 {
-    match shown {
-        None => draw(sink, ""),
-        Some(letter) => draw_window_item(sink, page, slot, letter),
+    if let Some(letter) = shown {
+        let number = Value::Number(u16::from(slot));
+        fill_in(
+            sink,
+            page.language(),
+            WINDOW_BOX,
+            &[number, Value::Letter(letter), Value::Ordinal(letter)],
+        );
+        draw_boxes(sink, page, &Step::Turns.row(slot));
+        draw(sink, WINDOW_BOX_END);
     }
-}
-
-fn draw_window_item<W: Sink>(sink: &mut W, page: &Page<'_>, slot: u8, letter: Letter)
-    ensures { Draws W.taken W.has_failed sink.old sink.new (window_item page.now slot letter) }
-{
-    let number = Value::Number(u16::from(slot));
-    fill_in(
-        sink,
-        page.language(),
-        WINDOW_BOX,
-        &[number, Value::Letter(letter), Value::Ordinal(letter)],
-    );
-    draw_boxes(sink, page, &Step::Turns.row(slot));
-    draw(sink, WINDOW_BOX_END);
 }
 
 /// Writes the step in which the letters of the pin wheels are set.
@@ -88,18 +80,11 @@ fn draw_letter_boxes<W: Sink>(sink: &mut W, page: &Page<'_>, wheels: &[u8])
 fn draw_letter_box<W: Sink>(sink: &mut W, page: &Page<'_>, wheel: u8, shown: Option<Letter>)
     ensures { Draws W.taken W.has_failed sink.old sink.new (letter_box page.now wheel shown) }
 {
-    match shown {
-        None => draw(sink, ""),
-        Some(letter) => draw_letter_item(sink, page, wheel, letter),
+    if let Some(letter) = shown {
+        fill(sink, page.language(), LETTER_BOX, &[Value::Letter(letter)]);
+        draw_boxes(sink, page, &Step::Turns.row(wheel));
+        draw(sink, LETTER_BOX_END);
     }
-}
-
-fn draw_letter_item<W: Sink>(sink: &mut W, page: &Page<'_>, wheel: u8, letter: Letter)
-    ensures { Draws W.taken W.has_failed sink.old sink.new (letter_item page.now wheel letter) }
-{
-    fill(sink, page.language(), LETTER_BOX, &[Value::Letter(letter)]);
-    draw_boxes(sink, page, &Step::Turns.row(wheel));
-    draw(sink, LETTER_BOX_END);
 }
 
 /// The letter in the window of a slot, or on a pin wheel.
