@@ -139,5 +139,7 @@ fn draw_plans<W: Sink>(
     if let Some((plan, rest)) = plans.split_first() {
         let after = draw_plan(sink, language, sheet, machine, plan);
         draw_plans(sink, language, sheet, &after, rest);
+    } else {
+        draw(sink, "");
     }
 }
