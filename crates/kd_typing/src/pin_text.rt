@@ -10,8 +10,8 @@ use crate::pin_rows::PinRows;
 use crate::row_line::row_line;
 use arrayvec::ArrayString;
 use kd_pictures::draw;
-use kd_pictures::template::draw_letter;
-use kd_tables::{Letter, Sink};
+use kd_pictures::template::draw_letters;
+use kd_tables::Sink;
 
 impl PinRows {
     /// Writes the table as lines, with LFs between them.
@@ -55,16 +55,6 @@ impl PinRows {
         for number in 0..64 {
             draw(sink, row_line(&self.row_at(number)).as_str());
         }
-    }
-}
-
-/// Writes letters with nothing between them.
-fn draw_letters<W: Sink>(sink: &mut W, letters: &[Letter])
-    ensures { Draws W.taken W.has_failed sink.old sink.new (letters_text letters.now) }
-{
-    if let [letter, rest @ ..] = letters {
-        draw_letter(sink, *letter);
-        draw_letters(sink, rest);
     }
 }
 

@@ -1,8 +1,0 @@
-use Rattle.std.proofs.Common.{arith}
-use Rattle.std.proofs.lemmas.Grind.{common_steps}
-use Rattle.kd_pictures.proofs.Drawings.{joined}
-use Rattle.kd_typing.proofs.pin_text.+draw_letters.Goals as goal
-
-pub returns-in-len1-up : goal.returns-in-len1-up
-returns-in-len1-up g t c =
-    joined c.draw_letter.ensures c.draw_letters.ensures (grind (arith, common_steps))
