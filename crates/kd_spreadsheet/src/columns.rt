@@ -71,6 +71,7 @@ pub fn cell_at(row: &ByteRecord, column: Option<usize>) -> &[u8]
     }
 }
 
+/// The English name of the column of `cell`.
 pub fn english_name(cell: Cell) -> &'static str
     ensures name { result.now ≡ english_name cell }
     ensures short { length result.now ≤ 32 }
@@ -109,6 +110,7 @@ pub fn short_name(cell: Cell) -> &'static str
     }
 }
 
+/// The German name of the column of `cell`.
 pub fn german_name(cell: Cell) -> &'static str
     ensures name { result.now ≡ german_name cell }
     ensures short { length result.now ≤ 32 }

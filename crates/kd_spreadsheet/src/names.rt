@@ -7,12 +7,14 @@ ghost use Rattle.kd_spreadsheet.specs.Names.{model_named, names_reflector, wheel
 use arrayvec::ArrayVec;
 use kd_tables::{Model, Reflector, Wheel};
 
+/// Whether `byte` is a letter from A to Z.
 pub fn is_capital_letter(byte: u8) -> bool
     ensures { result ≡ is_capital_letter byte }
 {
     b'A' <= byte && byte <= b'Z'
 }
 
+/// Whether `byte` is a digit from 0 to 9.
 pub fn is_digit(byte: u8) -> bool
     ensures { result ≡ is_digit byte }
 {
@@ -27,6 +29,7 @@ pub fn model_named(cell: &[u8]) -> Option<Model>
     model_among(&Model::ALL, cell)
 }
 
+/// The wheel whose name is `word`.
 pub fn wheel_named(word: &[u8]) -> Option<Wheel>
     ensures { result ≡ wheel_named word.now }
 {

@@ -11,6 +11,7 @@ use crate::row::is_column_read;
 use csv::ByteRecord;
 use kd_slips::near_names::is_near;
 
+/// All cells that a row may have.
 pub static ALL_CELLS: [Cell; 16] = [
     Cell::Day,
     Cell::Model,
@@ -30,6 +31,7 @@ pub static ALL_CELLS: [Cell; 16] = [
     Cell::Bars,
 ];
 
+/// Whether the table has a misnamed column.
 #[tactic(auto, unfolding(crate::specs::NearNames::is_misnamed))]
 pub fn is_misnamed(columns: &Columns, head: &ByteRecord) -> bool
     ensures { result ≡ is_misnamed columns.now (fields_of head.now) }

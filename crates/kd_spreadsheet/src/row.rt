@@ -17,6 +17,7 @@ use csv::ByteRecord;
 use kd_state::SheetDay;
 use kd_tables::Family;
 
+/// Whether the column at `place` is read.
 #[tactic(auto, unfolding(crate::specs::Row::is_column_read))]
 pub fn is_column_read(columns: &Columns, place: usize) -> bool
     ensures { result ≡ is_column_read columns.now place }

@@ -51,6 +51,7 @@ impl<'a> Head<'a> {
         }
     }
 
+    /// The allocator for notes.
     pub fn alloc(&self) -> Global {
         self.alloc
     }
