@@ -480,7 +480,7 @@ abbrev IsNotHidden : Language → Day → List DamagedPart → DamagedPart → D
 IsNotHidden l s parts part shown =
     (name : PartName) × (best : DamagedPart) × (text : DamagedText) × IsTrue (is_number name.part part.numbers)
     × IsTrue (is_number name.part best.numbers) × Contains parts best × (shown_text best ≡ Some text)
-    × HasLettersOf text shown × (lost_in text ≤ lost_in shown)
+    × HasLettersOf text shown × (lost_in text ≤ lost_in shown) × (name.results ≡ Shown)
     × IsOn (receive_text Shown l s parts) (read_text l (sheet_to_receive (day_model s)) s name text)
 
 same_number : (one : Option PartNumbers) (numbers : PartNumbers) → is_same_part one (Some numbers) ≡ true
@@ -507,6 +507,7 @@ hidden_by_none l s parts part kept shown numbers true one its there within numbe
       all.is,
       all.has,
       all.no_more,
+      refl,
       on_part _ _ _
           (number_on_page l s parts numbers.part told.best one first (omega (arith, last, total)) told.is)
           (text_on_part l s name (times_of parts numbers.part) told.best all.text all.is),
@@ -526,6 +527,7 @@ hidden_by_none l s parts part kept shown numbers false one its there within numb
       within.is,
       within.has,
       within.no_more,
+      refl,
       page_has l s parts piece
           (subst (λ b. IsOn (if b then by_number (sections.Texts Shown) l s parts else as_they_came (sections.Texts Shown) l s 1 0 parts) piece)
           (sym one) all),

@@ -96,7 +96,7 @@ NothingReadIsHidden =
     (part : DamagedPart) (shown : DamagedText) → Contains read.alone part → shown_text part ≡ Some shown
     → (name : PartName) × (best : DamagedPart) × (text : DamagedText) × IsTrue (is_number name.part part.numbers)
     × IsTrue (is_number name.part best.numbers) × Contains parts best × (shown_text best ≡ Some text)
-    × HasLettersOf text shown × (lost_in text ≤ lost_in shown)
+    × HasLettersOf text shown × (lost_in text ≤ lost_in shown) × (name.results ≡ Shown)
     × IsOn (receive_text Shown l s parts) (read_text l (sheet_to_receive (day_model s)) s name text)
 
 -- the complete text of a part, below the part's head

@@ -1,5 +1,5 @@
 -- A worksheet is the same for all letters that the machine may give.
-use Rattle.std.proofs.Common.{◌≡◌, ◌∙◌, ℕ, List, [], ◌∷◌, ◌++◌, length, take, drop, refl, sym, ap, subst}
+use Rattle.std.proofs.Common.{◌≡◌, ◌∙◌, ℕ, Bool, true, false, if◌then◌else◌, List, [], ◌∷◌, ◌++◌, length, take, drop, refl, sym, ap, subst}
 use Rattle.std.proofs.lemmas.List.{length-map}
 use Rattle.kd_state.specs.SheetDay.{Day}
 use Rattle.kd_pictures.specs.declared.language.Language.{Language}
@@ -10,7 +10,9 @@ use Rattle.kd_part_sheet.specs.declared.part_sheet.Warnings.{Warnings}
 use Rattle.kd_part_sheet.specs.declared.rows.Progress.{Progress}
 use Rattle.kd_part_sheet.specs.declared.sheet.Sheet.{Sheet}
 use Rattle.kd_part_sheet.specs.declared.sheet.Sheet.TheVariants.{PinReceive, PinSend, RotorReceive, RotorSend}
-use Rattle.kd_part_sheet.specs.Cells.{cell_with, cells_with}
+use Rattle.kd_part_sheet.specs.declared.cells.Mark.TheVariants.{NoMark}
+use Rattle.kd_part_sheet.specs.declared.cells.Sign.TheVariants.{Open}
+use Rattle.kd_part_sheet.specs.Cells.{cell_with, cells_with, open_cell}
 unfoldable use Rattle.kd_part_sheet.specs.PartSheet.{key_step, part_sheet, text_step}
 use Rattle.kd_part_sheet.specs.PartSheet.{beginning, day_key_text, first_sheet, head_text, legend, name_values, next_sheet}
 use Rattle.kd_part_sheet.specs.PartSheet.{note, start_text, text_head, text_if, text_rows, warnings_text}
@@ -23,7 +25,7 @@ use Rattle.kd_part_sheet.specs.declared.markup.TheConstants.{SHEET_END}
 use Rattle.kd_part_sheet.specs.declared.texts.TheConstants as texts
 use Rattle.kd_pictures.specs.Template.{filled}
 use Rattle.kd_pictures.specs.Words.{is_converter}
-use Rattle.kd_part_sheet.specs.Worksheets.{AskTheSame, WorksheetsHideResults}
+use Rattle.kd_part_sheet.specs.Worksheets.{AllAskAlike, AskAlike, AskTheSame, WorksheetsHideResults}
 
 row_same : (s : Day) (one other : List ℕ) (progress : Progress) (row : List Cell)
     → row_text LeftOpen s one progress row ≡ row_text LeftOpen s other progress row
@@ -64,18 +66,43 @@ start_same l PinSend name work other same = refl
 start_same l RotorReceive name work other same = refl
 start_same l PinReceive name work other same = refl
 
+-- cells that ask alike are the same on a worksheet
+open_same_cases : (one other : Cell) (pressed : Bool) → AskAlike one other → one.is_pressed ≡ pressed
+    → open_cell one ≡ open_cell other
+open_same_cases one other true same is =
+    ap (λ p. if p then record one { below = Open; mark = NoMark } else one) is
+    ∙ (λ i. record { above = same.above i; below = Open; is_pressed = same.pressed i; mark = NoMark })
+    ∙ sym (ap (λ p. if p then record other { below = Open; mark = NoMark } else other) (sym same.pressed ∙ is))
+open_same_cases one other false same is = ap open_cell (same.copied is)
+
+cells_same : (ones others : List Cell) → AllAskAlike ones others
+    → cells_with LeftOpen ones ≡ cells_with LeftOpen others
+cells_same [] [] same = refl
+cells_same (one ∷ ones) (other ∷ others) same =
+    let first = open_same_cases one other one.is_pressed same.0 refl in
+    let rest = cells_same ones others same.1 in
+    λ i. first i ∷ rest i
+cells_same [] (other ∷ others) same = absurd same
+cells_same (one ∷ ones) [] same = absurd same
+
 as_many : (one other : List Cell) → cells_with LeftOpen one ≡ cells_with LeftOpen other → length one ≡ length other
 as_many one other same =
     sym (length-map one (cell_with LeftOpen)) ∙ ap length same ∙ length-map other (cell_with LeftOpen)
 
 module _ (l : Language) (sheet : Sheet) (s : Day) (name : PartName) (work other : Work)
     (same : AskTheSame sheet work other) where
+  key : cells_with LeftOpen work.key ≡ cells_with LeftOpen other.key
+  key = cells_same work.key other.key same.key
+
+  body : cells_with LeftOpen work.body ≡ cells_with LeftOpen other.body
+  body = cells_same work.body other.body same.body
+
   key_same : key_step l sheet s (open_name name) work ≡ key_step l sheet s (open_name name) other
   unfolding key_step
   key_same = λ i.
       filled (sheet_text l sheet texts.KEY_STEP) (name_values name)
       ++ windows_text l (is_converter name.model) (same.ground i) ++ sheet_text l sheet texts.KEY_WORDS
-      ++ rows_after LeftOpen s (same.ground i) beginning (pieces 50 (same.key i))
+      ++ rows_after LeftOpen s (same.ground i) beginning (pieces 50 (key i))
       ++ sheet_text l sheet texts.KEY_STEP_END
 
   text_same : (warnings : Warnings)
@@ -83,9 +110,9 @@ module _ (l : Language) (sheet : Sheet) (s : Day) (name : PartName) (work other 
   unfolding text_step
   text_same warnings =
       let rows = text_rows_same l sheet s name work.start other.start (cells_with LeftOpen work.body)
-      ∙ ap (text_rows l sheet s (open_name name) other.start) same.body in
+      ∙ ap (text_rows l sheet s (open_name name) other.start) body in
       λ i.
-      text_head l sheet name (as_many work.body other.body same.body i) ++ start_same l sheet name work other same i
+      text_head l sheet name (as_many work.body other.body body i) ++ start_same l sheet name work other same i
       ++ warnings_text l sheet warnings ++ rows i
 
   hidden : (warnings : Warnings)

@@ -1,22 +1,36 @@
 -- What the law about worksheets says.
-use Rattle.std.specs.Prelude.{◌≡◌, IsTrue}
+use Rattle.std.specs.Prelude.{◌≡◌, IsFalse, IsTrue, List, [], ◌∷◌}
 use Rattle.kd_state.specs.SheetDay.{Day}
 use Rattle.kd_pictures.specs.declared.language.Language.{Language}
 use Rattle.kd_pictures.specs.declared.results.Results.TheVariants.{LeftOpen}
+use Rattle.kd_part_sheet.specs.declared.cells.Cell.{Cell}
 use Rattle.kd_part_sheet.specs.declared.part_sheet.PartName.{PartName}
 use Rattle.kd_part_sheet.specs.declared.part_sheet.Warnings.{Warnings}
 use Rattle.kd_part_sheet.specs.declared.sheet.Sheet.{Sheet}
-use Rattle.kd_part_sheet.specs.Cells.{cells_with}
 use Rattle.kd_part_sheet.specs.PartSheet.{part_sheet}
 use Rattle.kd_part_sheet.specs.PartWork.{Work}
 use Rattle.kd_part_sheet.specs.Sheet.{has_given_start}
 
+-- Both cells have the same sign above the line, and both are pressed, or neither is. If they aren't pressed, they are
+-- the same cell.
+pub record AskAlike (one other : Cell) : Type 0 where
+  pub above : one.above ≡ other.above
+  pub pressed : one.is_pressed ≡ other.is_pressed
+  pub copied : IsFalse one.is_pressed → one ≡ other
+
+-- There are equally many cells, and at each place `AskAlike` holds.
+abbrev pub AllAskAlike : List Cell → List Cell → Type 0
+AllAskAlike [] [] = Unit {0}
+AllAskAlike (one ∷ ones) (other ∷ others) = AskAlike one other × AllAskAlike ones others
+AllAskAlike [] (other ∷ others) = ⊥
+AllAskAlike (one ∷ ones) [] = ⊥
+
 -- Both have the same letters to set, to press and to copy. The letters that the machine gives may differ.
 pub record AskTheSame (sheet : Sheet) (work other : Work) : Type 0 where
   pub ground : work.ground ≡ other.ground
-  pub key : cells_with LeftOpen work.key ≡ cells_with LeftOpen other.key
+  pub key : AllAskAlike work.key other.key
   pub start : IsTrue (has_given_start sheet) → work.start ≡ other.start
-  pub body : cells_with LeftOpen work.body ≡ cells_with LeftOpen other.body
+  pub body : AllAskAlike work.body other.body
 
 -- A worksheet doesn't tell what the machine gives: it is the same for all letters that the machine may give.
 abbrev pub WorksheetsHideResults : Type 0
