@@ -13,8 +13,8 @@ use Rattle.kd_state.specs.SheetDay.{Day}
 use Rattle.kd_curator.specs.Ending.{stop_after}
 use Rattle.kd_curator.specs.Files.{text_at}
 use Rattle.kd_curator.specs.MachineAndSheet.{IsAnswerOn, machine_and_month, machine_in, month_in}
-use Rattle.kd_curator.specs.Program.{CarriesOut, DoesCommand, IsTold, IsAnswerAfterFlush, is_stopped_before_writing}
-use Rattle.kd_curator.specs.Program.{AnswersAfter, IsFlushed, WritesTask, is_whole}
+use Rattle.kd_curator.specs.Program.{CarriesOut, DoesCommand, DoesTask, IsTold, IsAnswerAfterFlush, is_stopped_before_writing}
+use Rattle.kd_curator.specs.Program.{AnswersAfter, IsFlushed, is_whole}
 use Rattle.kd_curator.specs.Program.{Carried, FileUnread, Shown, OtherWords, NoMemory, is_stopped_by_device, is_usage}
 use Rattle.kd_curator.specs.Looks.{Looks, named_texts}
 use Rattle.kd_curator.specs.Refusals.{comes_after_writing, is_after_all, refused_device}
@@ -87,12 +87,13 @@ module _ (one other : Port) (before : one.had ≡ other.had) (after : Keeps one.
   on_kept (Err refused) Holds Other answer more (inl is) = inl is
   on_kept found Holds Other answer more (inr lacks) = inr lacks
 
-  task_kept : (l : Language) (task : Task) (name : List ℕ) (month : List (Option Day)) (m : Parts)
-      (told : Result (Unit {0}) Refused)
-      → WritesTask l task name month m one told → WritesTask l task name month m other told
-  task_kept l (tasks.Page days chosen) name month m told writes =
-      pages_kept (unwrap_or chosen l) name month m _ told writes
-  task_kept l (tasks.List day) name month m told writes = list_kept month m day told writes
+  task_kept : (l : Language) (task : Task) (name machine sheet : List ℕ) (told : Result (Unit {0}) Refused)
+      → DoesTask l task name machine sheet one told → DoesTask l task name machine sheet other told
+  task_kept l (tasks.Page days chosen) name machine sheet told does =
+      on_kept (machine_and_month machine sheet) _ _ told
+      (λ both. pages_kept (unwrap_or chosen l) name both.1 both.0 _ told) does
+  task_kept l (tasks.List day) name machine sheet told does =
+      on_kept (machine_and_month machine sheet) _ _ told (λ both. list_kept both.1 both.0 day told) does
 
   sheet_kept : (options : OptionTexts) (table : List ℕ) (told : Result (Unit {0}) Refused)
       → MakesSheet options table one told → MakesSheet options table other told
@@ -158,12 +159,10 @@ module _ (one other : Port) (before : one.had ≡ other.had) (after : Keeps one.
   command_kept : (l : Language) (command : NamedCommand) (texts : List (List ℕ)) (told : Result (Unit {0}) Refused)
       → DoesCommand l command texts one told → DoesCommand l command texts other told
   command_kept l (commands.OnMachine machine sheet task) texts told does =
-      on_kept (machine_and_month (text_at texts 0) (text_at texts 1)) _ _ told
-      (λ both. task_kept l task sheet both.1 both.0 told) does
+      task_kept l task sheet (text_at texts 0) (text_at texts 1) told does
   command_kept l (commands.Message machine sheet message task) texts told does =
       on_kept (machine_and_month (text_at texts 0) (text_at texts 1)) _ _ told
-      (λ both. message_kept task.direction (unwrap_or task.language l) both.1 both.0 task.day (text_at texts 2) told)
-      does
+      (λ both. message_kept task.direction (unwrap_or task.language l) both.1 both.0 task.day (text_at texts 2) told) does
   command_kept l (commands.TypingPage machine chosen) texts told does =
       on_kept (machine_in (text_at texts 0)) _ _ told (λ m. typing_page_kept (unwrap_or chosen l) m told) does
   command_kept l (commands.Table sheet form chosen) texts told does =

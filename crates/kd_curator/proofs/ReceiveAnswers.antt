@@ -10,6 +10,7 @@ use Rattle.kd_state.specs.SheetDay.{Day}
 use Rattle.kd_sheet.specs.Sheet.{day_of}
 use Rattle.kd_form.specs.OnTheKey.{IsReadyOnKey}
 use Rattle.kd_pictures.specs.declared.language.Language.{Language}
+use Rattle.kd_pictures.specs.declared.results.Results.{Results}
 use Rattle.kd_lost.specs.declared.form.DamagedFormFault.{DamagedFormFault}
 use Rattle.kd_lost.specs.declared.form.DamagedFormFault.TheVariants.{NoMemory, TooManyParts}
 use Rattle.kd_message.specs.ReceivePage.{FormNotRead, IsFormNoted, IsReceivePageAnswer, NotNoted, Noted, ReceivedPageWritten, receive_notes}
@@ -29,23 +30,23 @@ receive_answer (Ok true) = Ok tt
 receive_answer (Ok false) = Err (refused_whole NotWhole)
 receive_answer (Err fault) = Err (refused_by refused_form fault)
 
-pub page_told : (l : Language) (month : List (Option Day)) (m : Parts) (number : ℕ) (form : List ℕ) (sink : Port)
+pub page_told : (results : Results) (l : Language) (month : List (Option Day)) (m : Parts) (number : ℕ) (form : List ℕ) (sink : Port)
     (s : Day) → day_of month number ≡ Some s → IsReadyOnKey m s
-    → (told : Told) → IsReceivePageAnswer l s form sink told
-    → WritesReceivePage l month m number form sink (receive_answer told)
-page_told l month m number form sink s found ready (Ok true)
+    → (told : Told) → IsReceivePageAnswer results l s form sink told
+    → WritesReceivePage results l month m number form sink (receive_answer told)
+page_told results l month m number form sink s found ready (Ok true)
     (ReceivedPageWritten parts read few writes whole failed) =
     Page s found parts (record { ready = ready; read = read; few = few }) writes.whole
     (inl (whole.0 refl, refl))
-page_told l month m number form sink s found ready (Ok false)
+page_told results l month m number form sink s found ready (Ok false)
     (ReceivedPageWritten parts read few writes whole failed) =
     Page s found parts (record { ready = ready; read = read; few = few }) writes.whole
     (inr ((λ all. false≢true (whole.1 all)), refl))
-page_told l month m number form sink s found ready (Err fault)
+page_told results l month m number form sink s found ready (Err fault)
     (ReceivedPageWritten parts read few writes is failed) =
     Cut s found parts (record { ready = ready; read = read; few = few }) writes.front
     (ap (λ f. receive_answer (Err f)) is)
-page_told l month m number form sink s found ready told (FormNotRead fault why is untouched) =
+page_told results l month m number form sink s found ready told (FormNotRead fault why is untouched) =
     NotRead s found ready fault why (ap receive_answer is)
 
 not_written : (fault : DamagedFormFault) → has_written (Err (refused_form fault)) ≡ false
@@ -70,7 +71,7 @@ kept_whole None has kept = tt
 kept_whole (Some x) None kept = absurd kept
 kept_whole (Some x) (Some y) kept = kept ∙ sym (append-nil x)
 
-pub same_whole : (had : Option (List ℕ)) → Appends had had []
+same_whole : (had : Option (List ℕ)) → Appends had had []
 same_whole None = tt
 same_whole (Some x) = sym (append-nil x)
 

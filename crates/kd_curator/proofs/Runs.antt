@@ -22,7 +22,6 @@ use Rattle.kd_curator.specs.declared.fault.PageFault.TheVariants as faults
 use Rattle.kd_curator.specs.Program.{AnswersAfter, FormNotes, TellsOfMessage, is_whole}
 use Rattle.kd_curator.specs.declared.fault.Refused.{Refused}
 use Rattle.kd_curator.specs.declared.stop.Stop.{Stop}
-use Rattle.kd_curator.proofs.ReceiveAnswers.{same_whole}
 
 nothing_left : (whole : Bool) (answer : Result (Unit {0}) Stop) → AnswersAfter whole [] answer answer
 nothing_left true answer = inl (refl, refl)
@@ -77,12 +76,6 @@ device_so before after told answer is failed =
 pub left_alone : (had : Option (List ℕ)) (failed : Bool)
     → IsLeftAlone (record { had = had; has = had; had_failed = failed; has_failed = failed })
 left_alone had failed = record { same = refl; failed = refl }
-
--- without notes, each command for a message has told what it may tell
-pub nothing_told : (direction : Direction) (had : Option (List ℕ)) (failed : Bool)
-    → TellsOfMessage direction (record { had = had; has = had; had_failed = failed; has_failed = failed })
-nothing_told directions.Send had failed = left_alone had failed
-nothing_told directions.Receive had failed = record { text = []; written = same_whole had; failed = λ is. is }
 
 message_notes_so : (words : List (List ℕ)) (asked : List AskedName) (errors : Port) (machine sheet message : List ℕ)
     (task : MessageTask) (direction : Direction) → IsCommandLineOf words (commands.Message machine sheet message task)

@@ -8,6 +8,7 @@ use Rattle.kd_state.specs.declared.machine.parts.Parts.{Parts}
 use Rattle.kd_state.specs.SheetDay.{Day}
 use Rattle.kd_sheet.specs.Sheet.{day_of}
 use Rattle.kd_pictures.specs.declared.language.Language.{Language}
+use Rattle.kd_pictures.specs.declared.results.Results.{Results}
 use Rattle.kd_form.specs.declared.fault.FormFault.{FormFault}
 use Rattle.kd_message.specs.SendPage.{IsSendPageAnswer, PageWritten, Refused as PageRefused}
 use Rattle.kd_curator.specs.Refusals.{is_device, refused_by, refused_message}
@@ -18,17 +19,17 @@ abbrev pub send_answer : Result (Unit {0}) (WriteFault FormFault) → Result (Un
 send_answer (Ok done) = Ok done
 send_answer (Err fault) = Err (refused_by refused_message fault)
 
-pub page_told : (l : Language) (month : List (Option Day)) (m : Parts) (number : ℕ) (order : List ℕ) (sink : Port)
+pub page_told : (results : Results) (l : Language) (month : List (Option Day)) (m : Parts) (number : ℕ) (order : List ℕ) (sink : Port)
     (s : Day) → day_of month number ≡ Some s
-    → (told : Result (Unit {0}) (WriteFault FormFault)) → IsSendPageAnswer l m s order sink told
-    → WritesSendPage l month m number order sink (send_answer told)
-page_told l month m number order sink s found (Ok done) (PageWritten form page ready is shown writes device failed) =
+    → (told : Result (Unit {0}) (WriteFault FormFault)) → IsSendPageAnswer results l m s order sink told
+    → WritesSendPage results l month m number order sink (send_answer told)
+page_told results l month m number order sink s found (Ok done) (PageWritten form page ready is shown writes device failed) =
     Page s found form page ready is shown
     (record { written = record { whole = writes.whole; front = tt }; device = tt })
-page_told l month m number order sink s found (Err fault) (PageWritten form page ready is shown writes device failed) =
+page_told results l month m number order sink s found (Err fault) (PageWritten form page ready is shown writes device failed) =
     Page s found form page ready is shown
     (record { written = record { whole = tt; front = writes.front }; device = ap send_answer device })
-page_told l month m number order sink s found told (PageRefused fault why is untouched) =
+page_told results l month m number order sink s found told (PageRefused fault why is untouched) =
     NoPage s found fault why (ap send_answer is)
 
 pub device_told : (fault : WriteFault FormFault)

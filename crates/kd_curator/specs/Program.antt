@@ -46,17 +46,13 @@ use Rattle.kd_curator.specs.declared.fault.Refused.{Refused}
 use Rattle.kd_curator.specs.declared.stop.Stop.{Stop}
 use Rattle.kd_curator.specs.declared.stop.Stop.TheVariants as stops
 
--- The output of this task is written, and `answer` is the command's answer. `name` is the name of the key sheet's file.
--- Words are in language `l`, unless the task asks for another language.
-abbrev pub WritesTask : Language → Task → List ℕ → List (Option Day) → Parts → Port → Result (Unit {0}) Refused → Type 0
-WritesTask l (tasks.Page days chosen) name month m sink answer =
-    WritesPages (unwrap_or chosen l) name month m (wanted_days days (model_of m) month) sink answer
-WritesTask l (tasks.List day) name month m sink answer = WritesList month m day sink answer
-
--- The task writes its output and gives this answer, if the machine file and the key sheet have these bytes.
+-- The task writes its output and gives this answer, if the machine file and the key sheet have these bytes. `name` is
+-- the name of the key sheet's file. Words are in language `l`, unless the task asks for another language.
 abbrev pub DoesTask : Language → Task → List ℕ → List ℕ → List ℕ → Port → Result (Unit {0}) Refused → Type 0
-DoesTask l task name machine sheet sink answer =
-    IsAnswerOnSheet machine sheet (λ m month. WritesTask l task name month m sink answer) answer
+DoesTask l (tasks.Page days chosen) name machine sheet sink answer = IsAnswerOnSheet machine sheet
+    (λ m month. WritesPages (unwrap_or chosen l) name month m (wanted_days days (model_of m) month) sink answer) answer
+DoesTask l (tasks.List day) name machine sheet sink answer = IsAnswerOnSheet machine sheet
+    (λ m month. WritesList month m day sink answer) answer
 
 -- The output for a message in this direction is written, and `answer` is the command's answer.
 abbrev pub WritesMessage : Direction → Results → Language → List (Option Day) → Parts → ℕ → List ℕ → Port

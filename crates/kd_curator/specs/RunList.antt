@@ -1,4 +1,4 @@
--- What `write_list` writes, and when `write_list` refuses.
+-- What `run_list` writes, and when `run_list` refuses.
 use Rattle.std.specs.Prelude.{◌≡◌, ℕ, false, List, Option, Result, Err, OnOk}
 use Rattle.kd_tables.specs.Ports.{Port}
 use Rattle.kd_state.specs.declared.machine.parts.Parts.{Parts}
@@ -12,7 +12,7 @@ use Rattle.kd_booklet.specs.declared.fault.DayFault.{DayFault}
 use Rattle.kd_curator.specs.Refusals.{day_refusal, refused_device}
 use Rattle.kd_curator.specs.declared.fault.Refused.{Refused}
 
--- The cases of `write_list`, for the day `number`:
+-- The cases of `run_list`, for the day `number`:
 -- - `NoList`: the day can't be planned, and the answer says why.
 -- - `Settings`: the settings of a plan for the day were written, in the order of a page. If the sink failed, only a
 --   prefix of their text was written. The plan leads from machine `m` to machine `n`. If the whole text was written,

@@ -1,4 +1,4 @@
--- What `write_days` writes, and when `write_days` refuses.
+-- What `run_page` writes, and when `run_page` refuses.
 use Rattle.std.specs.Prelude.{◌≡◌, ℕ, nat_lt, List, [], ◌∷◌, filter, length, Option, Some, None}
 use Rattle.std.specs.Prelude.{Result, Err}
 use Rattle.std.specs.List.{range_with_len}
@@ -30,7 +30,7 @@ pub record IsDayRefusal (model : Model) (month : List (Option Day)) (numbers : L
   pub first : IsFirstFault model month numbers fault
   pub told : refused ≡ day_refusal (nat_lt 1 (length numbers)) fault
 
--- The cases of `write_days`, for the days `numbers`. `name` is the name of the key sheet's file.
+-- The cases of `run_page`, for the days `numbers`. `name` is the name of the key sheet's file.
 -- - `NoDays`: there are no days.
 -- - `NoPage`: a day can't be planned, and the first such day is refused.
 -- - `Pages`: the pages of all days were written. If the sink failed, only a prefix of the pages was written.

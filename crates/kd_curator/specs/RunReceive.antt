@@ -1,4 +1,4 @@
--- What `write_form` writes, and when `write_form` refuses.
+-- What `run_receive` writes, and when `run_receive` refuses.
 use Rattle.std.specs.Prelude.{◌≡◌, ◌⊎◌, ◌≤◌, false, ℕ, List, None, Option, Some, Result, Ok, Err, IsErr, length}
 use Rattle.std.specs.Io.KnownBytes.{Appends}
 use Rattle.kd_tables.specs.Ports.{Port}
@@ -31,7 +31,7 @@ abbrev pub IsReceivedAs : List DamagedPart → Result (Unit {0}) Refused → Typ
 IsReceivedAs parts answer =
     (IsWhole parts × (answer ≡ Ok tt)) ⊎ (¬ (IsWhole parts) × (answer ≡ Err (refused_whole NotWhole)))
 
--- The cases of `write_form`, for the day `number`:
+-- The cases of `run_receive`, for the day `number`:
 -- - `NoDay`: the sheet doesn't have the day.
 -- - `OffKey`: the machine isn't ready, or isn't on the day's key.
 -- - `NotRead`: the form has too many parts, or memory ran out.

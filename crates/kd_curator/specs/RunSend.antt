@@ -1,4 +1,4 @@
--- What `write_order` writes, and when `write_order` refuses.
+-- What `run_send` writes, and when `run_send` refuses.
 use Rattle.std.specs.Prelude.{◌≡◌, ℕ, List, None, Option, Some, Result, Err}
 use Rattle.kd_tables.specs.Ports.{Port}
 use Rattle.kd_state.specs.declared.machine.parts.Parts.{Parts}
@@ -15,7 +15,7 @@ use Rattle.kd_curator.specs.Refusals.{refused_device, refused_message, refused_w
 use Rattle.kd_curator.specs.declared.fault.PageFault.TheVariants.{NoSuchDay}
 use Rattle.kd_curator.specs.declared.fault.Refused.{Refused}
 
--- The cases of `write_order`, for the day `number`:
+-- The cases of `run_send`, for the day `number`:
 -- - `NoDay`: the sheet doesn't have the day.
 -- - `NoPage`: the order is refused on this day, for the fault that `send` returns.
 -- - `Page`: the order's page was written in language `l`. If the sink failed, only a prefix of the page was written.

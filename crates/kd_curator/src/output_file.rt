@@ -13,7 +13,7 @@ pub(crate) fn end_unwritten<E: Sink>(name: &str, fault: NewFileFault, errors: &m
     ensures { EndsWithLine (unwritten_line name.now fault) 1
         (port E.taken E.has_failed errors.old errors.new) result }
 {
-    end_named("", unwritten_words(fault), name, errors)
+    end_named(unwritten_words(fault), name, errors)
 }
 
 /// The words that say why there is no new file. The file's name stands after them.

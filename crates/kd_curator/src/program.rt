@@ -22,12 +22,11 @@ use crate::buffered_sink::BufferedSink;
 use crate::fault::{PageFault, Refused};
 use crate::files::{Contents, FileBytes, name_at, names_of, read_contents, text_at};
 use crate::looks::look_at_files;
-use crate::machine_and_sheet::read_both;
 use crate::output_file::end_unwritten;
-use crate::run_list::write_list;
-use crate::run_page::{wanted_days, write_days};
-use crate::run_receive::write_form;
-use crate::run_send::write_order;
+use crate::run_list::run_list;
+use crate::run_page::run_page;
+use crate::run_receive::run_receive;
+use crate::run_send::run_send;
 use crate::run_type::run_type;
 use crate::sheets::{make_sheet, write_empty_sheet};
 use crate::stop::{Stop, end_program};
@@ -325,17 +324,15 @@ fn do_task<W: Sink>(
     ensures untouched { IsErr result → is_device result ≡ false → sink.new ≡ sink.old }
     ensures failed { W.has_failed sink.new ≡ (W.has_failed sink.old || is_device result) }
 {
-    let (machine, sheet) = read_both(alloc, machine, sheet)?;
     match task {
         Task::Page {
             days,
             language: chosen,
         } => {
             let language = chosen.unwrap_or(language);
-            let days = wanted_days(days, machine.model(), &sheet);
-            write_days(language, name, &machine, &sheet, &days, sink)
+            run_page(alloc, language, name, machine, sheet, days, sink)
         }
-        Task::List(day) => write_list(&machine, &sheet, day, sink),
+        Task::List(day) => run_list(alloc, machine, sheet, day, sink),
     }
 }
 
@@ -356,15 +353,14 @@ fn work_message<W: Sink, E: Sink>(
     ensures failed { W.has_failed sink.new ≡ (W.has_failed sink.old || is_device result) }
     ensures told { TellsOfMessage task.direction (port E.taken E.has_failed errors.old errors.new) }
 {
-    let (machine, sheet) = read_both(alloc, machine, sheet)?;
     let language = task.language.unwrap_or(language);
     let (day, results) = (task.day, task.results);
     match task.direction {
-        Direction::Send => write_order(
-            alloc, language, results, &machine, &sheet, day, message, sink,
-        ),
-        Direction::Receive => write_form(
-            alloc, language, results, &machine, &sheet, day, message, sink, errors,
+        Direction::Send => {
+            run_send(alloc, language, results, machine, sheet, day, message, sink)
+        }
+        Direction::Receive => run_receive(
+            alloc, language, results, machine, sheet, day, message, sink, errors,
         ),
     }
 }

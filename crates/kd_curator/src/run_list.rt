@@ -3,19 +3,41 @@ ghost use Rattle.std.specs.Prelude.{◌≡◌, ◌||◌, [], ◌∷◌, ◌++◌
 ghost use Rattle.kd_state.specs.Line.{list_text, setting_line, IsSettingInRange};
 ghost use Rattle.kd_tables.specs.Ports.{port};
 ghost use Rattle.kd_tables.specs.Writing.{Writes};
+ghost use Rattle.kd_curator.specs.MachineAndSheet.{IsAnswerOnSheet};
 ghost use Rattle.kd_curator.specs.Refusals.{is_device};
 ghost use Rattle.kd_curator.specs.RunList.{WritesList};
 
 use crate::fault::Refused;
+use crate::machine_and_sheet::read_both;
 use kd_booklet::{day_of_model, plan_day};
 use kd_sheet::Sheet;
 use kd_state::{Machine, Setting};
 use kd_tables::{Device, Sink, put_all};
+use std::alloc::Global;
 
-/// Writes a shortest list from `machine` to the day `number` of `sheet`. Allocates no memory.
+/// Writes a shortest list from the machine in the file `machine` to the day `number` of the sheet `sheet`.
 ///
-/// The settings are in the order of the day's page. Faults are tested in this order: `NoSuchDay`, `OtherModel`. For
-/// these faults, nothing is written. For `Device`, only a prefix of the list is written.
+/// The settings are in the order of the day's page. Faults are tested in this order: faults of the machine file, faults
+/// of the sheet, `NoSuchDay`, `OtherModel`. For all of these faults, nothing is written. For `Device`, only a prefix of
+/// the list is written.
+pub fn run_list<W: Sink>(
+    alloc: Global,
+    machine: &[u8],
+    sheet: &[u8],
+    number: u8,
+    sink: &mut W,
+) -> Result<(), Refused>
+    ensures list { IsAnswerOnSheet machine.now sheet.now
+        (λ m month. WritesList month m number (port W.taken W.has_failed sink.old sink.new) result)
+        result }
+    ensures untouched { IsErr result → is_device result ≡ false → sink.new ≡ sink.old }
+    ensures failed { W.has_failed sink.new ≡ (W.has_failed sink.old || is_device result) }
+{
+    let (machine, sheet) = read_both(alloc, machine, sheet)?;
+    write_list(&machine, &sheet, number, sink)
+}
+
+/// Does what `run_list` does, for a machine and a sheet that are already read. Allocates no memory.
 pub fn write_list<W: Sink>(
     machine: &Machine,
     sheet: &Sheet,

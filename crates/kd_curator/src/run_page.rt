@@ -5,24 +5,49 @@ ghost use Rattle.std.specs.List.{range_with_len};
 ghost use Rattle.kd_state.specs.Machine.{model_of};
 ghost use Rattle.kd_tables.specs.Ports.{port};
 ghost use Rattle.kd_booklet.specs.Chain.{ArePlanned};
+ghost use Rattle.kd_curator.specs.MachineAndSheet.{IsAnswerOnSheet};
 ghost use Rattle.kd_curator.specs.Refusals.{is_device};
 ghost use Rattle.kd_curator.specs.RunPage.{IsDayRefusal, WritesPages, wanted_days};
 ghost use Rattle.kd_sheet.specs.Sheet.{has_day_of};
 
 use crate::fault::{PageFault, Refused};
+use crate::machine_and_sheet::read_both;
 use kd_booklet::{DayPlans, plan_days, write_pages};
 use kd_curator_command::Days;
 use kd_page::Language;
 use kd_sheet::Sheet;
 use kd_state::Machine;
 use kd_tables::{Model, Sink};
+use std::alloc::Global;
 
-/// Writes the pages of `days` in one HTML file, in `language`. The first page starts from `machine`. Allocates no
-/// memory.
+/// Writes the pages of `days` in one HTML file, in `language`. The first page starts from the machine in the file
+/// `machine`.
 ///
-/// `name` is the name of the key sheet's file. The pages show this name without its folder and its ending. Faults are
-/// tested day by day: `NoSuchDay`, `OtherModel`. For these faults, nothing is written. For `Device`, only a prefix of
-/// the file is written.
+/// `name` is the name of the key sheet's file. The pages show this name without its folder and its ending. If `days` is
+/// `None`, the pages are for all days that the sheet has for the machine's model. Faults are tested in this order:
+/// faults of the machine file, faults of the sheet, and then, day by day, `NoSuchDay` and `OtherModel`. For all of
+/// these faults, nothing is written. For `Device`, only a prefix of the file is written.
+pub fn run_page<W: Sink>(
+    alloc: Global,
+    language: Language,
+    name: &str,
+    machine: &[u8],
+    sheet: &[u8],
+    days: Option<Days>,
+    sink: &mut W,
+) -> Result<(), Refused>
+    ensures pages { IsAnswerOnSheet machine.now sheet.now
+        (λ m month. WritesPages language name.now month m (wanted_days days (model_of m) month)
+        (port W.taken W.has_failed sink.old sink.new) result) result }
+    ensures untouched { IsErr result → is_device result ≡ false → sink.new ≡ sink.old }
+    ensures failed { W.has_failed sink.new ≡ (W.has_failed sink.old || is_device result) }
+{
+    let (machine, sheet) = read_both(alloc, machine, sheet)?;
+    let days = wanted_days(days, machine.model(), &sheet);
+    write_days(language, name, &machine, &sheet, &days, sink)
+}
+
+/// Does what `run_page` does, for a machine and a sheet that are already read. Allocates no memory.
 pub fn write_days<W: Sink>(
     language: Language,
     name: &str,
@@ -58,7 +83,7 @@ fn plan_or_refuse(machine: &Machine, sheet: &Sheet, days: &Days) -> Result<DayPl
 }
 
 /// The days in `days`. If `days` is `None`, all days that the sheet has for the model.
-pub(crate) fn wanted_days(days: Option<Days>, model: Model, sheet: &Sheet) -> Days
+fn wanted_days(days: Option<Days>, model: Model, sheet: &Sheet) -> Days
     ensures { result ≡ wanted_days days model sheet.now }
 {
     match days {

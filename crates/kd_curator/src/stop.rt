@@ -8,7 +8,7 @@ ghost use Rattle.kd_curator.specs.Ending.{EndsAs, IsWordsStop, day_prefix, refus
 ghost use Rattle.kd_curator_command.specs.CommandLine.{unborrowed_names};
 
 use crate::blame::remark_words;
-use crate::error_line::end_named;
+use crate::error_line::{end_named, end_refused};
 use crate::fault::{PageFault, Refused};
 use crate::files::name_at;
 use arrayvec::ArrayString;
@@ -53,10 +53,10 @@ fn end_with_refusal<E: Sink>(refused: Refused, names: &[&str], errors: &mut E) -
 {
     let text = refusal_text(refused);
     match refused.blame {
-        None => end_named(text.as_str(), "", "", errors),
+        None => end_named(text.as_str(), "", errors),
         Some(blame) => {
             let words = remark_words(blame.remark);
-            end_named(text.as_str(), words, name_at(names, blame.place), errors)
+            end_refused(text.as_str(), words, name_at(names, blame.place), errors)
         }
     }
 }
