@@ -82,8 +82,8 @@ same_results rows LeftOpen LeftOpen first second = refl
 
 same_work : (task next : MessageTask) → task.direction ≡ next.direction → task.day ≡ next.day
     → task.results ≡ next.results → task.language ≡ next.language → task ≡ next
-same_work task next is are open too =
-    λ i. record { direction = is i; day = are i; results = open i; language = too i }
+same_work task next is are shown too =
+    λ i. record { direction = is i; day = are i; results = shown i; language = too i }
 
 same_message : (machine other sheet more message last : List ℕ) (task next : MessageTask) → machine ≡ other
     → sheet ≡ more → message ≡ last → task ≡ next
