@@ -28,6 +28,7 @@ use Rattle.kd_tables.specs.Writing.{Writes}
 use Rattle.kd_curator.specs.Sheets.{MakesSheet, Sheet, Faulty, NoMemory as NoSheetMemory}
 use Rattle.kd_spreadsheet.specs.Options.{OptionTexts}
 use Rattle.kd_pictures.specs.declared.language.Language.{Language}
+use Rattle.kd_pictures.specs.declared.results.Results.{Results}
 use Rattle.kd_curator_command.specs.CommandLine.{NamedCommand}
 use Rattle.kd_curator_command.specs.declared.command.Command.TheVariants as commands
 use Rattle.kd_curator.specs.RunList.{WritesList, NoList, Settings}
@@ -124,31 +125,31 @@ module _ (one other : Port) (before : one.had ≡ other.had) (after : Keeps one.
   look_kept files told looks =
       record { told = looks.told; looks = report_kept files looks.told looks.looks; answers = looks.answers }
 
-  send_kept : (l : Language) (month : List (Option Day)) (m : Parts) (number : ℕ) (order : List ℕ)
-      (told : Result (Unit {0}) Refused) → WritesSendPage l month m number order one told
-      → WritesSendPage l month m number order other told
-  send_kept l month m number order told (sends.NoDay none is) = sends.NoDay none is
-  send_kept l month m number order told (sends.NoPage s found fault why is) = sends.NoPage s found fault why is
-  send_kept l month m number order told (sends.Page s found form page ready is shown writes) =
+  send_kept : (results : Results) (l : Language) (month : List (Option Day)) (m : Parts) (number : ℕ) (order : List ℕ)
+      (told : Result (Unit {0}) Refused) → WritesSendPage results l month m number order one told
+      → WritesSendPage results l month m number order other told
+  send_kept results l month m number order told (sends.NoDay none is) = sends.NoDay none is
+  send_kept results l month m number order told (sends.NoPage s found fault why is) = sends.NoPage s found fault why is
+  send_kept results l month m number order told (sends.Page s found form page ready is shown writes) =
       sends.Page s found form page ready is shown (text_kept _ _ told writes)
 
-  receive_kept : (l : Language) (month : List (Option Day)) (m : Parts) (number : ℕ) (form : List ℕ)
-      (told : Result (Unit {0}) Refused) → WritesReceivePage l month m number form one told
-      → WritesReceivePage l month m number form other told
-  receive_kept l month m number form told (receives.NoDay none is) = receives.NoDay none is
-  receive_kept l month m number form told (receives.OffKey s found fault why is) = receives.OffKey s found fault why is
-  receive_kept l month m number form told (receives.NotRead s found ready fault why is) =
+  receive_kept : (results : Results) (l : Language) (month : List (Option Day)) (m : Parts) (number : ℕ) (form : List ℕ)
+      (told : Result (Unit {0}) Refused) → WritesReceivePage results l month m number form one told
+      → WritesReceivePage results l month m number form other told
+  receive_kept results l month m number form told (receives.NoDay none is) = receives.NoDay none is
+  receive_kept results l month m number form told (receives.OffKey s found fault why is) = receives.OffKey s found fault why is
+  receive_kept results l month m number form told (receives.NotRead s found ready fault why is) =
       receives.NotRead s found ready fault why is
-  receive_kept l month m number form told (receives.Page s found parts read writes is) =
+  receive_kept results l month m number form told (receives.Page s found parts read writes is) =
       receives.Page s found parts read (appends_kept _ writes) is
-  receive_kept l month m number form told (receives.Cut s found parts read front is) =
+  receive_kept results l month m number form told (receives.Cut s found parts read front is) =
       receives.Cut s found parts read (front.0, front.1, appends_kept _ front.2) is
 
-  message_kept : (direction : Direction) (l : Language) (month : List (Option Day)) (m : Parts) (number : ℕ)
-      (message : List ℕ) (told : Result (Unit {0}) Refused) → WritesMessage direction l month m number message one told
-      → WritesMessage direction l month m number message other told
-  message_kept directions.Send l month m number order told writes = send_kept l month m number order told writes
-  message_kept directions.Receive l month m number form told writes = receive_kept l month m number form told writes
+  message_kept : (direction : Direction) (results : Results) (l : Language) (month : List (Option Day)) (m : Parts) (number : ℕ)
+      (message : List ℕ) (told : Result (Unit {0}) Refused) → WritesMessage direction results l month m number message one told
+      → WritesMessage direction results l month m number message other told
+  message_kept directions.Send results l month m number order told writes = send_kept results l month m number order told writes
+  message_kept directions.Receive results l month m number form told writes = receive_kept results l month m number form told writes
 
   typing_page_kept : (l : Language) (m : Parts) (told : Result (Unit {0}) Refused) → WritesTypingPage l m one told
       → WritesTypingPage l m other told
@@ -162,7 +163,7 @@ module _ (one other : Port) (before : one.had ≡ other.had) (after : Keeps one.
       task_kept l task sheet (text_at texts 0) (text_at texts 1) told does
   command_kept l (commands.Message machine sheet message task) texts told does =
       on_kept (machine_and_month (text_at texts 0) (text_at texts 1)) _ _ told
-      (λ both. message_kept task.direction (unwrap_or task.language l) both.1 both.0 task.day (text_at texts 2) told) does
+      (λ both. message_kept task.direction task.results (unwrap_or task.language l) both.1 both.0 task.day (text_at texts 2) told) does
   command_kept l (commands.TypingPage machine chosen) texts told does =
       on_kept (machine_in (text_at texts 0)) _ _ told (λ m. typing_page_kept (unwrap_or chosen l) m told) does
   command_kept l (commands.Table sheet form chosen) texts told does =
