@@ -104,8 +104,8 @@ windows_after s start presses is_hidden =
 abbrev pub row_number : Bool → Progress → ℕ
 row_number is_converter progress = if is_converter then progress.presses else progress.letters
 
--- A row: its groups, a checkbox, the row's number, and the windows after the row. A worksheet doesn't show the windows.
--- A row of which no letter is pressed doesn't show them either.
+-- A row: its groups, a checkbox, the row's number, and the windows after the row. The windows are left out on a
+-- worksheet, and if no letter of the row is pressed.
 unfoldable pub row_text : Results → Day → List ℕ → Progress → List Cell → List ℕ
 row_text results s start progress row =
     markup.ROW.now ++ flat_map group_text (pieces 5 row)
