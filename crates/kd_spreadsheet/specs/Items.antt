@@ -6,7 +6,7 @@ use Rattle.std.specs.Prelude.{if◌then◌else◌, false, not, filter}
 use Rattle.std.specs.List.{list_all, flat_map}
 use Rattle.std.specs.Option.{option_and_then, option_map}
 use Rattle.kd_tables.specs.declared.wheel.Wheel.{Wheel}
-use Rattle.kd_state.specs.LineWords.{words_of}
+use Rattle.kd_tables.specs.LineWords.{words_of}
 use Rattle.kd_sheet.specs.Bars.{reading_of_text}
 use Rattle.kd_spreadsheet.specs.declared.items.WordRule.{WordRule}
 use Rattle.kd_spreadsheet.specs.declared.items.WordRule.TheVariants as word_rules
@@ -97,7 +97,7 @@ single _ = None
 abbrev pub words : Bytes
 words = record { keeps = λ byte. false; alone = λ byte. false }
 
--- the rule for cells of letters: each letter is a word by itself, and numbers stand between gaps
+-- the rule for cells of letters: each letter is a word by itself, and gaps separate numbers
 abbrev pub letters : Bytes
 letters = record { keeps = λ byte. false; alone = is_capital_letter }
 

@@ -32,8 +32,8 @@ unfoldable pub is_meant : Columns → List (List ℕ) → Cell → ℕ → Bool
 is_meant columns head cell place =
     not (is_column_read columns place) && is_near_column cell (cell_at (Some place) head)
 
--- the first of `count` columns, from `place` on, that isn't read, but whose name is nearly one of the names for the
--- cell's column
+-- of the `count` columns from `place` on, the first unread column whose name is nearly one of the names for the cell's
+-- column
 unfoldable pub near_from : Columns → List (List ℕ) → Cell → ℕ → ℕ → Option ℕ
 near_from columns head cell place count = find (is_meant columns head cell) (range_with_len place count)
 

@@ -1,8 +1,7 @@
 -- The notes on a table, on standard error. The notes on unread columns, and the warnings about days with few pairs or
--- groups, are defined to the byte.
--- The notes on a refused table have a line for each cell that can't be read. They also have a line for each row that
--- isn't a day, unless the table lacks a column that the row needs. Such a line begins with the place of the cell or the
--- row. No definition gives the words after the place.
+-- groups, are defined to the byte. The notes on a refused table have a line for each cell that can't be read. They also
+-- have a line for each row that isn't a day, unless the table lacks a column that the row needs. Each of these lines
+-- begins with the place of the cell or the row. No definition gives the words after the place.
 -- Test: tests/cases/curator-sheet.toml
 use Rattle.std.specs.Prelude.{◌≡◌, ◌<◌, ◌+◌, ◌==◌, ◌&&◌, ◌||◌, codes, decimal, nat_lt, ℕ, Bool, true, false, List, [], ◌∷◌, ◌++◌, drop, flat_map, length, map, slice_get, take, Option, Some, None, IfSome, IsTrue, if◌then◌else◌}
 use Rattle.std.specs.Io.KnownBytes.{Appends}
@@ -33,7 +32,7 @@ pub record Tells (notes : Port) : Type 0 where
   pub written : Appends notes.had notes.has text
   pub failed : IsTrue notes.had_failed → IsTrue notes.has_failed
 
--- `text` was written to the port of the notes or, if the port has failed, a prefix of `text`.
+-- The port of the notes took `text` or, if the port has failed, a prefix of `text`.
 pub record TellsText (notes : Port) (text : List ℕ) : Type 0 where
   pub whole : notes.has_failed ≡ false → Appends notes.had notes.has text
   pub part : (count : ℕ) × Appends notes.had notes.has (take count text)
@@ -65,7 +64,7 @@ unread_line head place =
     if is_blank (cell_at (Some place) head) || is_column_read (columns_of head) place then []
     else codes "column " ++ shown (cell_at (Some place) head) ++ unread_words
 
--- the notes on the unread ones of `count` columns, from `place` on, of a table whose first row is `head`
+-- the notes on all unread columns, among `count` columns from `place` on, of a table whose first row is `head`
 unfoldable pub unread_from : List (List ℕ) → ℕ → ℕ → List ℕ
 unread_from head place count = flat_map (unread_line head) (range_with_len place count)
 
@@ -98,7 +97,7 @@ TellsTaken options table notes =
 
 -- ---- Faults.
 
--- the text of a row's number and, if the row's day is known, of the day
+-- a row's number as text and, if the row's day is known, the day as text
 abbrev pub row_number : ℕ → Option ℕ → List ℕ
 row_number number None = decimal number ++ codes ", "
 row_number number (Some day) = (decimal number ++ codes " (day ") ++ (decimal day ++ codes "), ")
@@ -124,8 +123,8 @@ cell_name columns head cell =
 abbrev pub cell_place : Columns → List (List ℕ) → List ℕ → Cell → List ℕ
 cell_place columns head row cell = row ++ cell_name columns head cell ++ codes ": "
 
--- The notes on the cells in a list, which are cells of `row`. Each line begins with the place of the cell that the line
--- is about. There is at least one line for each cell that can't be read.
+-- The notes on a list of cells of `row`. Each line of the notes begins with the place of the cell that the line is
+-- about. There is at least one line for each cell that can't be read.
 pub data TellsCells (options : OptionTexts) (columns : Columns) (head : List (List ℕ)) (place : List ℕ)
     (row : List (List ℕ)) : List Cell → List ℕ → Type 0 where
   NoCells : TellsCells options columns head place row [] []
@@ -217,8 +216,8 @@ pub record HasRowsNote (options : OptionTexts) (columns : Columns) (head : List 
   pub told : TellsRows options columns head (drop 1 (row_numbers table)) rows text
   pub empty : list_all (is_blank_row columns) rows ≡ true → 0 < length words
 
--- `rows`, the rows under the first row, have the days `days`, at least one. No column is misnamed, and `note` is the
--- note on the table.
+-- `rows` are the rows under the first row. They have the days `days`, and there is at least one day. No column is
+-- misnamed, and `note` is the note on the table.
 pub record IsTakenOfRows (options : OptionTexts) (head : List (List ℕ)) (rows : List (List (List ℕ))) (days : List Day)
     (note : List ℕ) : Type 0 where
   pub named : is_misnamed (columns_of head) head ≡ false

@@ -13,8 +13,8 @@ use Rattle.kd_spreadsheet.specs.Steps.{◌>>=◌}
 use Rattle.kd_spreadsheet.specs.declared.columns.Columns.{Columns}
 use Rattle.kd_spreadsheet.specs.Options.{OptionTexts}
 
--- The wheels, each with its ring and its window letter. `None` if the numbers of wheels, rings and letters differ, or a
--- slot is empty.
+-- The wheels, each with its ring and its window letter. `None` if the lists of wheels, rings and letters have different
+-- lengths, or a slot is empty.
 abbrev pub wheels_with : List (Option Wheel) → List ℕ → List ℕ → Option (List SheetWheel)
 wheels_with [] [] [] = Some []
 wheels_with (Some wheel ∷ wheels) (ring ∷ rings) (letter ∷ letters) =

@@ -70,8 +70,8 @@ pub data IsRefusedTable (options : OptionTexts) (table : List ℕ) : Type 0 wher
 
 -- ---- Reading row by row. No public contract cites these definitions.
 
--- If the last argument is `false`, `rows`, the rows under the first row, have the days `days`. If the last argument is
--- `true`, one of `rows` is refused.
+-- `rows` are the rows under the first row. If the last argument is `false`, these rows have the days `days`. If the
+-- last argument is `true`, one of these rows is refused.
 abbrev pub IsBodyRead : OptionTexts → Columns → List (List (List ℕ)) → List Day → Bool → Type 0
 IsBodyRead options columns rows days false = AreDaysOfRows options columns rows days
 IsBodyRead options columns rows days true = HasRefusedRow options columns rows

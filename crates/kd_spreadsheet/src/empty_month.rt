@@ -81,7 +81,7 @@ fn push_empty_pin(text: &mut FileString)
     push_unknown_items::<27>(text, Key::Rows, "?-?");
 }
 
-/// Appends the line of the TOML key `key`. Its value is a text of `count` question marks.
+/// Appends a TOML line that gives the key `key` a text of `count` question marks.
 #[tactic(auto, unfolding(crate::specs::EmptySheet::unknown_line))]
 fn push_unknown(text: &mut FileString, key: Key, count: u8)
     requires room { array_string_len text.old + 24 ≤ 2048 }

@@ -1,7 +1,7 @@
 //! Reads the cells of a table: numbers, wheels, letters, pairs and groups.
 ghost use Rattle.std.specs.Prelude.{◌≡◌, ◌≤◌, ◌+◌, ◌*◌, ◌++◌, ◌==◌, not, filter, ℕ, List, Option, map, option_map, length};
 ghost use Rattle.std.specs.Option.{option_and_then};
-ghost use Rattle.kd_state.specs.LineWords.{words_of};
+ghost use Rattle.kd_tables.specs.LineWords.{words_of};
 ghost use Rattle.kd_spreadsheet.specs.Names.{is_gap};
 ghost use Rattle.kd_spreadsheet.specs.Items.{is_blank, normal, item_text, cell_words, values_of_words, values_in};
 ghost use Rattle.kd_spreadsheet.specs.Items.{digit_of, number_of, letter_of, pair_of, group_of, slot_of, numbered_letter, ring_of_word};
@@ -12,8 +12,7 @@ ghost use Rattle.kd_sheet.specs.Bars.{reading_of_text};
 use crate::names::{capital, is_capital_letter, is_digit, is_gap, wheel_named};
 use arrayvec::ArrayVec;
 use kd_sheet::reading_of_text;
-use kd_state::split_words;
-use kd_tables::{Letter, Reading, Wheel};
+use kd_tables::{Letter, Reading, Wheel, split_words};
 
 /// The greatest number of bytes, words and values that a cell may have.
 pub const CELL_LIMIT: usize = 192;

@@ -13,12 +13,12 @@ mod notes;
 mod options;
 mod pin_row;
 mod quotes;
-mod reading;
 mod records;
 mod rotor_row;
 mod row;
 mod sheet;
 mod sheet_writer;
+mod table_body;
 
 pub use empty_month::write_empty_month;
 pub use fault::SpreadsheetFault;

@@ -39,15 +39,15 @@ pub fn is_misnamed(columns: &Columns, head: &ByteRecord) -> bool
     lacks_near_any(columns, head, &ALL_CELLS)
 }
 
-/// The first column that isn't read, but whose name is nearly one of the names for the column of `cell`.
+/// The first unread column whose name is nearly one of the names for the column of `cell`.
 pub fn near_column(columns: &Columns, head: &ByteRecord, cell: Cell) -> Option<usize>
     ensures { result ≡ near_column columns.now (fields_of head.now) cell }
 {
     near_from(columns, head, cell, 0, COLUMNS)
 }
 
-/// The first of `count` columns, from `place` on, that isn't read, but whose name is nearly one of the names for the
-/// column of `cell`.
+/// The first unread column whose name is nearly one of the names for the column of `cell`. Only the `count` columns
+/// from `place` on are searched.
 #[tactic(auto, unfolding(crate::specs::NearNames::near_from))]
 fn near_from(
     columns: &Columns,

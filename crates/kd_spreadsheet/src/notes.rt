@@ -23,7 +23,6 @@ mod unread;
 mod words;
 
 use crate::columns::Columns;
-use crate::fault::SpreadsheetFault;
 use crate::near_names::is_misnamed;
 use crate::options::TableOptions;
 use crate::quotes::{is_well_quoted, separator_of, strip_bom};
@@ -37,7 +36,7 @@ use kd_tables::{Sink, put_all};
 use note::{push_bytes, push_due_words, push_line};
 use row_note::push_row;
 use row_numbers::RowNumbers;
-use std::alloc::Global;
+use std::alloc::{AllocError, Global};
 pub use taken::taken_note;
 use unread::unread_note;
 use words::Words;
@@ -55,7 +54,7 @@ pub fn refused_note(
     alloc: Global,
     table: &[u8],
     options: &TableOptions<&[u8]>,
-) -> Result<Vec<u8>, SpreadsheetFault>
+) -> Result<Vec<u8>, AllocError>
     ensures { IfOk result (λ note. TellsTable (texts_of options.now) table.now note.items) }
 {
     let mut note = Vec::new(alloc);
@@ -76,7 +75,7 @@ fn push_table(
     alloc: Global,
     table: &[u8],
     options: &TableOptions<&[u8]>,
-) -> Result<(), SpreadsheetFault>
+) -> Result<(), AllocError>
     requires { note.old.items ≡ [] }
     ensures { IfOk result (λ _. TellsTable (texts_of options.now) table.now note.new.items) }
 {
@@ -94,7 +93,7 @@ fn push_table(
 const NO_DAY: &str = "the table has no row with a day";
 
 /// Appends the notes on unread columns, on misnamed columns, and on missing columns that every table needs.
-fn push_head(note: &mut Vec<u8>, head: &Head<'_>) -> Result<(), SpreadsheetFault>
+fn push_head(note: &mut Vec<u8>, head: &Head<'_>) -> Result<(), AllocError>
     ensures { IfOk result (λ _. (missing : List (List ℕ)) × (note.new.items ≡ note.old.items
         ++ (unread_note head.now.names ++ flat_map (line_at (codes "row 1: ")) missing))
         × (is_misnamed head.now.columns head.now.names ≡ true → 0 < length missing)) }
@@ -113,7 +112,7 @@ fn push_rows(
     table: &[u8],
     head: &Head<'_>,
     rows: &[ByteRecord],
-) -> Result<(), SpreadsheetFault>
+) -> Result<(), AllocError>
     requires { AreRows table.now (head.now.names ∷ map fields_of rows.now) }
     ensures { IfOk result (λ _. HasRowsNote head.now.options head.now.columns head.now.names
         table.now note.old.items note.new.items) }
@@ -137,7 +136,7 @@ fn push_body_row(
     head: &Head<'_>,
     number: u64,
     row: &ByteRecord,
-) -> Result<(), SpreadsheetFault>
+) -> Result<(), AllocError>
     ensures { IfOk result (λ _. (more : List ℕ) × (note.new.items ≡ note.old.items ++ more)
         × ((numbers : List ℕ) (rows : List (List (List ℕ))) (text : List ℕ)
         → IfSome (slice_get numbers (length rows)) (λ due. number ≡ due)

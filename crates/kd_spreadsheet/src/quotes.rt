@@ -1,5 +1,5 @@
-//! Checks the quotes of a table. The library `csv` doesn't refuse any table: after an open quote, it would read the
-//! rest as one cell.
+//! Checks the quotes of a table. The library `csv` refuses no table: it would read everything after an open quote as
+//! one cell.
 ghost use Rattle.std.specs.Prelude.{◌≡◌, if◌then◌else◌};
 ghost use Rattle.csv.specs.Reading.{strip_bom};
 ghost use Rattle.kd_spreadsheet.specs.Rows.{is_separator, separator_of, ends_cell, quoting_after_byte, quoting_after, may_end, is_well_quoted};
@@ -15,7 +15,7 @@ pub enum Quoting {
     Quoted,
     /// After a quote in a quoted cell. The cell ends there, unless another quote follows.
     Closed,
-    /// After a byte that stands behind a closing quote, but doesn't end the cell.
+    /// After a closing quote, and then a byte that doesn't end the cell.
     Wrong,
 }
 

@@ -59,8 +59,8 @@ fn seated_in(
     wheels_with(&names, &rings, &letters)
 }
 
-/// The wheels, each with its ring and its window letter. `None` if the numbers of wheels, rings and letters differ, or
-/// a slot is empty.
+/// The wheels, each with its ring and its window letter. `None` if there aren't equally many wheels, rings and letters,
+/// or a slot is empty.
 fn wheels_with(
     names: &Values<Option<Wheel>>,
     rings: &Values<Letter>,

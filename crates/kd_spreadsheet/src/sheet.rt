@@ -17,9 +17,9 @@ use crate::near_names::is_misnamed;
 use crate::notes::{put_note, refused_note, taken_note};
 use crate::options::TableOptions;
 use crate::quotes::is_well_quoted;
-use crate::reading::{Reading, read_body};
 use crate::records::read_records;
 use crate::sheet_writer::write_sheet;
+use crate::table_body::{TableBody, read_body};
 use csv::ByteRecord;
 use kd_state::SheetDay;
 use kd_tables::{Sink, WriteFault};
@@ -48,7 +48,7 @@ fn take_rows(
     if is_misnamed(&columns, names) {
         return Err(SpreadsheetFault::Refused);
     }
-    let Ok(Reading { days, refused }) = read_body(alloc, options, &columns, rows) else {
+    let Ok(TableBody { days, refused }) = read_body(alloc, options, &columns, rows) else {
         return Err(SpreadsheetFault::NoMemory);
     };
     if refused || days.is_empty() {

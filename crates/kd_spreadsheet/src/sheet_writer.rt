@@ -10,8 +10,8 @@ use kd_sheet::Key;
 use kd_sheet::writing::item_text::ItemString;
 use kd_sheet::writing::letters::{pin_texts, push_letters_line};
 use kd_sheet::writing::lines::{FileString, push_list_line, push_number_line, push_text_line};
-use kd_state::{Entry, PinEntry, RotorEntry, SheetDay, SheetWheel, push_letter};
-use kd_tables::{Device, Model, Sink, put_all};
+use kd_state::{Entry, PinEntry, RotorEntry, SheetDay, SheetWheel};
+use kd_tables::{Device, Model, Sink, push_letter, put_all};
 
 /// Writes the key sheet with the days `days`, in this order.
 ///

@@ -6,8 +6,7 @@ use crate::items::{CELL_LIMIT, FromWord, is_blank, push_item_text, values_in};
 use crate::names::{model_named, reflector_named};
 use arrayvec::{ArrayString, ArrayVec};
 use kd_slips::{box_words, model_name};
-use kd_state::split_words;
-use kd_tables::{Letter, Model, Reading, Wheel, allowed, in_box};
+use kd_tables::{Letter, Model, Reading, Wheel, allowed, in_box, split_words};
 
 /// The words for a blank cell.
 const NOTHING: &str = "nothing is there";
@@ -215,7 +214,7 @@ fn no_box_rule(model: Model) -> ArrayString<96> {
     words
 }
 
-/// The words for a wheel of an M4 that can't be in its slot.
+/// The words for a wheel that can't be in its slot of an M4.
 fn seat_rule(wheel: Wheel) -> &'static str {
     match wheel {
         Wheel::Beta | Wheel::Gamma => " can only be at the left",

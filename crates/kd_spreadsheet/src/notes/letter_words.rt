@@ -4,7 +4,7 @@ use super::words::Words;
 use crate::items::{joined, values_in};
 use kd_tables::{Letter, place_on_wheel};
 
-/// Says that `letter` isn't on a Converter's wheel `wheel`. Says nothing if it is.
+/// Says that `letter` isn't on a Converter's wheel `wheel`. Says nothing if `letter` is on the wheel.
 pub fn off_wheel_words(lines: &mut Words, wheel: u8, letter: Letter) {
     if place_on_wheel(wheel, letter).is_none() {
         lines.begin();
@@ -34,7 +34,8 @@ fn pin_letters_words(lines: &mut Words, letters: &[u8], wheel: u8) {
     }
 }
 
-/// Says that `byte` isn't a letter, or isn't on wheel `wheel`. Says nothing if it is on the wheel.
+/// Says that `byte` isn't a letter, or that the letter isn't on wheel `wheel`. Says nothing if the letter is on the
+/// wheel.
 fn pin_letter_words(lines: &mut Words, byte: u8, wheel: u8) {
     match Letter::from_byte(byte) {
         Some(letter) => off_wheel_words(lines, wheel, letter),

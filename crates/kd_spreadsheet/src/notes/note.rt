@@ -7,13 +7,12 @@ use super::head::Head;
 use super::words::{Words, shown_byte};
 use crate::cell::{Cell, column_of};
 use crate::columns::cell_at;
-use crate::fault::SpreadsheetFault;
 use itoa::Buffer;
-use kd_state::split_once;
-use std::alloc::Global;
+use kd_tables::split_once;
+use std::alloc::{AllocError, Global};
 
-/// Appends the lines of `words`, with the place before each line. If there are no words, appends nothing.
-pub fn push_words(note: &mut Vec<u8>, place: &[u8], words: &Words) -> Result<(), SpreadsheetFault>
+/// Appends the lines of `words`, with `place` before each line. If there are no words, appends nothing.
+pub fn push_words(note: &mut Vec<u8>, place: &[u8], words: &Words) -> Result<(), AllocError>
     ensures { IfOk result (λ _. (lines : List (List ℕ))
         × (note.new.items ≡ note.old.items ++ flat_map (line_at place.now) lines)) }
 {
@@ -23,15 +22,15 @@ pub fn push_words(note: &mut Vec<u8>, place: &[u8], words: &Words) -> Result<(),
     push_lines(note, place, words.as_slice())
 }
 
-/// Appends the lines of `words`, with the place before each line. If there are no words and `is_due` is true, appends
-/// the line `otherwise`.
+/// Appends the lines of `words`, with `place` before each line. If there are no words and `is_due` is true, appends the
+/// line `otherwise`.
 pub fn push_due_words(
     note: &mut Vec<u8>,
     place: &[u8],
     words: &Words,
     is_due: bool,
     otherwise: &str,
-) -> Result<(), SpreadsheetFault>
+) -> Result<(), AllocError>
     ensures { IfOk result (λ _. (lines : List (List ℕ))
         × (note.new.items ≡ note.old.items ++ flat_map (line_at place.now) lines)
         × (is_due ≡ true → 0 < length lines)) }
@@ -46,7 +45,7 @@ pub fn push_due_words(
 }
 
 /// Appends the lines of `words`, with the place before each line.
-pub fn push_lines(note: &mut Vec<u8>, place: &[u8], words: &[u8]) -> Result<(), SpreadsheetFault>
+pub fn push_lines(note: &mut Vec<u8>, place: &[u8], words: &[u8]) -> Result<(), AllocError>
     ensures { IfOk result (λ _. (lines : List (List ℕ)) × (0 < length lines)
         × (note.new.items ≡ note.old.items ++ flat_map (line_at place.now) lines)) }
 {
@@ -60,7 +59,7 @@ pub fn push_lines(note: &mut Vec<u8>, place: &[u8], words: &[u8]) -> Result<(), 
 }
 
 /// Appends a line: a place, then words about this place.
-pub fn push_line(note: &mut Vec<u8>, place: &[u8], words: &[u8]) -> Result<(), SpreadsheetFault>
+pub fn push_line(note: &mut Vec<u8>, place: &[u8], words: &[u8]) -> Result<(), AllocError>
     ensures { IfOk result (λ _. note.new.items ≡ note.old.items ++ line_at place.now words.now) }
 {
     push_bytes(note, place)?;
@@ -69,7 +68,7 @@ pub fn push_line(note: &mut Vec<u8>, place: &[u8], words: &[u8]) -> Result<(), S
 }
 
 /// The words for a row's place: the row's number and, if the row's day is known, this day.
-pub fn row_place(alloc: Global, number: u64, day: Option<u8>) -> Result<Vec<u8>, SpreadsheetFault>
+pub fn row_place(alloc: Global, number: u64, day: Option<u8>) -> Result<Vec<u8>, AllocError>
     ensures { IfOk result (λ place. place.items ≡ row_place number day) }
 {
     let mut place = Vec::new(alloc);
@@ -80,7 +79,7 @@ pub fn row_place(alloc: Global, number: u64, day: Option<u8>) -> Result<Vec<u8>,
 
 /// The words for the place of `cell`: first `row`, the words for the row's place, and then the name of the cell's
 /// column.
-pub fn cell_place(head: &Head<'_>, row: &[u8], cell: Cell) -> Result<Vec<u8>, SpreadsheetFault>
+pub fn cell_place(head: &Head<'_>, row: &[u8], cell: Cell) -> Result<Vec<u8>, AllocError>
     ensures { IfOk result (λ place. place.items
         ≡ cell_place head.now.columns head.now.names row.now cell) }
 {
@@ -93,7 +92,7 @@ pub fn cell_place(head: &Head<'_>, row: &[u8], cell: Cell) -> Result<Vec<u8>, Sp
 
 /// Appends the text of `cell`, with `?` for each byte that can't be printed. Of a cell with more than 60 bytes, appends
 /// only the start, and then `...`.
-pub fn push_shown(note: &mut Vec<u8>, cell: &[u8]) -> Result<(), SpreadsheetFault>
+pub fn push_shown(note: &mut Vec<u8>, cell: &[u8]) -> Result<(), AllocError>
     ensures { IfOk result (λ _. note.new.items ≡ note.old.items ++ shown cell.now) }
 {
     if cell.len() > 60 {
@@ -105,7 +104,7 @@ pub fn push_shown(note: &mut Vec<u8>, cell: &[u8]) -> Result<(), SpreadsheetFaul
 }
 
 /// Appends `bytes`.
-pub fn push_bytes(note: &mut Vec<u8>, bytes: &[u8]) -> Result<(), SpreadsheetFault>
+pub fn push_bytes(note: &mut Vec<u8>, bytes: &[u8]) -> Result<(), AllocError>
     ensures { IfOk result (λ _. note.new.items ≡ note.old.items ++ bytes.now) }
 {
     note.extend_from_slice(bytes)?;
@@ -125,11 +124,7 @@ pub fn option_name(cell: Cell) -> &'static str
 }
 
 /// Appends a row's number and, if the row's day is known, the day.
-fn push_row_number(
-    place: &mut Vec<u8>,
-    number: u64,
-    day: Option<u8>,
-) -> Result<(), SpreadsheetFault>
+fn push_row_number(place: &mut Vec<u8>, number: u64, day: Option<u8>) -> Result<(), AllocError>
     ensures { IfOk result (λ _. place.new.items ≡ place.old.items ++ row_number number day) }
 {
     match day {
@@ -142,7 +137,7 @@ fn push_row_number(
 }
 
 /// Appends `number`, then `after`.
-fn push_number(note: &mut Vec<u8>, number: u64, after: &[u8]) -> Result<(), SpreadsheetFault>
+fn push_number(note: &mut Vec<u8>, number: u64, after: &[u8]) -> Result<(), AllocError>
     ensures { IfOk result (λ _. note.new.items ≡ note.old.items ++ (decimal number ++ after.now)) }
 {
     push_bytes(note, Buffer::new().format(number).as_bytes())?;
@@ -151,7 +146,7 @@ fn push_number(note: &mut Vec<u8>, number: u64, after: &[u8]) -> Result<(), Spre
 
 /// Appends the name that the table has for the column of `cell`. If the table lacks the column, appends the name of the
 /// cell's option, such as `--model`.
-fn push_cell_name(place: &mut Vec<u8>, head: &Head<'_>, cell: Cell) -> Result<(), SpreadsheetFault>
+fn push_cell_name(place: &mut Vec<u8>, head: &Head<'_>, cell: Cell) -> Result<(), AllocError>
     ensures { IfOk result (λ _. place.new.items
         ≡ place.old.items ++ cell_name head.now.columns head.now.names cell) }
 {
@@ -163,7 +158,7 @@ fn push_cell_name(place: &mut Vec<u8>, head: &Head<'_>, cell: Cell) -> Result<()
 
 /// Appends `bytes`, with `?` for each byte that can't be printed. If `is_long`, `?` also stands for each byte outside
 /// of ASCII.
-fn push_shown_bytes(note: &mut Vec<u8>, is_long: bool, bytes: &[u8]) -> Result<(), SpreadsheetFault>
+fn push_shown_bytes(note: &mut Vec<u8>, is_long: bool, bytes: &[u8]) -> Result<(), AllocError>
     ensures { IfOk result (λ _. note.new.items
         ≡ note.old.items ++ map (shown_byte is_long) bytes.now) }
 {

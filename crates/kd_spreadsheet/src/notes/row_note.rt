@@ -14,10 +14,10 @@ use super::note::{cell_place, push_due_words, push_words, row_place};
 use super::words::Words;
 use crate::cell::{Cell, day_in, has_columns, has_text, is_read, known_cells, row_model, text_of};
 use crate::columns::cell_at;
-use crate::fault::SpreadsheetFault;
 use crate::items::is_blank;
 use crate::row::row_day;
 use csv::ByteRecord;
+use std::alloc::AllocError;
 
 /// Appends the notes on a row that isn't blank. Adds the row's day and model to `found`.
 pub fn push_row(
@@ -26,7 +26,7 @@ pub fn push_row(
     head: &Head<'_>,
     number: u64,
     row: &ByteRecord,
-) -> Result<(), SpreadsheetFault>
+) -> Result<(), AllocError>
     ensures { IfOk result (λ _. (more : List ℕ) × (note.new.items ≡ note.old.items ++ more)
         × TellsRow head.now.options head.now.columns head.now.names number
         (fields_of row.now) more) }
@@ -39,7 +39,7 @@ pub fn push_row(
 }
 
 /// The words for a row's place: the row's number and, if the row's day is known, this day.
-fn place_of_row(head: &Head<'_>, number: u64, row: &ByteRecord) -> Result<Vec<u8>, SpreadsheetFault>
+fn place_of_row(head: &Head<'_>, number: u64, row: &ByteRecord) -> Result<Vec<u8>, AllocError>
     ensures { IfOk result (λ place. place.items
         ≡ row_place number (day_in (cell_at head.now.columns.day (fields_of row.now)))) }
 {
@@ -54,7 +54,7 @@ fn push_placed_row(
     place: &[u8],
     row: &ByteRecord,
     day_words: &Words,
-) -> Result<(), SpreadsheetFault>
+) -> Result<(), AllocError>
     ensures { IfOk result (λ _. TellsPlacedRow head.now.options head.now.columns head.now.names
         place.now (fields_of row.now) note.old.items note.new.items) }
 {
@@ -76,7 +76,7 @@ fn push_row_cells(
     head: &Head<'_>,
     row: &PlacedRow<'_>,
     day_words: &Words,
-) -> Result<(), SpreadsheetFault>
+) -> Result<(), AllocError>
     ensures { IfOk result (λ _. (more : List ℕ) × (note.new.items ≡ note.old.items ++ more)
         × TellsCells head.now.options head.now.columns head.now.names row.now.place row.now.cells
         (row_cells (row_model head.now.options head.now.columns row.now.cells)) more) }
@@ -102,7 +102,7 @@ fn push_cell(
     row: &PlacedRow<'_>,
     cell: Cell,
     words: &Words,
-) -> Result<(), SpreadsheetFault>
+) -> Result<(), AllocError>
     ensures { IfOk result (λ _. (lines : List (List ℕ))
         × (note.new.items ≡ note.old.items
         ++ flat_map (line_at (cell_place head.now.columns head.now.names row.now.place cell)) lines)
@@ -143,7 +143,7 @@ fn push_cells(
     head: &Head<'_>,
     row: &PlacedRow<'_>,
     cells: &[Cell],
-) -> Result<(), SpreadsheetFault>
+) -> Result<(), AllocError>
     ensures { IfOk result (λ _. (more : List ℕ) × (note.new.items ≡ note.old.items ++ more)
         × TellsCells head.now.options head.now.columns head.now.names row.now.place
         row.now.cells cells.now more) }

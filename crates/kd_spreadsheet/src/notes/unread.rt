@@ -6,14 +6,13 @@ ghost use Rattle.kd_spreadsheet.specs.Notes.{unread_from, unread_line, unread_no
 
 use super::note::{push_bytes, push_shown};
 use crate::columns::{Columns, cell_at};
-use crate::fault::SpreadsheetFault;
 use crate::items::is_blank;
 use crate::row::is_column_read;
 use csv::ByteRecord;
-use std::alloc::Global;
+use std::alloc::{AllocError, Global};
 
 /// The notes on unread columns, among the first 64, of a table whose first row is `head`.
-pub fn unread_note(alloc: Global, head: &ByteRecord) -> Result<Vec<u8>, SpreadsheetFault>
+pub fn unread_note(alloc: Global, head: &ByteRecord) -> Result<Vec<u8>, AllocError>
     ensures { IfOk result (λ note. note.items ≡ unread_note (fields_of head.now)) }
 {
     let mut note = Vec::new(alloc);
@@ -29,7 +28,7 @@ fn push_unread(
     head: &ByteRecord,
     place: usize,
     count: usize,
-) -> Result<(), SpreadsheetFault>
+) -> Result<(), AllocError>
     requires columns { columns.now ≡ columns_of (fields_of head.now) }
     requires few { place + count ≤ 64 }
     ensures { IfOk result (λ _. note.new.items
@@ -48,7 +47,7 @@ fn push_unread_line(
     columns: &Columns,
     head: &ByteRecord,
     place: usize,
-) -> Result<(), SpreadsheetFault>
+) -> Result<(), AllocError>
     requires { columns.now ≡ columns_of (fields_of head.now) }
     ensures { IfOk result (λ _. note.new.items
         ≡ note.old.items ++ unread_line (fields_of head.now) place) }

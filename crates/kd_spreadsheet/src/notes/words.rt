@@ -1,4 +1,4 @@
-//! Lines of words about one place of a table.
+//! Lines of words that say what is wrong at one place of a table.
 ghost use Rattle.std.specs.Prelude.{◌≡◌, ◌==◌, length};
 ghost use Rattle.kd_spreadsheet.specs.Notes.{shown_byte};
 

@@ -3,7 +3,7 @@ use Rattle.std.specs.Result.{is_ok}
 use Rattle.csv.specs.Records.{fields_of}
 use Rattle.kd_spreadsheet.specs.Options.{texts_of}
 use Rattle.kd_spreadsheet.proofs.BodyRows.{body_blank, body_refused, body_day}
-use Rattle.kd_spreadsheet.proofs.reading.read_body_row.Goals as goal
+use Rattle.kd_spreadsheet.proofs.table_body.read_body_row.Goals as goal
 
 pub returns-then-is_blank_row : goal.returns-then-is_blank_row
 returns-then-is_blank_row c = λ rows are.

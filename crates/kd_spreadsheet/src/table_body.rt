@@ -5,29 +5,28 @@ ghost use Rattle.kd_spreadsheet.specs.Options.{texts_of};
 ghost use Rattle.kd_spreadsheet.specs.Table.{is_taken, IsBodyRead};
 
 use crate::columns::Columns;
-use crate::fault::SpreadsheetFault;
 use crate::options::TableOptions;
 use crate::row::{is_blank_row, row_day};
 use csv::ByteRecord;
 use kd_state::SheetDay;
-use std::alloc::Global;
+use std::alloc::{AllocError, Global};
 
 /// The days in the rows under the first row, and whether one of these rows was refused.
 #[derive(Drop)]
-pub struct Reading {
+pub struct TableBody {
     /// The days of the rows. No two days have the same number.
     pub days: Vec<SheetDay>,
     /// Whether a row was refused.
     pub refused: bool,
 }
 
-/// Reads the rows under the first row: their days, and whether one of the rows is refused.
+/// Reads the days of the rows under the first row, and whether one of these rows is refused.
 pub fn read_body(
     alloc: Global,
     options: &TableOptions<&[u8]>,
     columns: &Columns,
     rows: &[ByteRecord],
-) -> Result<Reading, SpreadsheetFault>
+) -> Result<TableBody, AllocError>
     ensures { IfOk result (λ reading. IsBodyRead (texts_of options.now) columns.now
         (map fields_of rows.now) reading.days.items reading.refused) }
 {
@@ -36,7 +35,7 @@ pub fn read_body(
     for row in rows {
         refused = read_body_row(&mut days, refused, options, columns, row)?;
     }
-    Ok(Reading { days, refused })
+    Ok(TableBody { days, refused })
 }
 
 /// Reads a row under the first row, and appends its day. Returns whether this row or an earlier row is refused.
@@ -46,7 +45,7 @@ fn read_body_row(
     options: &TableOptions<&[u8]>,
     columns: &Columns,
     row: &ByteRecord,
-) -> Result<bool, SpreadsheetFault>
+) -> Result<bool, AllocError>
     ensures { IfOk result (λ now. (rows : List (List (List ℕ)))
         → IsBodyRead (texts_of options.now) columns.now rows days.old.items refused
         → IsBodyRead (texts_of options.now) columns.now (rows ++ fields_of row.now ∷ [])
@@ -63,7 +62,7 @@ fn read_body_row(
         return Ok(true);
     }
     if days.push(day).is_err() {
-        return Err(SpreadsheetFault::NoMemory);
+        return Err(AllocError);
     }
     Ok(refused)
 }

@@ -1,5 +1,5 @@
 use Rattle.std.proofs.Common.{length}
-use Rattle.kd_spreadsheet.proofs.reading.+is_taken.Given as goal
+use Rattle.kd_spreadsheet.proofs.table_body.+is_taken.Given as goal
 
 abbrev pub decreases-is_taken : goal.decreases-is_taken
 decreases-is_taken l = length l.days.now

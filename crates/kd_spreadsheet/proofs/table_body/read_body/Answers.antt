@@ -2,7 +2,7 @@ use Rattle.std.proofs.Common.{map, take}
 use Rattle.csv.specs.Records.{fields_of}
 use Rattle.kd_spreadsheet.specs.Table.{NoRows}
 use Rattle.kd_spreadsheet.proofs.ReadRows.{one_longer}
-use Rattle.kd_spreadsheet.proofs.reading.read_body.Goals as goal
+use Rattle.kd_spreadsheet.proofs.table_body.read_body.Goals as goal
 
 pub loop-row-init : goal.loop-row-init
 loop-row-init c = rw c.new-days.ensures.items NoRows
