@@ -6,7 +6,7 @@ use Rattle.std.proofs.lemmas.Bool.{cases_Bool, le-leb}
 use Rattle.std.proofs.lemmas.List.{append-nil}
 use Rattle.std.proofs.lemmas.List.Splits.{length-slice_split}
 use Rattle.std.proofs.lemmas.List.Sums.{count_by-le-length}
-use Rattle.kd_state.specs.LineWords.{words_of}
+use Rattle.kd_tables.specs.LineWords.{words_of}
 use Rattle.kd_spreadsheet.specs.Items.{Bytes, hyphened, item_text, letters, normal, values_in, values_of_words, words}
 use Rattle.kd_spreadsheet.specs.Names.{is_capital_letter}
 use Rattle.kd_printed_sheet.specs.Words.{spaced, words_text}

@@ -1,4 +1,5 @@
--- The days of a key sheet as a CSV table for a spreadsheet. Each day has a row, and the first day comes first.
+-- The days of a key sheet as a CSV table for a spreadsheet. Each day has a row. The rows stand in the rising order of
+-- the days.
 use Rattle.std.specs.Prelude.{decimal, ℕ, Bool, if◌then◌else◌, List, [], ◌++◌, flat_map, zip}
 use Rattle.std.specs.Prelude.{Option, Some, None}
 use Rattle.kd_tables.specs.Places.{reading_text}

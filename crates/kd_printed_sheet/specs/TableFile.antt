@@ -1,6 +1,7 @@
 -- The file with a sheet's tables: a page to print, or a CSV table for a spreadsheet.
 use Rattle.std.specs.Prelude.{ℕ, Bool, if◌then◌else◌, List, [], ◌++◌, flat_map, Option}
-use Rattle.kd_tables.specs.declared.model.Model.TheVariants.{EnigmaI, M3, M4}
+use Rattle.kd_tables.specs.Tables.{all_models, by_family, family_of}
+use Rattle.kd_tables.specs.declared.model.Model.{Model}
 use Rattle.kd_state.specs.SheetDay.{Day}
 use Rattle.kd_sheet.specs.Sheet.{day_of}
 use Rattle.kd_pictures.specs.declared.language.Language.{Language}
@@ -20,17 +21,17 @@ use Rattle.kd_printed_sheet.specs.MonthTable.{month_table}
 abbrev pub no_days : Language → Bool → List ℕ
 no_days l has_days = if has_days then [] else text_in l NO_DAYS
 
--- a table for each model of rotor machine that has days, and a key list for each day of a Converter
-unfoldable pub tables_of : Language → List (Option Day) → List ℕ
-tables_of l month =
-    month_table l EnigmaI month ++ month_table l M3 month ++ month_table l M4 month
-    ++ flat_map (λ number. key_list_of l (day_of month number)) DAYS
+-- the table of a rotor machine's days, or a key list for each day of a Converter
+unfoldable pub tables_for : Language → List (Option Day) → Model → List ℕ
+tables_for l month model =
+    by_family (month_table l model month) (flat_map (λ number. key_list_of l (day_of month number)) DAYS)
+    (family_of model)
 
 -- the HTML page with the tables of all days
 unfoldable pub page_text : Language → List (Option Day) → List ℕ
 page_text l month =
     file_head l ++ text_in l TITLE ++ STYLE.now ++ MORE_STYLE.now ++ WIDE_BODY.now ++ no_days l (has_days month)
-    ++ tables_of l month ++ FOOT.now
+    ++ flat_map (tables_for l month) all_models ++ FOOT.now
 
 -- the file with the tables: a page in the language `l`, or a CSV table, which is the same in all languages
 abbrev pub file_text : Language → TableForm → List (Option Day) → List ℕ

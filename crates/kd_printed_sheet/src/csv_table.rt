@@ -13,7 +13,7 @@ use crate::month_table::has_numbered_rings;
 use crate::texts::{
     COLUMN_NAMES, COMMA, LIST_COLUMN_NAMES, NO_GROUPS, NO_LIST, PIN_MODEL, ROW_END,
 };
-use crate::words::{Ground, Name, RingLetter, RingNumber, Whole, draw_words};
+use crate::words::{Ground, Item, RingLetter, RingNumber, SingleLetter, draw_words};
 use itoa::Buffer;
 use kd_pictures::draw;
 use kd_pictures::template::{draw_letter, draw_letters};
@@ -106,15 +106,15 @@ fn draw_key_cells<W: Sink>(sink: &mut W, entry: &RotorEntry)
 {
     let wheels = entry.wheels.as_slice();
     draw(sink, COMMA);
-    draw_words::<Name, W, SheetWheel>(sink, wheels);
+    draw_words::<Item, W, SheetWheel>(sink, wheels);
     draw(sink, COMMA);
     draw_rings(sink, has_numbered_rings(entry.model), wheels);
     draw(sink, COMMA);
-    draw_words::<Whole, W, (Letter, Letter)>(sink, entry.pairs.as_slice());
+    draw_words::<Item, W, (Letter, Letter)>(sink, entry.pairs.as_slice());
     draw(sink, COMMA);
     draw_words::<Ground, W, SheetWheel>(sink, wheels);
     draw(sink, COMMA);
-    draw_words::<Whole, W, [Letter; 3]>(sink, entry.groups.as_slice());
+    draw_words::<Item, W, [Letter; 3]>(sink, entry.groups.as_slice());
 }
 
 /// Writes the rings of the wheels, as numbers or as letters.
@@ -140,12 +140,12 @@ fn draw_pin_line<W: Sink>(sink: &mut W, entry: &PinEntry)
 {
     draw(sink, Buffer::new().format(entry.day));
     draw(sink, PIN_MODEL);
-    draw_words::<Whole, W, Letter>(sink, &entry.window);
+    draw_words::<SingleLetter, W, Letter>(sink, &entry.window);
     draw(sink, NO_GROUPS);
     draw_letters(sink, &entry.list);
     draw_pins(sink, &entry.pins);
     draw(sink, COMMA);
-    draw_words::<Whole, W, Reading>(sink, &entry.rows);
+    draw_words::<Item, W, Reading>(sink, &entry.rows);
     draw(sink, ROW_END);
 }
 
@@ -161,7 +161,7 @@ fn draw_pins<W: Sink>(sink: &mut W, pins: &PinSet)
     draw_wheel(sink, &ring6(), &pins.w6);
 }
 
-/// Writes the cell of the pin wheel that has the letters `ring` and these pins.
+/// Writes the cell of a pin wheel with the letters `ring` and the pins `pins`.
 fn draw_wheel<const N: usize, W: Sink>(sink: &mut W, ring: &Ring<N>, pins: &[bool])
     ensures { Draws W.taken W.has_failed sink.old sink.new (effective_cell ring.now pins.now) }
 {

@@ -12,7 +12,7 @@ use crate::texts::{
     BAR, BAR_BELOW_TEN, CHECK, CHECK_END, EFFECTIVE, INEFFECTIVE, KEY_LIST, KEY_LIST_COLUMNS,
     KEY_LIST_END, NO_PIN, ROW_END,
 };
-use crate::words::{Whole, draw_words};
+use crate::words::{SingleLetter, draw_words};
 use kd_pictures::fives::draw_fives;
 use kd_pictures::template::{Value, draw_letters, fill, fill_in};
 use kd_pictures::{Language, draw, draw_in};
@@ -70,7 +70,7 @@ fn draw_list<W: Sink>(sink: &mut W, language: Language, entry: &PinEntry, check:
     draw_in(sink, language, CHECK);
     draw_fives(sink, 0, check);
     draw_in(sink, language, CHECK_END);
-    draw_words::<Whole, W, Letter>(sink, &entry.window);
+    draw_words::<SingleLetter, W, Letter>(sink, &entry.window);
     draw(sink, KEY_LIST_END);
 }
 

@@ -18,8 +18,8 @@ pub fn templates_take_their_values()
     ensures { TemplatesTakeTheirValues }
 {}
 
-/// A month has the days 1 to 31. On a page, a month's table has its days in falling order. A CSV table has them in
-/// rising order, and key lists stand in rising order.
+/// A month has the days 1 to 31. On a page, a month's table has its days in falling order. A CSV table has its days in
+/// rising order, and key lists stand in the rising order of their days.
 pub fn days_are_a_months()
     ensures days { DAYS ≡ range_with_len 1 31 }
     ensures last_first { LAST_DAY_FIRST ≡ reverse (range_with_len 1 31) }

@@ -11,7 +11,7 @@ use crate::days::{days_of, first_of};
 use crate::texts::{
     CELL, COLUMNS, FIRST_TO_LAST, MONTH, MONTH_END, ONE_DAY, RING, ROW, ROW_END, WHEEL,
 };
-use crate::words::{Ground, Whole, draw_words};
+use crate::words::{Ground, Item, draw_words};
 use kd_pictures::template::{Value, fill, fill_in};
 use kd_pictures::{Language, draw};
 use kd_sheet::Sheet;
@@ -161,11 +161,11 @@ fn draw_word_cells<W: Sink>(sink: &mut W, entry: &RotorEntry)
     ensures { Draws W.taken W.has_failed sink.old sink.new (word_cells (rotor_values entry.now)) }
 {
     draw(sink, CELL);
-    draw_words::<Whole, W, (Letter, Letter)>(sink, entry.pairs.as_slice());
+    draw_words::<Item, W, (Letter, Letter)>(sink, entry.pairs.as_slice());
     draw(sink, CELL);
     draw_words::<Ground, W, SheetWheel>(sink, entry.wheels.as_slice());
     draw(sink, CELL);
-    draw_words::<Whole, W, [Letter; 3]>(sink, entry.groups.as_slice());
+    draw_words::<Item, W, [Letter; 3]>(sink, entry.groups.as_slice());
     draw(sink, ROW_END);
 }
 

@@ -1,9 +1,9 @@
 //! The file with a sheet's tables.
-ghost use Rattle.std.specs.Prelude.{◌≡◌, ◌||◌, ◌++◌, is_err};
+ghost use Rattle.std.specs.Prelude.{◌≡◌, ◌||◌, ◌++◌, flat_map, is_err};
 ghost use Rattle.kd_tables.specs.Writing.{Writes};
 ghost use Rattle.kd_pictures.specs.Drawing.{Draws};
 ghost use Rattle.kd_printed_sheet.specs.Days.{has_days};
-ghost use Rattle.kd_printed_sheet.specs.TableFile.{file_text, no_days, page_text, tables_of};
+ghost use Rattle.kd_printed_sheet.specs.TableFile.{file_text, no_days, page_text, tables_for};
 
 use crate::csv_table::draw_csv;
 use crate::days::{DAYS, has_any_day};
@@ -14,7 +14,7 @@ use kd_pictures::file_head::draw_file_head;
 use kd_pictures::texts::{FOOT, MORE_STYLE, STYLE};
 use kd_pictures::{Language, draw, draw_in};
 use kd_sheet::Sheet;
-use kd_tables::{Device, Model, Sink};
+use kd_tables::{Device, Family, Model, Sink};
 
 /// The form of the file with a sheet's tables.
 #[derive(Clone, Copy, Debug, PartialEq, Eq)]
@@ -62,7 +62,7 @@ fn draw_page<W: Sink>(sink: &mut W, language: Language, sheet: &Sheet)
     draw(sink, MORE_STYLE);
     draw(sink, WIDE_BODY);
     draw_no_days(sink, language, sheet);
-    draw_tables(sink, language, sheet);
+    draw_tables(sink, language, sheet, &Model::ALL);
     draw(sink, FOOT);
 }
 
@@ -75,12 +75,24 @@ fn draw_no_days<W: Sink>(sink: &mut W, language: Language, sheet: &Sheet)
     }
 }
 
-/// Writes a table for each model of rotor machine that has days, and a key list for each day of a Converter.
-fn draw_tables<W: Sink>(sink: &mut W, language: Language, sheet: &Sheet)
-    ensures { Draws W.taken W.has_failed sink.old sink.new (tables_of language sheet.now) }
+/// Writes the tables of each of `models`.
+fn draw_tables<W: Sink>(sink: &mut W, language: Language, sheet: &Sheet, models: &[Model])
+    ensures { Draws W.taken W.has_failed sink.old sink.new
+        (flat_map (tables_for language sheet.now) models.now) }
 {
-    draw_month(sink, language, Model::EnigmaI, sheet);
-    draw_month(sink, language, Model::M3, sheet);
-    draw_month(sink, language, Model::M4, sheet);
-    draw_key_lists(sink, language, sheet, &DAYS);
+    if let [model, rest @ ..] = models {
+        draw_tables_for(sink, language, sheet, *model);
+        draw_tables(sink, language, sheet, rest);
+    }
+}
+
+/// Writes the table of a rotor machine's days, or a key list for each day of a Converter.
+#[tactic(auto, unfolding(crate::specs::TableFile::tables_for))]
+fn draw_tables_for<W: Sink>(sink: &mut W, language: Language, sheet: &Sheet, model: Model)
+    ensures { Draws W.taken W.has_failed sink.old sink.new (tables_for language sheet.now model) }
+{
+    match model.family() {
+        Family::Rotor => draw_month(sink, language, model, sheet),
+        Family::Pin => draw_key_lists(sink, language, sheet, &DAYS),
+    }
 }

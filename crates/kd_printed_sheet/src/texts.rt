@@ -52,8 +52,8 @@ pub const NOTHING: &str = "-";
 /// The separator of two words in a cell.
 pub const SPACE: &str = " ";
 
-/// The start of the head of a Converter's key list, with the model and the day. The list's two letters follow. The next
-/// text stands after the letters, and names the columns.
+/// The start of the head of a Converter's key list, with the model and the day. The two letters that name the list
+/// follow. After these letters stands `KEY_LIST_COLUMNS`, which names the columns.
 pub const KEY_LIST: Text = (
     "<article class=list>\n<header>\n<h1>~, day ~: key list ",
     "<article class=list>\n<header>\n<h1>~, Tag ~: Schlüsselliste ",
@@ -96,8 +96,8 @@ pub const COLUMN_NAMES: &str = "day,model,reflector,wheels,rings,plugs,window,gr
 
 pub const LIST_COLUMN_NAMES: &str = ",list,pins 1,pins 2,pins 3,pins 4,pins 5,pins 6,bars";
 
-/// The comma between two cells of a CSV table. The next text has the empty cells in a rotor machine's row, where a
-/// Converter's row has its key list.
+/// The comma between two cells of a CSV table. The next text has the empty cells of a rotor machine's row, in place of
+/// the key list in a Converter's row.
 pub const COMMA: &str = ",";
 
 pub const NO_LIST: &str = ",,,,,,,,";

@@ -5,12 +5,13 @@ ghost use Rattle.kd_printed_sheet.specs.Words.{ring_text, spaced, words_text};
 
 use crate::texts::{NOTHING, SPACE};
 use kd_pictures::draw;
-use kd_pictures::template::{draw_letter, draw_letters, draw_ordinal};
+use kd_pictures::template::{draw_letter, draw_ordinal};
+use kd_sheet::writing::item_text::ItemText;
 use kd_state::SheetWheel;
-use kd_tables::{Letter, Reading, Sink};
+use kd_tables::{Letter, Sink};
 
-/// A value that a table's cell shows as a word. `Kind` says which word, since a wheel has several, such as its name and
-/// its ring.
+/// A value that a table's cell shows as a word. `Kind` says which word: a wheel, for example, has a word for its name
+/// and a word for its ring.
 pub(crate) trait CellWord<Kind> {
     /// The word that the cell shows.
     ghost text: { Self → List ℕ };
@@ -19,14 +20,14 @@ pub(crate) trait CellWord<Kind> {
         ensures { Draws W.taken W.has_failed sink.old sink.new (text self.now) };
 }
 
-/// A kind of word in a table's cell: the whole value.
-pub(crate) struct Whole;
+/// A kind of word in a table's cell: a letter.
+pub(crate) struct SingleLetter;
+
+/// A kind of word in a table's cell: the text that stands for the value in key sheets.
+pub(crate) struct Item;
 
 /// A kind of word in a table's cell: the letter of a wheel in the ground setting.
 pub(crate) struct Ground;
-
-/// A kind of word in a table's cell: the name of a wheel.
-pub(crate) struct Name;
 
 /// A kind of word in a table's cell: the ring of a wheel, as a letter.
 pub(crate) struct RingLetter;
@@ -46,7 +47,7 @@ pub(crate) fn draw_words<Kind, W: Sink, T: CellWord<Kind>>(sink: &mut W, words: 
     }
 }
 
-impl CellWord<Whole> for Letter {
+impl CellWord<SingleLetter> for Letter {
     ghost use Rattle.kd_pictures.specs.Template.{letter_text};
 
     ghost text = { letter_text };
@@ -56,35 +57,12 @@ impl CellWord<Whole> for Letter {
     }
 }
 
-/// A cable, as its two letters.
-impl CellWord<Whole> for (Letter, Letter) {
-    ghost use Rattle.kd_printed_sheet.specs.Words.{pair_text};
-
-    ghost text = { pair_text };
+/// The word of a value is its text in key sheets: a cable's two letters, a group's three, a wheel's name or a reading.
+impl<T: ItemText> CellWord<Item> for T {
+    ghost text = { T.item_text };
 
     fn draw_word<W: Sink>(&self, sink: &mut W) {
-        draw_letters(sink, &[self.0, self.1]);
-    }
-}
-
-/// A group of the day.
-impl CellWord<Whole> for [Letter; 3] {
-    ghost use Rattle.kd_printed_sheet.specs.Words.{group_text};
-
-    ghost text = { group_text };
-
-    fn draw_word<W: Sink>(&self, sink: &mut W) {
-        draw_letters(sink, self);
-    }
-}
-
-impl CellWord<Whole> for Reading {
-    ghost use Rattle.kd_tables.specs.Places.{reading_text};
-
-    ghost text = { reading_text };
-
-    fn draw_word<W: Sink>(&self, sink: &mut W) {
-        draw(sink, self.text().as_str());
+        draw(sink, self.item_text().as_str());
     }
 }
 
@@ -95,16 +73,6 @@ impl CellWord<Ground> for SheetWheel {
 
     fn draw_word<W: Sink>(&self, sink: &mut W) {
         draw_letter(sink, self.letter);
-    }
-}
-
-impl CellWord<Name> for SheetWheel {
-    ghost use Rattle.kd_printed_sheet.specs.Words.{name_text};
-
-    ghost text = { name_text };
-
-    fn draw_word<W: Sink>(&self, sink: &mut W) {
-        draw(sink, self.wheel.text().as_str());
     }
 }
 
