@@ -305,12 +305,12 @@ def article(say, desk, machine_file, sheet, day, folder):
                 'First compare the machine with <i>before</i>; only windows may differ. Thick frames: to set.' if settings else
                 'The machine has to stand as shown; only windows may differ.')
     shown = ' '.join(after['letters']) if is_converter else ', '.join(named(after['letter'][w]) for w in after['slots'])
-    test = '<p>%s</p>\n<pre>%s\n<b>%s</b></pre>\n<p>%s</p>\n<p class=fields><span>%s</span></p>\n<p class=note>%s</p>\n' % (
+    test = '<p>%s</p>\n<pre>%s\n<b>%s</b></pre>\n<p>%s</p>\n<p class=fields><span>%s</span></p>\n%s' % (
         say('Set the knob to C, and encipher 26 times A. The machine has to print the second line:' if is_converter else
             'Type the alphabet. The lamps have to give the second line:'),
         in_fives(keys), in_fives(lamps), say('Then set the letters to <b>%s</b> again.' if is_converter else 'Then set the windows to <b>%s</b> again.', shown),
         say('Letters when put away' if is_converter else 'Windows when put away'),
-        say('%s; fewer aren’t possible.', count(say, len(settings))))
+        '<p class=note>%s</p>\n' % say('%s; fewer aren’t possible.', count(say, len(settings))) if settings else '')
     out = '<article id=day-%s>\n<header>\n<h1>%s <small>%s</small></h1>\n<p class=fields><span>%s</span><span>%s</span><span>%s</span></p>\n<p>%s</p>\n</header>\n%s%s</article>\n' % (
         day, name, count(say, len(settings)), say('Machine'), say('Date'), say('Done by'), first, (converter if is_converter else enigma)(say, before, after, settings, name),
         step(say, say('4 Test' if is_converter else '6 Test'), None, name, test))

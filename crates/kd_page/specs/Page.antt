@@ -4,8 +4,8 @@ use Rattle.kd_state.specs.declared.machine.parts.Parts.{Parts}
 use Rattle.kd_state.specs.declared.setting.Setting.{Setting}
 use Rattle.kd_pictures.specs.declared.language.Language.{Language}
 
--- A day's page in a language. It shows the day, the settings in the order of the page, and the machine before and after
--- them. `sheet` is the name of the key sheet's file.
+-- A day's page in a language. The page shows the day, the machine before and after the settings, and the settings in
+-- the order of the page. `sheet` is the name of the key sheet's file.
 pub record Page : Type 0 where
   pub language : Language
   pub sheet : List ℕ

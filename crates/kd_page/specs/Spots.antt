@@ -55,7 +55,7 @@ cell_of (settings.Turn slot letter) = 0
 abbrev pub step_spot : Step → Spot
 step_spot step = record { step = step; row = None; cell = None }
 
--- the spot of a row of a step's table
+-- the spot of row `row` in the table of the step `step`
 abbrev pub row_spot : Step → ℕ → Spot
 row_spot step row = record { step = step; row = Some row; cell = None }
 

@@ -1,7 +1,7 @@
 -- The test of the real machine: the keys to press, the letters that light up or are printed, and the letters to set
 -- again.
 use Rattle.std.specs.Prelude.{codes, ℕ, Bool, if◌then◌else◌, List, [], ◌∷◌, ◌++◌}
-use Rattle.std.specs.Prelude.{length}
+use Rattle.std.specs.Prelude.{length, ◌==◌}
 use Rattle.std.specs.Prelude.{false, true, replicate, flat_map, Option, Some, None}
 use Rattle.kd_tables.specs.declared.model.Model.{Model}
 use Rattle.kd_tables.specs.Permutation.{alphabet}
@@ -56,12 +56,13 @@ again_all separator has_number m =
 abbrev pub letters_again : Parts → List ℕ
 letters_again m = if is_converter (model_of m) then again_all (codes " ") false m else again_all (codes ", ") true m
 
--- The note at the end of the page. It has the number of settings, and a line on which to write the letters when the
--- machine is put away.
-abbrev pub note_text : Language → Model → List Setting → List ℕ
-note_text l model settings =
-    filled (if is_converter model then text_in l texts.NOTE_PIN else text_in l texts.NOTE_ROTOR)
-    (count_text l (length settings) ∷ [])
+-- the end of the sentence about the letters, and a line on which to write the letters when the machine is put away
+abbrev pub again_end : Language → Model → List ℕ
+again_end l model = if is_converter model then text_in l texts.AGAIN_END_PIN else text_in l texts.AGAIN_END_ROTOR
+
+-- the note that fewer than `count` settings aren't possible; nothing if there are no settings
+abbrev pub fewest_text : Language → ℕ → List ℕ
+fewest_text l count = if count == 0 then [] else filled (text_in l texts.FEWEST) (count_text l count ∷ [])
 
 -- the title of the test
 abbrev pub test_title : Model → Word
@@ -76,4 +77,5 @@ unfoldable pub test_step : Page → List ℕ
 test_step page =
     let model = model_of page.after in
     plain_step_text page (test_title model) ++ test_words page.language model ++ test_text page.language page.after
-    ++ letters_again page.after ++ note_text page.language model page.settings
+    ++ letters_again page.after ++ again_end page.language model ++ fewest_text page.language (length page.settings)
+    ++ texts.STEP_END.now

@@ -1,5 +1,5 @@
--- The steps of the rings, and of the wheels and the reflector. They say which parts come from the box, and which parts
--- go into the box. They have the checkbox of each setting.
+-- The step of the rings, and the step of the wheels and the reflector. These steps say which parts come from the box,
+-- and which parts go into the box. The steps have the checkbox of each setting.
 use Rattle.std.specs.Prelude.{ℕ, ◌||◌, ◌==◌, Bool, false, if◌then◌else◌, List, [], ◌∷◌, ◌++◌, flat_map}
 use Rattle.std.specs.Prelude.{Option, Some, None, is_some, option_and_then, option_map}
 use Rattle.std.specs.Option.{option_map_or}
@@ -21,7 +21,7 @@ use Rattle.kd_page.specs.Page.{Page}
 use Rattle.kd_page.specs.Spots.{count_at, step_spot}
 use Rattle.kd_page.specs.Steps.{idle_text, list_text, step_text}
 
--- `wheel` if the second argument is `None`, because no slot holds the wheel; otherwise `None`
+-- `wheel` if no slot holds the wheel, so that the second argument is `None`; otherwise `None`
 abbrev pub unless_held : Wheel → Option ℕ → Option Wheel
 unless_held wheel None = Some wheel
 unless_held wheel (Some slot) = None

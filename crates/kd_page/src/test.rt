@@ -1,9 +1,9 @@
 //! The test of the real machine. For given keys, it says which lamps light up, or which letters are printed.
-ghost use Rattle.std.specs.Prelude.{◌≡◌, ◌++◌, flat_map};
+ghost use Rattle.std.specs.Prelude.{◌≡◌, ◌++◌, flat_map, length};
 ghost use Rattle.kd_state.specs.Machine.{model_of};
 ghost use Rattle.kd_state.specs.TwoCiphers.{IsReady, physical_cipher};
 ghost use Rattle.kd_pictures.specs.Drawing.{Draws};
-ghost use Rattle.kd_page.specs.Test.{again_all, again_at, again_text, letters_again, note_text};
+ghost use Rattle.kd_page.specs.Test.{again_all, again_at, again_end, again_text, fewest_text, letters_again};
 ghost use Rattle.kd_page.specs.Test.{test_end, test_keys, test_step, test_text, test_title, test_words};
 ghost use Rattle.kd_page.specs.Windows.{letter_shown};
 
@@ -15,8 +15,8 @@ use kd_pictures::fives::draw_fives;
 use kd_pictures::numbers::LATER_WHEELS;
 use kd_pictures::template::{Value, draw_letter, fill, fill_in};
 use kd_pictures::texts::{
-    AGAIN_ROTOR, NOTE_PIN, NOTE_ROTOR, TEST_END_PIN, TEST_END_ROTOR, TEST_LAMPS, TEST_PIN,
-    TEST_ROTOR,
+    AGAIN_END_PIN, AGAIN_END_ROTOR, AGAIN_ROTOR, FEWEST, STEP_END, TEST_END_PIN, TEST_END_ROTOR,
+    TEST_LAMPS, TEST_PIN, TEST_ROTOR,
 };
 use kd_pictures::words::{Word, is_converter};
 use kd_pictures::{Language, draw, draw_in};
@@ -31,7 +31,9 @@ pub(crate) fn draw_test_step<W: Sink>(sink: &mut W, page: &Page<'_>)
     draw_test_words(sink, page.language(), page.model());
     draw_test(sink, page.language(), page.after());
     draw_letters_again(sink, page);
-    draw_note(sink, page);
+    draw_again_end(sink, page.language(), page.model());
+    draw_fewest(sink, page);
+    draw(sink, STEP_END);
 }
 
 fn test_title(model: Model) -> Word
@@ -156,7 +158,7 @@ fn draw_again_at<W: Sink>(
     }
 }
 
-/// Writes a letter to set again. On a rotor machine, the letter's number stands beside it.
+/// Writes `letter`, one of the letters to set again. On a rotor machine, the letter's number stands beside it.
 fn draw_again<W: Sink>(sink: &mut W, language: Language, has_number: bool, letter: Letter)
     ensures { Draws W.taken W.has_failed sink.old sink.new (again_text has_number letter) }
 {
@@ -172,15 +174,25 @@ fn draw_again<W: Sink>(sink: &mut W, language: Language, has_number: bool, lette
     }
 }
 
-fn draw_note<W: Sink>(sink: &mut W, page: &Page<'_>)
-    ensures { Draws W.taken W.has_failed sink.old sink.new
-        (note_text page.now.language (model_of page.now.after) page.now.settings) }
+/// Writes the end of the sentence about the letters to set again. Then writes a field for the letters that the machine
+/// shows when it is put away.
+fn draw_again_end<W: Sink>(sink: &mut W, language: Language, model: Model)
+    ensures { Draws W.taken W.has_failed sink.old sink.new (again_end language model) }
 {
-    let note = if is_converter(page.model()) {
-        NOTE_PIN
+    if is_converter(model) {
+        draw_in(sink, language, AGAIN_END_PIN);
     } else {
-        NOTE_ROTOR
-    };
+        draw_in(sink, language, AGAIN_END_ROTOR);
+    }
+}
+
+/// Writes that fewer settings than the page's aren't possible. If the page has no settings, writes nothing.
+fn draw_fewest<W: Sink>(sink: &mut W, page: &Page<'_>)
+    ensures { Draws W.taken W.has_failed sink.old sink.new
+        (fewest_text page.now.language (length page.now.settings)) }
+{
     let count = page.settings().len() as u8;
-    fill_in(sink, page.language(), note, &[Value::Count(count)]);
+    if count > 0 {
+        fill_in(sink, page.language(), FEWEST, &[Value::Count(count)]);
+    }
 }

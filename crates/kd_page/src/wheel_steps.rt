@@ -1,4 +1,4 @@
-//! The steps of the rings, and of the wheels and the reflector.
+//! The step of the rings, and the step of the wheels and the reflector.
 ghost use Rattle.std.specs.Prelude.{◌≡◌, ◌++◌, flat_map};
 ghost use Rattle.kd_pictures.specs.Drawing.{Draws};
 ghost use Rattle.kd_pictures.specs.Language.{in_language};
@@ -108,7 +108,7 @@ pub(crate) fn draw_seats_step<W: Sink>(sink: &mut W, page: &Page<'_>)
     }
 }
 
-/// Writes the parts that go into the box, and the `count` checkboxes of the parts to put in.
+/// Writes the parts that go into the box, and the `count` checkboxes of the parts to put into the machine.
 fn draw_seats<W: Sink>(sink: &mut W, page: &Page<'_>, count: u8)
     ensures { Draws W.taken W.has_failed sink.old sink.new (some_seats_text page.now count) }
 {
@@ -117,7 +117,7 @@ fn draw_seats<W: Sink>(sink: &mut W, page: &Page<'_>, count: u8)
     draw_list(sink, page, Step::Seats);
 }
 
-/// Writes the parts that go into the box, if there are any.
+/// Writes which wheels and which reflector go into the box, if any do.
 fn draw_boxed<W: Sink>(sink: &mut W, page: &Page<'_>)
     ensures { Draws W.taken W.has_failed sink.old sink.new (boxed_text page.now) }
 {

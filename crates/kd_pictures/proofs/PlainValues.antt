@@ -21,10 +21,10 @@ use Rattle.kd_tables.specs.declared.wheel.Wheel.{Wheel}
 use Rattle.kd_tables.specs.declared.wheel.Wheel.TheVariants.{I}
 use Rattle.kd_tables.specs.{Places.{lug_text, place_text}, Tables.{reflector_text, wheel_text}}
 use Rattle.kd_state.specs.Line.{IsSettingInRange, on_off_text, setting_line, setting_words}
-use Rattle.kd_state.specs.LineWords.{line_of}
+use Rattle.kd_tables.specs.LineWords.{line_of}
 use Rattle.kd_state.specs.declared.setting.Setting.{Setting}
 use Rattle.kd_state.specs.declared.setting.Setting.TheVariants as settings
-use Rattle.kd_state.proofs.Lines.{IsNumeralModel-digits}
+use Rattle.kd_tables.proofs.LineWords.{IsNumeralModel-digits}
 use Rattle.kd_pictures.specs.declared.template.Value.TheVariants as values
 use Rattle.kd_pictures.specs.declared.language.Language.{Language}
 use Rattle.kd_pictures.specs.declared.language.Language.TheVariants.{English, German}

@@ -31,7 +31,7 @@ cable_of m number = unwrap_or (machine_cable m number) (None, None)
 abbrev pub has_plug : Parts → ℕ → ℕ → Bool
 has_plug m number letter = has_letter (cable_letters (cable_of m number)) letter
 
--- whether a cable's end has a plug that moves: on machine `n`, cable `number` has no plug at the same letter
+-- whether a cable's end has a plug that moves: on machine `n`, cable `number` has no plug at the end's letter
 abbrev pub end_moves : Parts → ℕ → Option ℕ → Bool
 end_moves n number end = option_map_or (λ letter. not (has_plug n number letter)) end false
 

@@ -37,7 +37,7 @@ TemplatesTakeTheirValues =
     × HasGaps texts.GOES_IN.now 8 × HasGaps texts.PLUG_ROW.now 1 × Takes texts.PINS 2 × Takes texts.PIN_WHEEL 2
     × HasGaps texts.PIN_LINES.now 1 × HasGaps texts.PIN_SHOWN.now 2 × Takes texts.DRUM 3 × HasGaps texts.BAR.now 1
     × HasGaps texts.SET_BAR.now 1 × HasGaps texts.MARKED_LUG.now 1 × HasGaps texts.AGAIN_ROTOR.now 2
-    × Takes texts.NOTE_ROTOR 1 × Takes texts.NOTE_PIN 1
+    × Takes texts.FEWEST 1
 
 -- `word` has the text `english` in English, and the text `german` in German.
 abbrev pub Reads : Word → List ℕ → List ℕ → Type 0

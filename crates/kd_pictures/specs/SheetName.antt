@@ -1,4 +1,4 @@
--- The name of a key sheet on a page.
+-- How a page names a key sheet.
 use Rattle.std.specs.Prelude.{ℕ, IsTrue, List, [], filter, unwrap_or}
 use Rattle.std.specs.List.{list_all}
 use Rattle.std.specs.Path.{path_file_stem}

@@ -1,5 +1,5 @@
--- The picture of a rotor machine's wheels. One band shows the machine before the settings, another band shows it after
--- them. Words are in language `l`.
+-- The picture of a rotor machine's wheels. One band shows the machine before the settings, another band shows the
+-- machine after the settings. Words are in language `l`.
 use Rattle.std.specs.Prelude.{decimal, ℕ, ◌+◌, ◌*◌, nat_eq, Bool, false, if◌then◌else◌, List, [], ◌∷◌, ◌++◌, flat_map}
 use Rattle.std.specs.Prelude.{Option, Some, None}
 use Rattle.std.specs.Option.{option_map_or}
@@ -62,7 +62,7 @@ reflector_shown y (Some reflector) other =
     else texts.NEW_REFLECTOR.now)
     (decimal (y + 24) ∷ decimal (y + 54) ∷ reflector_text reflector ∷ [])
 
--- how far a slot is from the left
+-- how far a slot is from the picture's left edge
 abbrev pub slot_x : ℕ → ℕ
 slot_x slot = 80 + 104 * slot
 
@@ -77,7 +77,7 @@ wheel_shown l x y slot is_old wheel =
 abbrev pub is_same_letter : ℕ → Option ℕ → Bool
 is_same_letter letter other = option_map_or (nat_eq letter) other false
 
--- the letter of a ring, framed as new unless it is also `other`, the ring's letter on the other machine
+-- the letter of a ring, framed as new unless it equals `other`, the letter of this ring on the other machine
 abbrev pub ring_shown : ℕ → ℕ → Option ℕ → Option ℕ → List ℕ
 ring_shown x y None other = []
 ring_shown x y (Some letter) other =

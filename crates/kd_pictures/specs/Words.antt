@@ -1,5 +1,6 @@
 -- Words and marks that are filled into templates, for example the names of models and slots, and the titles of steps.
 use Rattle.std.specs.Prelude.{ℕ, Bool, true, false, List, [], ◌∷◌}
+use Rattle.kd_tables.specs.Tables.{by_family, family_of}
 use Rattle.kd_tables.specs.declared.model.Model.{Model}
 use Rattle.kd_tables.specs.declared.model.Model.TheVariants.{EnigmaI, M3, M4, M209}
 use Rattle.kd_pictures.specs.declared.language.Language.{Language}
@@ -20,10 +21,7 @@ model_name M4 = texts.ENIGMA_M4.now
 model_name M209 = texts.CONVERTER.now
 
 abbrev pub is_converter : Model → Bool
-is_converter EnigmaI = false
-is_converter M3 = false
-is_converter M4 = false
-is_converter M209 = true
+is_converter model = by_family false true (family_of model)
 
 -- the text of a word in the language `l`
 abbrev pub word_text : Language → Word → List ℕ

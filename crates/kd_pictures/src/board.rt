@@ -193,7 +193,8 @@ fn draw_line<W: Sink>(
     draw_cable_line(sink, language, class, lane, cable_of(machine, number));
 }
 
-/// The class of a cable's line. The line is thick if `other` doesn't have all of the cable's plugs at the same letters.
+/// The class of a cable's line. The line is thick if, on machine `other`, cable `number` lacks a plug at a letter of
+/// `cable`.
 fn line_class(plugs: Plugs, other: &Machine, number: u8, cable: Cable) -> Class
     ensures { result ≡ line_class plugs other.now number cable }
 {
@@ -264,7 +265,7 @@ fn draw_open<W: Sink>(sink: &mut W, language: Language, class: Class, lane: u16,
     draw_open_end(sink, language, letter);
 }
 
-/// Writes the line from a socket into the cable's lane.
+/// Writes the piece of a cable's line that leads from a socket into the cable's lane.
 fn draw_left_half<W: Sink>(
     sink: &mut W,
     language: Language,
@@ -293,7 +294,7 @@ fn draw_left_half<W: Sink>(
     );
 }
 
-/// Writes the line along a cable's lane and to a socket.
+/// Writes the piece of a cable's line that leads along the cable's lane to a socket.
 fn draw_right_half<W: Sink>(sink: &mut W, language: Language, lane: u16, letter: Letter)
     requires low { 100 ≤ lane }
     requires high { lane < 10000 }

@@ -15,8 +15,8 @@ pub fn values_are_plain()
     ensures names { SheetNamesArePlain }
 {}
 
-/// In both languages, each template has a gap for each value that pages fill in. The words for an operator's actions
-/// have the right meanings.
+/// In both languages, each template has a gap for each value that pages fill in. The words that tell an operator what
+/// to do are right in both languages.
 pub fn languages_say_the_same()
     ensures templates { TemplatesTakeTheirValues }
     ensures words { WordsTellWhatToDo }

@@ -1,8 +1,8 @@
-//! `Results`: whether a page shows what the machine gives.
+//! `Results`: whether a page for a message shows the results, or has worksheets.
 ghost use Rattle.std.specs.Prelude.{◌≡◌};
 ghost use Rattle.kd_pictures.specs.Results.{are_open};
 
-/// Whether a page for a message shows the results: the letters that the machine gives, and the letters that it shows
+/// Whether a page for a message shows the results: the letters that the machine gives, and the letters in its windows
 /// after a row.
 #[derive(Clone, Copy, Debug, PartialEq, Eq)]
 pub enum Results {

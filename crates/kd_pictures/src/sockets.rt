@@ -19,7 +19,7 @@ static PLACES: [u8; 26] = [
     0, 5, 3, 2, 2, 3, 4, 5, 7, 6, 7, 8, 7, 6, 8, 0, 0, 3, 1, 4, 6, 4, 1, 2, 1, 5,
 ];
 
-/// How far the letter's socket is from the left.
+/// How far the letter's socket is from the left edge of the picture.
 #[tactic(auto, using(crate::proofs::SocketTables::place_is))]
 pub fn socket_x(letter: Letter) -> u16
     ensures value { result ≡ socket_x letter }
@@ -30,7 +30,7 @@ pub fn socket_x(letter: Letter) -> u16
     first + 60 * u16::from(PLACES[letter.index()])
 }
 
-/// How far the letter's socket is from the top.
+/// How far the letter's socket is from the top of the picture.
 pub fn socket_y(letter: Letter) -> u16
     ensures value { result ≡ socket_y letter }
     ensures least { 40 ≤ result }

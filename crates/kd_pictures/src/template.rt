@@ -13,8 +13,8 @@ use crate::texts::{NO_SETTINGS, ONE_SETTING, SETTINGS, Text};
 use crate::words::{Class, Mark, Word, model_name};
 use arrayvec::ArrayString;
 use itoa::Buffer;
-use kd_state::{Setting, push_letter};
-use kd_tables::{Letter, Model, Place, Reflector, Sink, Wheel};
+use kd_state::Setting;
+use kd_tables::{Letter, Model, Place, Reflector, Sink, Wheel, push_letter};
 
 /// A value that is filled into a template.
 #[derive(Clone, Copy)]

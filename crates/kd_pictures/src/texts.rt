@@ -212,7 +212,7 @@ section>label{padding-left:1.6em;text-indent:-1.6em}
 @page sheet{size:landscape;margin:10mm 12mm}
 ";
 
-/// The end of the style sheet, and the beginning of the page's body. Then the foot of the file.
+/// The end of the style sheet, and the beginning of the page's body. The next text is the foot of the file.
 pub const BODY: &str = "</style>\n<body>\n<main>\n";
 
 pub const FOOT: &str = "</main>\n";
@@ -247,7 +247,7 @@ pub const ONE_SETTING: Text = ("1 setting", "1 Handgriff");
 pub const SETTINGS: Text = (" settings", " Handgriffe");
 
 /// The head of a day. The page's title stands between the first two texts; their values are the day, and the number of
-/// settings. Then the words that say what to compare first on a Converter.
+/// settings. The third text says what to compare first on a Converter.
 pub const DAY: &str = "<article id=day-~>\n<header>\n<h1>";
 
 pub const DAY_TITLED: Text = (
@@ -262,8 +262,8 @@ pub const COMPARE_PIN: Text = (
 
 pub const DAY_END: &str = "</article>\n";
 
-/// The head of a step, whose values are the step's title and its number of settings. Then the head of a step without a
-/// number of settings. The page's title stands after either head. Last, a step with nothing to do.
+/// The head of a step. Its values are the step's title and its number of settings. The second text is the head of a
+/// step without a number of settings. The page's title follows either head. `IDLE_STEP` is a step with nothing to do.
 pub const STEP: &str = "<section>\n<h2>~ <small>~</small><span>";
 
 pub const PLAIN_STEP: &str = "<section>\n<h2>~<span>";
@@ -291,8 +291,8 @@ pub const BOXED_REFLECTOR: Text = (" reflector <b>~</b>", " Umkehrwalze <b>~</b>
 
 pub const BOXED_END: &str = "</p>\n";
 
-/// The words before a list of wheels from the box and their rings. The first text is for the rings before the settings,
-/// the second text for the rings after the step of the rings. The third text is for one wheel.
+/// The words before a list of wheels from the box and their rings. The first text is for the rings before the settings.
+/// The second text is for the rings after the step that sets rings. The third text is for one wheel.
 pub const BOX_BEFORE: Text = (
     "<p>Compare these rings in the box, too:",
     "<p>Auch diese Ringe im Kasten vergleichen:",
@@ -360,7 +360,7 @@ pub const LUG_END: Text = (
     " auf <b>~</b> <code>~</code></label>",
 );
 
-/// The line of a setting that turns a wheel, within the checkbox of the window.
+/// The line of a setting that turns a wheel. The line stands within the checkbox of the window.
 pub const TURN: &str = " <code>~</code>";
 
 /// The windows of a rotor machine, each with a checkbox.
@@ -429,8 +429,8 @@ pub const REFLECTOR_SHOWN: &str =
 pub const NEW_REFLECTOR: &str =
     "<rect class=\"set\" x=\"96\" y=\"~\" width=\"76\" height=\"122\"/>\n<text class=\"bold\" x=\"134\" y=\"~\" font-size=\"20\">~</text>\n";
 
-/// A slot: empty, or with a wheel. Then a ring, and a window. The wheel, the ring and the window are drawn as old or as
-/// new.
+/// The texts for a slot: an empty slot, and a slot with a wheel. After these come the texts for a ring and for a
+/// window. The wheel, the ring and the window are drawn as old or as new.
 pub const EMPTY: Text = (
     "<text x=\"~\" y=\"~\" font-size=\"18\">slot ~</text>\n<rect x=\"~\" y=\"~\" width=\"96\" height=\"122\"/>\n<text x=\"~\" y=\"~\" font-size=\"20\">empty</text>\n",
     "<text x=\"~\" y=\"~\" font-size=\"18\">Platz ~</text>\n<rect x=\"~\" y=\"~\" width=\"96\" height=\"122\"/>\n<text x=\"~\" y=\"~\" font-size=\"20\">leer</text>\n",
@@ -517,8 +517,8 @@ pub const PLUGS_END: &str = "</table>\n";
 
 pub const BOARD_STEP_END: &str = "</div>\n</section>\n";
 
-/// The table of the pins: its caption, the head of a wheel, and the beginning of the wheel's settings lines. Then the
-/// cells of pins; the cell of a pin to change is framed.
+/// The table of the pins: its caption, the head of a wheel, and the words with which each settings line of the wheel
+/// begins. Then the cells of pins; the cell of a pin to change is framed.
 pub const PINS: Text = (
     "<table class=pins>\n<caption>Pins after: ~ effective, ~ not. Framed pins are to change: ON makes a pin effective, OFF not.</caption>\n",
     "<table class=pins>\n<caption>Stifte nachher: ~ wirksam, ~ unwirksam. Umrahmte Stifte umstellen: EIN macht wirksam, AUS unwirksam.</caption>\n",
@@ -544,7 +544,7 @@ pub const PIN_SHOWN: &str = "~<br>~";
 pub const PINS_END: &str = "</table>\n</section>\n";
 
 /// The table of the bars: its caption and head, the head of a bar, and the cells of the bar's places. Then the end of a
-/// bar's row with no, one or two checkboxes.
+/// bar's row: without a checkbox, with one, or with two.
 pub const DRUM: Text = (
     "<table class=drum>\n<caption>~ a lug stays here, ~ a lug leaves, ~ a lug comes. Move the lugs of a bar in the order shown.</caption>\n<thead>\n<tr><th scope=col>Bar<th scope=col>1<th scope=col>0L<th scope=col>2<th scope=col>3<th scope=col>4<th scope=col>5<th scope=col>0R<th scope=col>6<th scope=col colspan=2>Lugs to move\n<tbody>\n",
     "<table class=drum>\n<caption>~ Reiter bleibt, ~ Reiter geht, ~ Reiter kommt. Die Reiter einer Stange in der gezeigten Reihenfolge versetzen.</caption>\n<thead>\n<tr><th scope=col>Stange<th scope=col>1<th scope=col>0L<th scope=col>2<th scope=col>3<th scope=col>4<th scope=col>5<th scope=col>0R<th scope=col>6<th scope=col colspan=2>Reiter versetzen\n<tbody>\n",
@@ -592,14 +592,19 @@ pub const TEST_END_PIN: Text = (
 
 pub const AGAIN_ROTOR: &str = "~\u{a0}~";
 
-pub const NOTE_ROTOR: Text = (
-    "</b> again.</p>\n<p class=fields><span>Windows when put away</span></p>\n<p class=note>~; fewer aren’t possible.</p>\n</section>\n",
-    "</b> einstellen.</p>\n<p class=fields><span>Buchstaben in den Fenstern beim Wegräumen</span></p>\n<p class=note>~; mit weniger geht es nicht.</p>\n</section>\n",
+pub const AGAIN_END_ROTOR: Text = (
+    "</b> again.</p>\n<p class=fields><span>Windows when put away</span></p>\n",
+    "</b> einstellen.</p>\n<p class=fields><span>Buchstaben in den Fenstern beim Wegräumen</span></p>\n",
 );
 
-pub const NOTE_PIN: Text = (
-    "</b> again.</p>\n<p class=fields><span>Letters when put away</span></p>\n<p class=note>~; fewer aren’t possible.</p>\n</section>\n",
-    "</b> einstellen.</p>\n<p class=fields><span>Buchstaben beim Wegräumen</span></p>\n<p class=note>~; mit weniger geht es nicht.</p>\n</section>\n",
+pub const AGAIN_END_PIN: Text = (
+    "</b> again.</p>\n<p class=fields><span>Letters when put away</span></p>\n",
+    "</b> einstellen.</p>\n<p class=fields><span>Buchstaben beim Wegräumen</span></p>\n",
+);
+
+pub const FEWEST: Text = (
+    "<p class=note>~; fewer aren’t possible.</p>\n",
+    "<p class=note>~; mit weniger geht es nicht.</p>\n",
 );
 
 /// The names of the models.

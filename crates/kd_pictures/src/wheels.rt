@@ -139,7 +139,7 @@ fn draw_letter_words<W: Sink>(
     }
 }
 
-/// Writes the band of `machine` at height `y`, in which its differences from `other` are marked.
+/// Writes the band of `machine` at height `y`. The band marks the differences of `machine` from `other`.
 fn draw_band<W: Sink>(
     sink: &mut W,
     language: Language,

@@ -4,7 +4,7 @@ ghost use Rattle.kd_pictures.specs.Words.{class_text, is_converter, mark_text, m
 
 use crate::language::Language;
 use crate::texts;
-use kd_tables::Model;
+use kd_tables::{Family, Model};
 
 /// A fixed word: the language's code, the way to set a pin, or the name of a step, slot, picture or lug.
 #[derive(Clone, Copy)]
@@ -120,11 +120,12 @@ pub fn model_name(model: Model) -> &'static str
     }
 }
 
+/// Whether `model` is a Converter, which has pin wheels and bars.
 pub fn is_converter(model: Model) -> bool
     ensures { result ≡ is_converter model }
 {
-    match model {
-        Model::EnigmaI | Model::M3 | Model::M4 => false,
-        Model::M209 => true,
+    match model.family() {
+        Family::Rotor => false,
+        Family::Pin => true,
     }
 }
