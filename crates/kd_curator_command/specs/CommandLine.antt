@@ -34,8 +34,8 @@ use Rattle.kd_curator_command.specs.declared.command.Task.{Task}
 use Rattle.kd_curator_command.specs.declared.command.Task.TheVariants as tasks
 use Rattle.kd_curator_command.specs.declared.grammar.Argument.{Argument}
 use Rattle.kd_curator_command.specs.declared.grammar.CommandWords.{CommandWords}
-use Rattle.kd_curator_command.specs.declared.grammar.Sort.{Sort}
-use Rattle.kd_curator_command.specs.declared.grammar.Sort.TheVariants as sorts
+use Rattle.kd_curator_command.specs.declared.grammar.ArgumentSort.{ArgumentSort}
+use Rattle.kd_curator_command.specs.declared.grammar.ArgumentSort.TheVariants as sorts
 
 -- an argument that has to be given
 abbrev pub needed : List ℕ → Rule
@@ -349,7 +349,7 @@ HasNoCommand words NoMemory = Unit {0}
 -- ---- What inner functions make of grammars and errors. No public contract cites these definitions.
 
 -- the rule of an argument with the name `name`, by the argument's sort
-abbrev pub rule_of_sort : List ℕ → Sort → Rule
+abbrev pub rule_of_sort : List ℕ → ArgumentSort → Rule
 rule_of_sort name sorts.Needed = needed name
 rule_of_sort name sorts.Optional = new_rule name
 rule_of_sort name (sorts.Valued value) = option_rule name

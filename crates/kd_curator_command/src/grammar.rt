@@ -12,7 +12,7 @@ const VERSION: &str = "1.0";
 
 /// The sort of an argument, which says how the argument is given on the command line.
 #[derive(Clone, Copy)]
-pub(crate) enum Sort<'a> {
+pub(crate) enum ArgumentSort<'a> {
     /// An argument that has to be given.
     Needed,
     /// An argument that may be left out.
@@ -29,7 +29,7 @@ pub(crate) enum Sort<'a> {
 #[derive(Clone, Copy)]
 pub(crate) struct Argument<'a> {
     pub(crate) name: &'a str,
-    pub(crate) sort: Sort<'a>,
+    pub(crate) sort: ArgumentSort<'a>,
     /// What help says about the argument.
     pub(crate) help: &'a str,
 }
@@ -45,37 +45,37 @@ pub(crate) struct CommandWords<'a> {
 
 const MACHINE: Argument<'static> = Argument {
     name: "MACHINE",
-    sort: Sort::Needed,
+    sort: ArgumentSort::Needed,
     help: "The machine file",
 };
 
 const SHEET: Argument<'static> = Argument {
     name: "SHEET",
-    sort: Sort::Needed,
+    sort: ArgumentSort::Needed,
     help: "The key sheet",
 };
 
 const DAY: Argument<'static> = Argument {
     name: "DAY",
-    sort: Sort::Needed,
+    sort: ArgumentSort::Needed,
     help: "The day, from 1 to 31",
 };
 
 const LANGUAGE: Argument<'static> = Argument {
     name: "in",
-    sort: Sort::Valued("LANGUAGE"),
+    sort: ArgumentSort::Valued("LANGUAGE"),
     help: "The language of the words, de or en; without it, that of the environment's LANG",
 };
 
 const OUTPUT: Argument<'static> = Argument {
     name: "output",
-    sort: Sort::Lettered('o', "FILE"),
+    sort: ArgumentSort::Lettered('o', "FILE"),
     help: "Writes the new file FILE, whole or not at all, and no standard output",
 };
 
 const BLANK: Argument<'static> = Argument {
     name: "blank",
-    sort: Sort::Flag,
+    sort: ArgumentSort::Flag,
     help: "Leaves open what the machine gives: worksheets, of which the page without --blank is the solution",
 };
 
@@ -89,7 +89,7 @@ static COMMANDS: [CommandWords; 8] = [
             SHEET,
             Argument {
                 name: "DAYS",
-                sort: Sort::Optional,
+                sort: ArgumentSort::Optional,
                 help: "The days, such as 2, 1-31 or 1,4,2; without it, all days for the machine's model",
             },
             LANGUAGE,
@@ -110,7 +110,7 @@ static COMMANDS: [CommandWords; 8] = [
             DAY,
             Argument {
                 name: "ORDER",
-                sort: Sort::Needed,
+                sort: ArgumentSort::Needed,
                 help: "The order, as desk send takes it",
             },
             BLANK,
@@ -127,7 +127,7 @@ static COMMANDS: [CommandWords; 8] = [
             DAY,
             Argument {
                 name: "FORM",
-                sort: Sort::Needed,
+                sort: ArgumentSort::Needed,
                 help: "The form, with ? for each lost letter",
             },
             BLANK,
@@ -146,7 +146,7 @@ static COMMANDS: [CommandWords; 8] = [
         arguments: &[
             Argument {
                 name: "csv",
-                sort: Sort::Flag,
+                sort: ArgumentSort::Flag,
                 help: "Writes a table for a spreadsheet instead, in the form CSV",
             },
             SHEET,
@@ -160,27 +160,27 @@ static COMMANDS: [CommandWords; 8] = [
         arguments: &[
             Argument {
                 name: "model",
-                sort: Sort::Valued("MODEL"),
+                sort: ArgumentSort::Valued("MODEL"),
                 help: "The model, for a table that has no column model",
             },
             Argument {
                 name: "reflector",
-                sort: Sort::Valued("REFLECTOR"),
+                sort: ArgumentSort::Valued("REFLECTOR"),
                 help: "The reflector, for days that lack it",
             },
             Argument {
                 name: "window",
-                sort: Sort::Valued("LETTERS"),
+                sort: ArgumentSort::Valued("LETTERS"),
                 help: "The letters in the windows, for days that lack them",
             },
             Argument {
                 name: "empty",
-                sort: Sort::Valued("MODEL"),
+                sort: ArgumentSort::Valued("MODEL"),
                 help: "Writes a sheet of this model to fill in; then TABLE is the number of its days",
             },
             Argument {
                 name: "TABLE",
-                sort: Sort::Needed,
+                sort: ArgumentSort::Needed,
                 help: "The table: CSV, or values separated by semicolons or tabs",
             },
             OUTPUT,
@@ -192,17 +192,17 @@ static COMMANDS: [CommandWords; 8] = [
         arguments: &[
             Argument {
                 name: "FILE",
-                sort: Sort::Needed,
+                sort: ArgumentSort::Needed,
                 help: "A machine file or a key sheet",
             },
             Argument {
                 name: "FILE2",
-                sort: Sort::Optional,
+                sort: ArgumentSort::Optional,
                 help: "Another file",
             },
             Argument {
                 name: "FILE3",
-                sort: Sort::Optional,
+                sort: ArgumentSort::Optional,
                 help: "Another file",
             },
         ],
@@ -260,13 +260,13 @@ fn argument_of<'a>(alloc: Global, argument: &Argument<'a>) -> Arg<'a>
     ensures local { result.global ≡ false }
 {
     match argument.sort {
-        Sort::Needed => needed(alloc, argument.name, argument.help),
-        Sort::Optional => optional(alloc, argument.name, argument.help),
-        Sort::Valued(value) => option(alloc, argument.name, value, argument.help),
-        Sort::Lettered(letter, value) => {
+        ArgumentSort::Needed => needed(alloc, argument.name, argument.help),
+        ArgumentSort::Optional => optional(alloc, argument.name, argument.help),
+        ArgumentSort::Valued(value) => option(alloc, argument.name, value, argument.help),
+        ArgumentSort::Lettered(letter, value) => {
             lettered(alloc, argument.name, letter, value, argument.help)
         }
-        Sort::Flag => flag(alloc, argument.name, argument.help),
+        ArgumentSort::Flag => flag(alloc, argument.name, argument.help),
     }
 }
 

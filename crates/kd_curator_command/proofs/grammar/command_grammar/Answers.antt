@@ -2,7 +2,7 @@ use Rattle.kd_curator_command.proofs.{Prelude.{ℕ, Bor, List, [], take}, Gramma
 use Rattle.std.proofs.lemmas.List.{take_more, take_all}
 use Rattle.std.specs.Prelude.{get_or}
 use Rattle.kd_curator_command.specs.declared.grammar.Argument.{Argument}
-use Rattle.kd_curator_command.specs.declared.grammar.Sort.TheVariants.{Needed}
+use Rattle.kd_curator_command.specs.declared.grammar.ArgumentSort.TheVariants.{Needed}
 use Rattle.kd_curator_command.proofs.grammar.command_grammar.Goals as goal
 
 pub loop-argument-init : goal.loop-argument-init
