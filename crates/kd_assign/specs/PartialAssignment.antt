@@ -33,6 +33,6 @@ pub record IsSolvedUpTo (n : ℕ) (cost : List (List ℕ)) (prices : List ℤ)
   -- each free column has price 0; if no column is free, some column still has price 0
   pub free : (j : ℕ) → j < n → IsColumnFree holders j → price_at prices j ≡ pos 0
   pub zero : (j : ℕ) × (j < n) × (price_at prices j ≡ pos 0)
-  -- each price is at most 0, and at least -4 times the number of rows that have columns
+  -- each price is at most 0, and at least -4 times the number of assigned rows
   pub high : (j : ℕ) → j < n → price_at prices j ≤ℤ pos 0
   pub low : (j : ℕ) → j < n → pos 0 ≤ℤ (price_at prices j +ℤ pos (4 * next))

@@ -22,7 +22,7 @@ pub fn columns_of_rows<const N: usize>(holders: &[Option<usize>; N]) -> [u8; N]
     columns
 }
 
-/// The price of each row: the cost in the cell of the row and its column, minus the column's price.
+/// The price of each row: the cost of the row in its column `to[row]`, minus the price of this column.
 pub fn row_prices<const N: usize>(cost: &[[u8; N]; N], prices: &[i16; N], to: &[u8; N]) -> [i16; N]
     requires few { N ≤ 32 }
     requires costs { AreCostsAtMost 4 cost.now }
@@ -42,7 +42,7 @@ pub fn row_prices<const N: usize>(cost: &[[u8; N]; N], prices: &[i16; N], to: &[
     rows
 }
 
-/// The cost of the assignment `to`, which has the column of each row.
+/// The cost of the assignment `to`. The list `to` gives each row its column.
 pub fn assignment_cost<const N: usize>(cost: &[[u8; N]; N], to: &[u8; N]) -> u16
     requires few { N ≤ 32 }
     requires costs { AreCostsAtMost 4 cost.now }

@@ -88,9 +88,9 @@ impl<const N: usize> Nearest<N> {
         self.ceiling[column] - prices[column]
     }
 
-    /// The level of `row`, which holds `column`: the column's ceiling minus the cost in their cell.
+    /// The level of `row`, which holds `column`: the column's ceiling minus the cost in the cell of `row` and `column`.
     ///
-    /// For any column, a row of the tree offers the row's level plus the cost in their cell.
+    /// For any column, a row of the tree offers a price: the row's level plus the cost in their cell.
     pub fn level(&self, cost: &[[u8; N]; N], row: usize, column: usize) -> i16
         requires row { row < N }
         requires column { column < N }

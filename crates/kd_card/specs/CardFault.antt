@@ -131,8 +131,8 @@ pub record BeginsWithWord (word bytes : List ℕ) : Type 0 where
   pub rest : List ℕ
   pub has : HasLineWords bytes (word ∷ behind) rest
 
--- `bytes` are what follows a group of lines that begin with `word`. Either `bytes` are empty, or their first line ends
--- with LF and has another first word.
+-- A group of lines that begin with `word` ends before `bytes`: `bytes` are empty, or their first line ends with LF and
+-- has another first word.
 pub data EndsGroup (word bytes : List ℕ) : Type 0 where
   AtNothing : bytes ≡ [] → EndsGroup word bytes
   AtOther : (other : List ℕ) → BeginsWithWord other bytes → other ≢ word → EndsGroup word bytes

@@ -116,7 +116,7 @@ abbrev pub ComesAfter : {K X : Type 0} → KindFormat K X → Option K → K →
 ComesAfter format None next = Unit {0}
 ComesAfter format (Some last) next = KeyComesBefore format (format.kind last).key (format.kind next).key
 
--- The kind is valid: a card may have its key. Its count is from 1 to 255, and its price is from -9999 to 9999.
+-- The kind is valid: its key may be on a card, its count is from 1 to 255, and its price is from -9999 to 9999.
 pub record IsKind {K X : Type 0} (format : KindFormat K X) (kind : K) : Type 0 where
   pub form : format.InForm (format.kind kind).key
   pub some : 1 ≤ (format.kind kind).count

@@ -56,7 +56,7 @@ ShownListsAreShortest =
     (machine : Parts) (day : Day) (settings : List Setting) (prices : PriceParts) → IsMachine machine → IsLegalDay day
     → ShowShortest machine day settings prices → IsShortest machine day settings
 
--- If a card with prices by kind proves itself, its prices show that no shorter list reaches the day.
+-- If a card has prices by kind and proves itself, its prices show that no shorter list of settings leads to the day.
 abbrev pub ProvingPricesShow : Type 0
 ProvingPricesShow =
     (machine : Parts) (day : Day) (settings : List Setting) (prices : PriceParts) → version_of prices ≡ ByKind

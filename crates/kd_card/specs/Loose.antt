@@ -12,7 +12,7 @@ use Rattle.std.specs.Prelude.{ℕ, nat_eq, Bool, false, not, List, [], ◌∷◌
 use Rattle.std.specs.Prelude.{if◌then◌else◌}
 use Rattle.std.specs.Option.{option_map_or}
 
--- a list with only the setting `x`; empty if `already`, because the machine is then already as `x` says
+-- a list with only the setting `x`; the empty list if `already` is true, that is, if the machine is already as `x` says
 abbrev pub setting_unless : Bool → Setting → List Setting
 setting_unless already x = if already then [] else x ∷ []
 
@@ -41,7 +41,7 @@ slot_turn_line machine slot w =
 abbrev pub pin_line : ℕ → ℕ × (Bool × Bool) → List Setting
 pin_line wheel z = setting_unless (not (exactly_one z.1.0 z.1.1)) (PinTo wheel z.0 z.1.1)
 
--- the settings PIN for all pins of a wheel that aren't as the day says
+-- for each pin of a wheel: the setting PIN, if the pin isn't as the day says
 abbrev pub wheel_pin_lines : ℕ → List Bool × List Bool → List Setting
 wheel_pin_lines wheel z = flat_map (pin_line wheel) (zip (ring_of wheel) (zip z.0 z.1))
 

@@ -5,7 +5,7 @@ use Rattle.kd_state.specs.declared.{machine.parts.Parts.Parts, setting.Setting.S
 use Rattle.kd_state.specs.{Machine.{IsMachine, model_of}, OnKey.ReadsAs, Setting.Leads, SheetDay.{Day, IsLegalDay}}
 use Rattle.kd_card.specs.{declared.prices.PriceParts.PriceParts, Prices.ArePrices, Proving.Proves}
 
--- Carrying out the settings changes `machine` into `after`, which reads as the day.
+-- Carrying out the settings changes `machine` into `after`, which is set as the day says and shows the day's letters.
 pub record ReachesDay (machine : Parts) (day : Day) (settings : List Setting) (after : Parts) : Type 0 where
   pub leads : Leads machine settings after
   pub reads : ReadsAs after day

@@ -3,7 +3,7 @@ use Rattle.kd_card.specs.{declared.prices.Version.TheVariants.{ByNumber, ByKind}
 use Rattle.kd_card.specs.CardFault.{EndsGroup, HasNoNext}
 use Rattle.kd_card.specs.{Kinds.{KindFormat, HasKindWords}, declared.prices.Version.Version}
 use Rattle.kd_card.specs.declared.fault.CardFault.{CardFault}
-use Rattle.kd_state.specs.LineWords.{words_of}
+use Rattle.kd_tables.specs.LineWords.{words_of}
 use Rattle.std.specs.Prelude.{codes, ◌≡◌, ◌<◌, ◌≤◌, ℕ, ℤ, unsigned_abs, List, [], Option, Some, None, Err}
 use Rattle.std.specs.Fmt.{signed_decimal}
 

@@ -7,7 +7,7 @@ use Rattle.kd_state.specs.{Costs.{cable_cost, bar_cost, loose_count}, SheetDay.{
 use Rattle.kd_state.specs.{Setting.Leads, OnKey.{ReadsAs, columns_in_order}}
 use Rattle.std.specs.Prelude.{◌≡◌, ◌≤◌, List, length, pos, flat_map, replicate, All, IsPermutation, ◌+ℤ◌, ◌≤ℤ◌}
 
--- After the settings are carried out in turn, the machine reads as the day.
+-- After the settings are carried out in turn, the machine is set as the day says, and shows the day's letters.
 abbrev pub LeadsToTheDay : Parts → Day → List Setting → Type 0
 LeadsToTheDay machine day settings = (reached : Parts) × Leads machine settings reached × ReadsAs reached day
 
@@ -30,8 +30,8 @@ KindPricesFit (Pin machine) (Pin day) (BarKinds bars rows) =
     × All (λ k. All (λ r. (k.price +ℤ r.price) ≤ℤ pos (bar_cost k.standing r.reading)) rows.items) bars.items
 KindPricesFit _ _ _ = ⊥
 
--- The prices fit. The number of loose things and the sum of the prices add up to the number of settings. So no shorter
--- list reaches the day.
+-- The prices fit. The number of settings is the sum of the prices plus the number of loose things: things that aren't
+-- as the day says, except cables and bars. So no shorter list reaches the day.
 pub record ShowShortest (machine : Parts) (day : Day) (settings : List Setting) (prices : PriceParts) : Type 0 where
   pub fit : KindPricesFit machine day prices
   pub as_many : pos (length settings) ≡ (pos (loose_count machine day) +ℤ price_sum prices)

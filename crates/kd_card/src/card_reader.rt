@@ -2,7 +2,7 @@
 ghost use Rattle.kd_card.specs.CardFault.{BeginsWithHead, HasLineWords, IsValueAnswer, IsGroupsAnswer, IsListsAnswer};
 ghost use Rattle.kd_card.specs.CardFault.{IsAllPricesAnswer, IsTableAnswer, IsTablePricesAnswer, IsCardFault};
 ghost use Rattle.kd_card.specs.{CardText.IsCard, Reading.IsNoPriceLine};
-ghost use Rattle.kd_state.specs.LineWords.{words_of, IsWithout};
+ghost use Rattle.kd_tables.specs.LineWords.{words_of, IsWithout};
 ghost use Rattle.std.specs.Prelude.{◌≡◌, ◌≢◌, ℕ, ◌<◌, ◌≤◌, ◌∷◌, ◌++◌, List, MatchOption, MatchResult, Ok, Err};
 
 use super::card::Card;
@@ -13,7 +13,8 @@ use super::price_text::{is_numeral, prices_of_text, split_first_word};
 use super::prices::{CostTable, PriceParts, Prices, Version};
 use arrayvec::ArrayVec;
 use itoa::Buffer;
-use kd_state::{day_of_text, is_word, split_once, split_settings};
+use kd_state::{day_of_text, split_settings};
+use kd_tables::{is_word, split_once};
 
 /// Reads a card and its day of the month from `text`, or finds the first fault.
 pub fn read_card(text: &[u8]) -> Result<(u8, Card), CardFault>
@@ -109,7 +110,8 @@ fn read_prices(text: &[u8], version: Version, line: usize) -> Result<(Prices, &[
     Ok((Prices::of_parts(parts), rest))
 }
 
-/// Reads the prices for `table`, from line `line` of a card on. Returns the prices, and the text after their lines.
+/// Reads the prices for `table`, which begin on line `line` of a card. Returns the prices, and the text after their
+/// lines.
 fn read_table_prices(
     text: &[u8],
     version: Version,

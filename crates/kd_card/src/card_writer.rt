@@ -1,7 +1,7 @@
 //! Writes the text of a card to a sink.
 ghost use Rattle.arrayvec.specs.ArrayString.{array_string_len};
 ghost use Rattle.kd_card.specs.CardText.{card_text, lines_text, price_lines, IsCard};
-ghost use Rattle.kd_state.specs.LineWords.{line_then};
+ghost use Rattle.kd_tables.specs.LineWords.{line_then};
 ghost use Rattle.kd_card.specs.{Prices.{ArePricesInRange, ArePrices}};
 ghost use Rattle.kd_state.specs.{Line.{list_text, IsSettingInRange}, SheetDay.IsDayNumber};
 ghost use Rattle.kd_tables.specs.Writing.{Writes};

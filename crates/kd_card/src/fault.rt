@@ -2,7 +2,7 @@
 ghost use Rattle.std.specs.Prelude.{◌≡◌, Some};
 ghost use Rattle.kd_card.specs.FaultText.{card_fault_text};
 
-use kd_tables::{Refusal, Text};
+use kd_tables::{Refusal, RefusalText};
 use std::fmt;
 use thiserror::Error;
 
@@ -25,7 +25,7 @@ pub enum CardFault {
 
 impl CardFault {
     /// The refusal's text, such as `8 BadLine 3`: number and name, and the line's number if there is one.
-    pub fn text(&self) -> Text
+    pub fn text(&self) -> RefusalText
         ensures { result.bytes ≡ card_fault_text self.now }
     {
         match *self {

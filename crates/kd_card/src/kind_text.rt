@@ -11,7 +11,7 @@ use super::kinds::{Kind, KindOf, comes_after};
 use super::price_text::{price_of_text, split_first_word};
 use arrayvec::{ArrayString, ArrayVec};
 use itoa::Buffer;
-use kd_state::{is_word, number_of_text, push_number, split_words};
+use kd_tables::{is_word, number_of_text, push_number, split_words};
 
 /// Parses a kind from its line without the first word.
 ///
@@ -47,8 +47,9 @@ fn kind_of_parts<K: Kind>(key: &[u8], count: &[u8], price: &[u8]) -> Option<K>
 
 /// Reads the next kind of a group from the first line of `text`. Returns this kind, and the text after the line.
 ///
-/// `None` if the group ends: `text` is empty, or its first line has an LF and another first word than `K::word()`. The
-/// fault is `BadLine(line)` if the line has no LF, or isn't the line of a valid kind that comes after `last`.
+/// `None` if the group ends: `text` is empty, or its first line has an LF and begins with a word other than
+/// `K::word()`. The fault is `BadLine(line)` if the line has no LF, or isn't the line of a valid kind that comes after
+/// `last`.
 fn next_kind<K: Kind>(
     text: &[u8],
     last: Option<K>,

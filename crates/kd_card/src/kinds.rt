@@ -8,8 +8,8 @@ ghost use Rattle.kd_card.specs.Kinds.{cable_format, pair_format, bar_format, row
 ghost use Rattle.kd_card.specs.{Kinds.{ComesAfter, IsKind, AreKinds, total_count, prices_of_kinds}, Prices.IsPriceList};
 
 use arrayvec::{ArrayString, ArrayVec};
-use kd_state::{Cable, push_letter};
-use kd_tables::{Letter, Reading, Standing};
+use kd_state::Cable;
+use kd_tables::{Letter, Reading, Standing, push_letter};
 use std::cmp::Ordering;
 
 /// A kind of cables: all cables with the same letters.

@@ -42,10 +42,11 @@ pub fn as_few_are_needed()
     ensures { AsFewAreNeeded }
 {}
 
-/// If a card with prices by number proves itself, the number of its settings is the prices' sum plus the number of
+/// If a card with prices by number proves itself, the number of settings is the sum of the prices plus the number of
 /// loose things.
 ///
-/// Prices are *by number* if each cable and each column, or each bar and each row, has its own price.
+/// Prices are *by number* if each cable and each column, or each bar and each row, has its own price. A thing is
+/// *loose* if it isn't as the day says. Cables and bars are never loose.
 #[tactic(auto, using(crate::proofs::Months::proving_cards_are_as_long))]
 pub fn proving_cards_are_as_long()
     ensures { ProvingCardsAreAsLong }
@@ -58,7 +59,8 @@ pub fn proving_cards_are_shortest()
 
 /// Prices by kind can show that no shorter list of settings reaches the day.
 ///
-/// They show this if they fit, and if their sum plus the number of loose things is the number of the list's settings.
+/// The prices show this if they fit, and if their sum plus the number of loose things is the number of the list's
+/// settings.
 pub fn shown_lists_are_shortest()
     ensures { ShownListsAreShortest }
 {}

@@ -1,7 +1,7 @@
 //! Reads prices and numbers, and the first words of price lines.
 ghost use Rattle.kd_card.specs.CardFault.{IsNumberText, IsNumeral, IsPricesAnswer, IsLineAnswer};
 ghost use Rattle.kd_card.specs.{Reading.{IsPriceText, words_after_first}, Prices.ArePricesInRange};
-ghost use Rattle.kd_state.specs.LineWords.{words_of};
+ghost use Rattle.kd_tables.specs.LineWords.{words_of};
 ghost use Rattle.std.specs.Prelude.{◌≡◌, ◌≢◌, ◌↔◌, ◌<◌, ◌≤◌, [], ◌∷◌, ℕ, List, ℤ, pos, map, length, All, unsigned_abs};
 ghost use Rattle.std.specs.Prelude.{decimal, IsTrue, MatchOption, MatchResult, Ok, Err};
 ghost use Rattle.std.specs.{Option.option_copied, Fmt.signed_decimal};
@@ -9,7 +9,7 @@ ghost use Rattle.std.specs.{Option.option_copied, Fmt.signed_decimal};
 use super::fault::CardFault;
 use arrayvec::ArrayVec;
 use itoa::Buffer;
-use kd_state::{is_word, split_once, split_words};
+use kd_tables::{is_word, split_once, split_words};
 use std::str;
 
 /// Whether `text` is an unsigned number: decimal digits without leading zeros.

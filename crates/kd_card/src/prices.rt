@@ -30,7 +30,7 @@ impl Version {
         }
     }
 
-    /// The first word of a card's first price line, if its prices are for `table`.
+    /// The first word of the first price line on a card with prices for `table`.
     pub(crate) fn first_word(self, table: CostTable) -> &'static str
         ensures { result.now ≡ first_text self table }
     {
@@ -238,7 +238,7 @@ fn sum_onto(sum: i32, prices: &[i16]) -> i32
     total
 }
 
-/// Copies `kinds`. `None` if they aren't valid and strictly ascending, or their counts don't add up to `N`.
+/// Copies `kinds`. `None` if `kinds` aren't valid and strictly ascending, or if the counts don't add up to `N`.
 fn copy_if_group<K: Kind, const N: usize>(kinds: &[K]) -> Option<ArrayVec<K, N>>
     ensures { MatchOption result
         (¬ (IsGroup K.format N kinds.now))

@@ -10,7 +10,7 @@ use kd_host::FileFault;
 use kd_lost::DamagedFormFault;
 use kd_sheet::SheetFault;
 use kd_spreadsheet::SpreadsheetFault;
-use kd_tables::{Device, Refusal, Text, WriteFault};
+use kd_tables::{Device, Refusal, RefusalText, WriteFault};
 
 /// Why a command is refused. A part of the command's output may be written nevertheless.
 #[derive(Clone, Copy, Debug, PartialEq, Eq)]
@@ -42,7 +42,7 @@ impl PageFault {
     /// The refusal's number and name, and then the fault's values, if it has any, such as a key.
     ///
     /// If notes or a report explain the fault, the text has words instead, without a number.
-    pub fn text(&self) -> Text
+    pub fn text(&self) -> RefusalText
         ensures { result.bytes ≡ page_fault_text self.now }
     {
         match self {
@@ -63,11 +63,11 @@ impl PageFault {
 }
 
 /// The text of a refusal without a number.
-fn worded_text(words: &str) -> Text
+fn worded_text(words: &str) -> RefusalText
     requires { length words.now ≤ 64 }
     ensures { result.bytes ≡ words.now }
 {
-    let mut text = Text::new();
+    let mut text = RefusalText::new();
     text.push_str(words);
     text
 }

@@ -13,8 +13,7 @@ use crate::fault::{PageFault, Refused};
 use crate::files::name_at;
 use arrayvec::ArrayString;
 use kd_host::{FileFault, end_with_line};
-use kd_state::push_number;
-use kd_tables::Sink;
+use kd_tables::{Sink, push_number};
 use std::alloc::Global;
 use std::io;
 

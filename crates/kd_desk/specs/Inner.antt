@@ -17,7 +17,7 @@ use Rattle.kd_desk.specs.Stops.{stop_after}
 
 -- ---- Reading and carrying out a part of a command. No public contract cites these definitions.
 
--- the task, with `g` applied to its streamed file, if it has one
+-- the task, with `g` applied to its streamed file, if the task has a streamed file
 abbrev pub with_task_stream : {F O P : Type 0} → (O → P) → Task F O → Task F P
 with_task_stream g task = with_task_files (λ file. file) g task
 
@@ -29,9 +29,9 @@ with_action_stream g action = with_action_files (λ file. file) g action
 abbrev pub HasNoFailedRead : {O : Type 0} → (O → Bool) → Option O → Type 0
 HasNoFailedRead failed file = IfSome file (λ f. failed f ≡ false)
 
--- A task was carried out with the machine file `machine` and day `number` of the key sheet `sheet`. The program's
--- answer `answer` is made from the answer of the task's call, such as `run_card`. `left` is what is known of the opened
--- file after the call.
+-- A task was carried out with the machine file `machine` and day `number` of the key sheet `sheet`: its function, such
+-- as `run_card`, was called. The program's answer `answer` is made from the function's answer. `left` is what is known
+-- of the opened file after the call.
 pub record IsTaskDone (left : KnownFile) (machine sheet : List ℕ) (number : ℕ) (task : KnownTask) (sink : Port)
     (answer : Result (Unit {0}) Stop) : Type 0 where
   pub told : Result (Unit {0}) DeskFault
@@ -41,7 +41,8 @@ pub record IsTaskDone (left : KnownFile) (machine sheet : List ℕ) (number : �
 
 -- ---- Writing a day of a month. No public contract cites these definitions.
 
--- For the day `s`, the desk can write a card from the machine `m`, and then the machine file of the machine `n`.
+-- For the machine `m` and the day `s`, the desk can write a card and a machine file. The written file has the machine
+-- `n`.
 abbrev pub CanWriteDay : Parts → Day → Parts → Type 0
 CanWriteDay m s n = (file sheet : List ℕ) → machine_and_day file sheet (day_number s) ≡ Ok (m, s)
     → (papers : CardAndFile) × AreWritten file sheet (day_number s) papers × (machine_of papers.file ≡ Ok n)

@@ -49,9 +49,9 @@ AreWrittenInTurn file sheet (number ∷ numbers) (papers ∷ more) =
     AreWritten file sheet number papers × AreWrittenInTurn papers.file sheet numbers more
 AreWrittenInTurn file sheet numbers papers = ⊥
 
--- The card's settings lead from the machine of `file` to the machine of the next file. The next file's machine is set
--- as day `number` says, shows the day's letters, and enciphers as the day asks. Spare cables stay free. No fewer
--- settings lead to the day. Some valid prices, not always the card's own, prove this.
+-- The card's settings lead from the machine of `file` to the machine of `papers.file`. This machine is set as day
+-- `number` says, shows the day's letters, and enciphers as the day asks. Spare cables stay free. No shorter list of
+-- settings leads to the day. Some valid prices, not always the card's own, prove this.
 pub record SetTheMachine (file sheet : List ℕ) (number : ℕ) (papers : CardAndFile) : Type 0 where
   pub m : Parts
   pub s : Day

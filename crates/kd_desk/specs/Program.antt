@@ -116,8 +116,8 @@ has_file_failed (Some file) left = left.failed
 abbrev pub StopsForMemory : Result (Unit {0}) Stop → Type 0
 StopsForMemory answer = (answer ≡ Err (Refused (File NoMemory))) ⊎ (answer ≡ Err (Unread files.NoMemory))
 
--- A command was carried out. The program's answer `answer` is made from the answer of the command's call, such as
--- `run_card`. `left` is what is known of the opened file after the call.
+-- A command was carried out: its function, such as `run_card`, was called. The program's answer `answer` is made from
+-- the function's answer. `left` is what is known of the opened file after the call.
 pub record IsCommandDone (left : KnownFile) (command : KnownCommand) (source sink : Port)
     (answer : Result (Unit {0}) Stop) : Type 0 where
   pub told : Result (Unit {0}) DeskFault

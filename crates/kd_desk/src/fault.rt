@@ -8,7 +8,7 @@ use kd_plan::OtherModel;
 use kd_prices::Doubt;
 use kd_sheet::SheetFault;
 use kd_state::{IllegalAt, ListFault};
-use kd_tables::{Device, Refusal, Text};
+use kd_tables::{Device, Refusal, RefusalText};
 use std::alloc::AllocError;
 use std::fmt;
 use thiserror::Error;
@@ -42,7 +42,7 @@ pub enum DeskFault {
 
 impl DeskFault {
     /// The refusal's number and name, and then any values of the fault, such as a line or a key.
-    pub fn text(&self) -> Text
+    pub fn text(&self) -> RefusalText
         ensures { result.bytes ≡ desk_fault_text self.now }
     {
         match self {

@@ -1,5 +1,6 @@
--- How many bars are met, for each set of wheels. A set is a number below 64, with a bit for each wheel; the lowest bit
--- is for wheel 1. For example, 5 is the set of wheels 1 and 3. No public contract cites this file.
+-- For each set of wheels: how many bars have a lug at a wheel of the set. A set is a number below 64, with a bit for
+-- each wheel; the lowest bit is for wheel 1. For example, 5 is the set of wheels 1 and 3. No public contract cites this
+-- file.
 use Rattle.std.specs.Prelude.{◌≡◌, ℕ, ◌-◌, ◌/◌, ◌%◌, ◌^◌, ◌<◌, nat_le, nat_eq, Bool, ◌&&◌, ◌||◌, List, length}
 use Rattle.std.specs.Prelude.{slice_index}
 use Rattle.std.specs.List.{count_by}
@@ -8,7 +9,7 @@ use Rattle.std.specs.List.{count_by}
 abbrev pub is_in_set : ℕ → ℕ → Bool
 is_in_set wheels wheel = (nat_le 1 wheel && nat_le wheel 6) && nat_eq (wheels / 2 ^ (wheel - 1) % 2) 1
 
--- the number of bars that have a lug at a wheel of the set. `bars` has two wheel numbers for each bar.
+-- The number of bars that have a lug at a wheel of the set `wheels`. `bars` has two wheel numbers for each bar.
 abbrev pub bars_met_by : List (ℕ × ℕ) → ℕ → ℕ
 bars_met_by bars wheels = count_by (λ bar. is_in_set wheels bar.0 || is_in_set wheels bar.1) bars
 

@@ -37,7 +37,7 @@ key_after key n = key_turned key (window_after key.wheels key.window n)
 -- Code: `Enigma` keeps the path for the letters in the windows as one table, and makes this table anew after each step.
 -- Test: tests/refusals
 
--- the permutations of wheels with their ring letters and window letters; all lists are in order from the left
+-- for each wheel, its permutation at the given ring letter and window letter; all lists are in order from the left
 unfoldable pub rotors : List Wheel → List ℕ → List ℕ → List (List ℕ)
 rotors (wheel ∷ wheels) (ring ∷ rings) (letter ∷ window) = rotor wheel ring letter ∷ rotors wheels rings window
 rotors _ _ _ = []

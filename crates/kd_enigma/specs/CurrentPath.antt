@@ -16,14 +16,15 @@ abbrev pub around_wheel : List ℕ → List ℕ → List ℕ → List ℕ
 around_wheel board core wheel = followed_by (followed_by (followed_by board wheel) core)
     (followed_by (inverse wheel) board)
 
--- The current's path in through a list of wheels to `core`, through `core`, and back, while the windows show `window`.
--- Wheels and letters are listed from the wheel next to `core`.
+-- The path of the current: in through a list of wheels to `core`, through `core`, and out through the wheels again. The
+-- wheels' windows show `window`. Wheels and letters are listed from the wheel next to `core`.
 abbrev pub around_wheels : List ℕ → List SeatedWheel → List ℕ → List ℕ
 around_wheels core (s ∷ seated) (letter ∷ window) = around_wheels
     (around_wheel s.board core (rotor s.wheel s.ring letter)) seated window
 around_wheels core _ _ = core
 
--- for each letter that a wheel can show, two permutations of wheel and board: the way in and the way back
+-- for each letter that a wheel can show, two permutations: the way in through the board and the wheel, and the way back
+-- through both
 abbrev pub ways_by_window : Wheel → ℕ → List ℕ → List (List ℕ × List ℕ)
 ways_by_window wheel ring board = map (λ window. let turns = rotor wheel ring window in
     (followed_by board turns, followed_by (inverse turns) board)) alphabet

@@ -6,7 +6,7 @@ ghost use Rattle.kd_tables.specs.Refusals.{refusal_name};
 ghost use Rattle.kd_enigma.specs.Cipher.{IsPlugboard};
 
 use super::map::Map;
-use kd_tables::{Letter, Refusal, Text, have_no_letter_twice};
+use kd_tables::{Letter, Refusal, RefusalText, have_no_letter_twice};
 use std::marker::Model;
 use thiserror::Error;
 
@@ -17,14 +17,14 @@ pub struct LetterTwice;
 
 impl LetterTwice {
     /// The text of the refusal: `1 LetterTwice`.
-    pub fn text(&self) -> Text
+    pub fn text(&self) -> RefusalText
         ensures { result.bytes ≡ refusal_name Refusal.LetterTwice }
     {
         Refusal::LetterTwice.text()
     }
 }
 
-/// A plugboard: for each letter, the letter that a cable exchanges it for, or the letter itself.
+/// A plugboard: for each letter, the other letter of this letter's cable. A letter without a cable stands for itself.
 #[derive(Clone, Copy)]
 pub struct Plugs {
     table: [Letter; 26],

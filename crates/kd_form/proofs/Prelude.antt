@@ -71,8 +71,8 @@ pub use Rattle.kd_form.specs.declared.{fault.FormFault.FormFault, heading.{Headi
 pub use Rattle.kd_form.specs.declared.keys.{Keys.{Keys, TheVariants.{Pin, Rotor}}, PinKeys.PinKeys}
 pub use Rattle.kd_form.specs.declared.sending.pattern_line.PatternFault.{PatternFault}
 pub use Rattle.kd_form.specs.declared.fault.FormFault.TheVariants.{BadByte, BadHeading, NotReady, PartOrder}
-pub use Rattle.kd_state.proofs.Lines.{IsNumeralModel-digits, lines_split_into_words, numbers_are_words}
-pub use Rattle.kd_state.proofs.Lines.{parts_make_lines, texts_determine_first_parts, word_by_bytes}
+pub use Rattle.kd_tables.proofs.LineWords.{IsNumeralModel-digits, lines_split_into_words, numbers_are_words}
+pub use Rattle.kd_tables.proofs.LineWords.{parts_make_lines, texts_determine_first_parts, word_by_bytes}
 pub use Rattle.kd_state.proofs.Keys.{cipher_in_turn, engine_cipher, twice_on_key}
 pub use Rattle.kd_state.specs.declared.machine.parts.Parts.{Parts}
 pub use Rattle.kd_state.specs.AnswerRules.{GoesOn, HasFault, HasOneAnswer, Demands}
@@ -82,7 +82,7 @@ pub use Rattle.kd_state.specs.SheetDay.{Day, IsLegalDay, Pin, Rotor, pin_day}
 pub use Rattle.kd_state.specs.EngineKey.{IsWindow, cipher}
 pub use Rattle.kd_state.specs.OwnKeys.{sheet_key}
 pub use Rattle.kd_state.specs.TwoCiphers.{physical_cipher}
-pub use Rattle.kd_state.specs.LineWords.{IsFirstPart, IsWithout, line_of, line_then, words_of}
+pub use Rattle.kd_tables.specs.LineWords.{IsFirstPart, IsWithout, line_of, line_then, words_of}
 pub use Rattle.kd_tables.proofs.Failing.{err_is}
 pub use Rattle.kd_tables.specs.{Ports.EndAgrees, Ports.FailureAgrees, Ports.KeepsFailureFlag, Ports.Port, Ports.port}
 pub use Rattle.kd_tables.specs.{Ports.read_limit, Text.is_text_byte, Text.letters_text, Writing.TakesPrefix}

@@ -5,7 +5,7 @@ use Rattle.std.specs.Prelude.{codes, ◌≡◌, ◌≢◌, ◌⊎◌, ℕ, ◌%�
 use Rattle.std.specs.Prelude.{List, [], ◌∷◌, ◌++◌, take, slice_index}
 use Rattle.std.specs.Str.{bytes_eq}
 use Rattle.kd_state.specs.SheetDay.{Day, Rotor, Pin}
-use Rattle.kd_state.specs.LineWords.{IsFirstPart, IsWithout}
+use Rattle.kd_tables.specs.LineWords.{IsFirstPart, IsWithout}
 use Rattle.kd_form.specs.declared.heading.Heading.{Heading}
 use Rattle.kd_form.specs.BodyCipher.{HasIndicator}
 

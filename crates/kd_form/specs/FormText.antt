@@ -5,7 +5,7 @@ use Rattle.std.specs.Prelude.{◌≡◌, ◌⊎◌, ℕ, ◌+◌, ◌==◌, List
 use Rattle.std.specs.Prelude.{if◌then◌else◌, Result, Ok, Err}
 use Rattle.kd_state.specs.AnswerRules.{AnswerRule, Demands}
 use Rattle.kd_state.specs.SheetDay.{Day, Rotor, Pin}
-use Rattle.kd_state.specs.LineWords.{IsFirstPart}
+use Rattle.kd_tables.specs.LineWords.{IsFirstPart}
 use Rattle.kd_form.specs.declared.fault.FormFault.{FormFault}
 use Rattle.kd_form.specs.declared.fault.FormFault.TheVariants.{BadHeading, PartOrder}
 use Rattle.kd_form.specs.declared.keys.Keys.{Keys}
@@ -93,8 +93,8 @@ IsReceiveFault s form fault = IsFormAnswer s form (Err fault)
 -- ---- Which faults no further bytes can change, and what is written before a fault.
 -- Test: tests/cases/desk-messages.toml, tests/refusals
 
--- The first unread part begins at `p`. It has the fault `fault`, which no further bytes can change. If this part is the
--- form's last part, its heading line is complete. The fault is then in the heading line, or in a byte of the body.
+-- The first unread part begins at `p` and has the fault `fault`. No further bytes can change this fault. If the part is
+-- the form's last part, its heading line is complete. The fault is then in the heading line, or in a byte of the body.
 abbrev pub IsPartFaultForGood : Day → FormFault → PartsProperty
 IsPartFaultForGood s fault p [] = ⊥
 IsPartFaultForGood s fault p (part ∷ []) =
@@ -112,8 +112,8 @@ pub data IsRefusedForGood (s : Day) (form text : List ℕ) (fault : FormFault) :
 abbrev pub IsLastPart : PartsProperty
 IsLastPart p parts = (part : List ℕ) × (parts ≡ part ∷ [])
 
--- `text` is what has been written of the form's text. If there is a fault, it is the text of the parts before the
--- fault. If there is no fault yet, it is the text of all parts but the last.
+-- `text` is what has been written of the form's text. If there is a fault, `text` is the text of the parts before the
+-- fault. If there is no fault yet, `text` is the text of all parts but the last.
 abbrev pub IsTextBefore : Day → Option FormFault → List ℕ → List ℕ → Type 0
 IsTextBefore s None form text = IsFormReadTo s IsLastPart form text
 IsTextBefore s (Some fault) form text = IsAnswerAfter s form text (Err fault)

@@ -12,7 +12,7 @@ abbrev pub AreRising : ℕ → ℕ → List ℕ → Type 0
 AreRising first end [] = Unit {0}
 AreRising first end (place ∷ places) = (first ≤ place) × (place < end) × AreRising (place + 1) end places
 
--- In lexicographic order, the list of places comes before `others`, or equals it.
+-- In lexicographic order, the list of places comes before the list `others`, or equals `others`.
 abbrev pub PrecedesOrEquals : List ℕ → List ℕ → Type 0
 PrecedesOrEquals [] others = Unit {0}
 PrecedesOrEquals (place ∷ places) [] = ⊥

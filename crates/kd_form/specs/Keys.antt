@@ -1,4 +1,4 @@
--- The keys that an order gives for one part of its form, and the words of their line.
+-- The keys that an order gives for one part of its form, and the words of the line with these keys.
 -- Test: tests/cases/desk-messages.toml
 use Rattle.std.specs.Prelude.{codes, ℕ, ◌<◌, List, [], ◌∷◌, length}
 use Rattle.kd_tables.specs.Text.{letters_text}

@@ -2,7 +2,7 @@
 -- Bytes are counted from 1.
 -- Test: tests/cases/desk-messages.toml
 use Rattle.std.specs.Prelude.{codes, ◌≡◌, ◌≢◌, ◌⊎◌, ℕ, ◌+◌, ◌≤◌, List, [], ◌∷◌, ◌++◌, length}
-use Rattle.kd_state.specs.LineWords.{line_of}
+use Rattle.kd_tables.specs.LineWords.{line_of}
 use Rattle.kd_state.specs.SheetDay.{Day}
 use Rattle.kd_form.specs.declared.keys.Keys.{Keys}
 use Rattle.kd_form.specs.declared.sending.pattern_line.PatternFault.{PatternFault}

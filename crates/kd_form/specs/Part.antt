@@ -5,7 +5,7 @@ use Rattle.std.specs.List.{flat_map}
 use Rattle.std.specs.Int.{div_ceil}
 use Rattle.std.specs.Simd.{first_chunks}
 use Rattle.kd_tables.specs.Text.{letters_text}
-use Rattle.kd_state.specs.LineWords.{line_then}
+use Rattle.kd_tables.specs.LineWords.{line_then}
 use Rattle.kd_form.specs.declared.heading.Heading.{Heading}
 use Rattle.kd_form.specs.declared.heading.Indicator.{Indicator}
 

@@ -4,7 +4,7 @@
 use Rattle.std.specs.Prelude.{◌≡◌, ℕ, ◌+◌, ◌-◌, List, [], ◌∷◌, ◌++◌, length, Option, Some, None, MatchOption}
 use Rattle.kd_state.specs.AnswerRules.{AnswerRule, ◌>>=◌, Yields, Finds, Demands}
 use Rattle.kd_state.specs.SheetDay.{Day}
-use Rattle.kd_state.specs.LineWords.{line_of}
+use Rattle.kd_tables.specs.LineWords.{line_of}
 use Rattle.kd_form.specs.declared.fault.FormFault.{FormFault}
 use Rattle.kd_form.specs.declared.fault.FormFault.TheVariants.{BadHeading, CountWrong, PartOrder}
 use Rattle.kd_form.specs.declared.heading.Heading.{Heading}

@@ -32,7 +32,7 @@ IsPatternLine pattern bytes = (letters : List ℕ) × IsFilledLine pattern lette
 abbrev pub fits_mark : ℕ → ℕ → Bool
 fits_mark mark byte = if mark == 95 then nat_le 65 byte && nat_le byte 90 else byte == mark
 
--- the letter that `byte` is, if `mark` is `_`; otherwise no letter
+-- the letter `byte` if `mark` is `_`; otherwise no letter
 abbrev pub letters_for_mark : ℕ → ℕ → List ℕ
 letters_for_mark mark byte = if mark == 95 then (byte - 65) ∷ [] else []
 

@@ -26,7 +26,7 @@ space_letter (Pin s) = Some 25
 abbrev pub letter_of_byte : Option ℕ → ℕ → Option ℕ
 letter_of_byte for_space byte = if is_capital byte then Some (byte - 65) else if byte == 32 then for_space else None
 
--- the letters that the bytes of a text give
+-- all letters that bytes of `text` give; `letter_of_byte` says which letter a byte gives
 abbrev pub letters_from : Option ℕ → List ℕ → List ℕ
 letters_from for_space text = filter_map (letter_of_byte for_space) text
 
@@ -104,7 +104,7 @@ IsOrderAnswer s order = do
   parts ← IsReadAnswer s order
   IsMadeAnswer s parts.keys (text_letters s parts.text)
 
--- `form` is the order's form.
+-- `form` is the form of the order `order`.
 abbrev pub IsFormOf : Day → List ℕ → List ℕ → Type 0
 IsFormOf s order form = IsOrderAnswer s order (Ok form)
 
@@ -112,8 +112,8 @@ IsFormOf s order form = IsOrderAnswer s order (Ok form)
 abbrev pub IsSendFault : Day → List ℕ → FormFault → Type 0
 IsSendFault s order fault = IsOrderAnswer s order (Err fault)
 
--- The order has `fault`, which is found while the order's bytes are read. So no further bytes can change the fault.
--- `BadByte` must be for one of the order's bytes, not for a byte that is missing at the order's end.
+-- The order has `fault`, which is found while the order's bytes are read. So no further bytes can change the fault. If
+-- `fault` is `BadByte`, it names one of the order's bytes, not a byte that is missing at the order's end.
 pub record IsOrderFaultForGood (s : Day) (order : List ℕ) (fault : FormFault) : Type 0 where
   pub found : IsReadAnswer s order (Err fault)
   pub inside : (position : ℕ) → fault ≡ BadByte position → position ≤ length order

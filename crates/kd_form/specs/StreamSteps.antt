@@ -102,8 +102,8 @@ pub record IsClosed (m : Message) (bytes text : List ℕ) (sink : Port) (answer 
   pub written : Appends sink.had sink.has made
   pub ended : HasBeenEnded m bytes (text ++ made) answer
 
--- The reader's state satisfies the condition `old`. The reader ends the message, and writes the rest of its output to
--- the sink.
+-- `answer` is right for the end of the message. Before the end, the reader's state satisfies the condition `old`. At
+-- the end, the reader writes the rest of its output to `sink`.
 abbrev pub IsFinishAnswer : Message → (List ℕ → List ℕ → Type 0) → Port → Result (Unit {0}) Interruption → Type 0
 IsFinishAnswer m old sink answer = (bytes text : List ℕ) → HasReadSoFar m old bytes text
     → IsClosed m bytes text sink answer

@@ -3,7 +3,7 @@ ghost use Rattle.std.specs.Prelude.{◌≡◌, Some};
 ghost use Rattle.kd_form.specs.FaultText.{form_fault_text};
 
 use kd_state::NotReady;
-use kd_tables::{Device, Refusal, Text};
+use kd_tables::{Device, Refusal, RefusalText};
 use std::fmt;
 use thiserror::Error;
 
@@ -45,7 +45,7 @@ pub enum FormFault {
 
 impl FormFault {
     /// The refusal's text, such as `28 BadByte 5`: the refusal's number and name, and then the variant's fields.
-    pub fn text(&self) -> Text
+    pub fn text(&self) -> RefusalText
         ensures { result.bytes ≡ form_fault_text self.now }
     {
         match *self {

@@ -4,13 +4,13 @@ ghost use Rattle.kd_tables.specs.Ports.{port};
 ghost use Rattle.kd_host.specs.Ending.{refused_line, EndsWithLine};
 
 use arrayvec::ArrayString;
-use kd_tables::{Sink, Text, put_all};
+use kd_tables::{RefusalText, Sink, put_all};
 
 /// A line on standard error.
 pub type Line = ArrayString<80>;
 
 /// The line on standard error for the refusal `text`.
-pub fn refused_line(text: Text) -> Line
+pub fn refused_line(text: RefusalText) -> Line
     ensures { result.bytes ≡ refused_line text.bytes }
 {
     let mut line = Line::new();

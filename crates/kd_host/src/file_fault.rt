@@ -2,7 +2,7 @@
 ghost use Rattle.std.specs.Prelude.{◌≡◌};
 ghost use Rattle.kd_host.specs.FileFault.{file_fault_text};
 
-use kd_tables::{Refusal, Text};
+use kd_tables::{Refusal, RefusalText};
 use std::alloc::AllocError;
 use std::io;
 
@@ -19,7 +19,7 @@ pub enum FileFault {
 
 impl FileFault {
     /// The refusal's number and name.
-    pub fn text(&self) -> Text
+    pub fn text(&self) -> RefusalText
         ensures { result.bytes ≡ file_fault_text self.now }
     {
         match self {

@@ -6,7 +6,7 @@ use Rattle.std.proofs.Common.{length-append, length-drop}
 use Rattle.std.proofs.lemmas.Bool.{false≢true}
 use Rattle.std.proofs.lemmas.List.{drop_at, length-take-le, take-append-drop, take-take, take_at}
 use Rattle.std.specs.Prelude.{IfOk}
-use Rattle.kd_state.specs.LineWords.{IsWithout, IsFirstPart, line_of}
+use Rattle.kd_tables.specs.LineWords.{IsWithout, IsFirstPart, line_of}
 use Rattle.kd_state.specs.SheetDay.{Day, Rotor, Pin}
 use Rattle.kd_state.specs.EngineKey.{IsWindow}
 use Rattle.kd_state.specs.OwnKeys.{sheet_key}

@@ -6,7 +6,7 @@ use Rattle.std.specs.List.{cons_option}
 use Rattle.std.proofs.lemmas.Bool.{Decides.nat_tests, cases_Bool}
 use Rattle.std.proofs.lemmas.List.Elements.{All-head, All-tail, All-cons, All-nil, All-map}
 use Rattle.kd_tables.specs.Text.{is_text_byte, is_capital}
-use Rattle.kd_state.specs.LineWords.{IsWithout, IsFirstPart}
+use Rattle.kd_tables.specs.LineWords.{IsWithout, IsFirstPart}
 use Rattle.kd_form.specs.Sending.{letter_of_byte, letters_from}
 use Rattle.kd_lost.specs.Lost.{AnyLetter, AsReceived, Completes, IsCompletion, MayHaveBeen, meant_byte, is_lost}
 use Rattle.kd_lost.specs.Lost.{received_letter, received_letters}

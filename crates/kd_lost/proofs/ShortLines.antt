@@ -3,7 +3,7 @@ use Rattle.std.proofs.Common.{◌≡◌, ◌≢◌, ◌∙◌, ℕ, ◌+◌, ◌
 use Rattle.std.proofs.Common.{refl, ap, arith, if◌then◌else◌, Some, None}
 use Rattle.std.proofs.lemmas.Bool.{Decides.nat_tests}
 use Rattle.std.proofs.lemmas.List.Elements.{All-head, All-tail}
-use Rattle.kd_state.specs.LineWords.{IsFirstPart, IsWithout}
+use Rattle.kd_tables.specs.LineWords.{IsFirstPart, IsWithout}
 use Rattle.kd_lost.specs.DamagedPart.{body_of, first_line}
 use Rattle.kd_lost.specs.ShortLine.{is_short, later_lines, letters_on, short_line_from}
 use Rattle.kd_lost.proofs.Parts.{lines_there, one_line}

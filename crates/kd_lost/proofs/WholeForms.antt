@@ -6,7 +6,7 @@ use Rattle.std.proofs.lemmas.Bool.{Decides.nat_tests, and_parts, cases_Bool, cas
 use Rattle.std.proofs.lemmas.List.{take-append-drop}
 use Rattle.std.proofs.lemmas.List.Elements.{All-append, All-cons, All-head, All-nil, All-tail, All-weaker}
 use Rattle.kd_tables.specs.Text.{is_text_byte}
-use Rattle.kd_state.specs.LineWords.{IsWithout}
+use Rattle.kd_tables.specs.LineWords.{IsWithout}
 use Rattle.kd_state.specs.SheetDay.{Day}
 use Rattle.kd_form.specs.FormParts.{BeginsHeading, begins_heading, cut_at_headings, parts_of}
 use Rattle.kd_form.specs.declared.heading.Heading.{Heading}

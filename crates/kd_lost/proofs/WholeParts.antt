@@ -10,11 +10,11 @@ use Rattle.std.proofs.lemmas.List.Elements.{All-weaker}
 use Rattle.std.proofs.lemmas.Fmt.{digits_decimal}
 use Rattle.std.specs.List.{cons_option, slice_range}
 use Rattle.kd_tables.specs.Text.{is_text_byte, letters_text}
-use Rattle.kd_state.specs.LineWords.{IsFirstPart, line_of}
+use Rattle.kd_tables.specs.LineWords.{IsFirstPart, line_of}
 use Rattle.kd_state.specs.SheetDay.{AreADaysGroup, Day, Rotor, Pin}
 use Rattle.kd_state.specs.EngineKey.{IsWindow}
 use Rattle.kd_state.specs.OwnKeys.{sheet_key}
-use Rattle.kd_state.proofs.Lines.{IsNumeralModel-digits}
+use Rattle.kd_tables.proofs.LineWords.{IsNumeralModel-digits}
 use Rattle.kd_state.proofs.OneAnswer.{ThenNext-Ok, Yields-Ok}
 use Rattle.kd_form.specs.declared.{heading.{Heading.{Heading}, Indicator.{Indicator}}}
 use Rattle.kd_form.specs.BodyCipher.{HasIndicator, IsLettersAnswer, IsPinAnswer, deciphered_key}

@@ -46,8 +46,8 @@ abbrev pub heading_count : Option PartNumbers → ℕ
 heading_count (Some numbers) = numbers.letters
 heading_count None = 0
 
--- Whether a short line explains why the heading says `counted` letters, but the body has `came` letters. It does if the
--- body would have `counted` letters with 50 letters on this line.
+-- Whether a short line explains why the heading says `counted` letters, but the body has `came` letters. The line
+-- explains this if the body would have `counted` letters with 50 letters on this line.
 abbrev pub explains : ℕ → ℕ → ShortLine → Bool
 explains counted came short = counted + short.letters == came + 50
 
@@ -56,7 +56,7 @@ abbrev pub telling_line : ℕ → ℕ → Option ShortLine → Option ShortLine
 telling_line counted came None = None
 telling_line counted came (Some short) = if explains counted came short then Some short else None
 
--- the short line of the part, if the heading's count would be right with 50 letters on this line; otherwise `None`
+-- the short line of the part, if 50 letters on this line would make the heading's count right; otherwise `None`
 abbrev pub part_line : DamagedPart → Option ShortLine
 part_line part = telling_line (heading_count part.numbers) part.came part.short_line
 
@@ -104,7 +104,7 @@ GivesByCount true s part came given numbers found =
     (counted : Option PartNumbers) × IsFoundIn s (counted_part came part) counted found
     × (numbers ≡ numbers_by_count given counted found)
 
--- `read` has the text and the numbers that reading `part` by count gives.
+-- `read` has the text and the numbers that come from reading `part` by count.
 abbrev pub IsByCount : Day → List ℕ → Option PartNumbers → DamagedPart → Type 0
 IsByCount s part given read =
     GivesByCount (is_count_doubted read.text (telling_line (heading_count given) read.came read.short_line)) s part

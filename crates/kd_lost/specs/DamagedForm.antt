@@ -27,8 +27,7 @@ use Rattle.kd_lost.specs.WrongSign.{IsFirstWrongSign}
 
 -- ---- The parts of a form.
 
--- Whether a part ends with `byte`, if `bytes` follow it. It does if `byte` is an LF, and the line after it is taken for
--- a heading.
+-- Whether `byte` ends a part, if `bytes` follow it: `byte` is an LF, and the line after it is taken for a heading.
 abbrev pub ends_part : ℕ → List ℕ → Bool
 ends_part byte bytes = byte == 10 && is_heading_line bytes
 

@@ -5,7 +5,7 @@ use Rattle.std.specs.Prelude.{◌≡◌, ℕ, ◌==◌, ◌||◌, Bool, IsTrue, 
 use Rattle.std.specs.Prelude.{filter_map, Option, None, Some, MatchOption}
 use Rattle.kd_tables.specs.Text.{is_text_byte}
 use Rattle.kd_state.specs.AnswerRules.{AnswerRule, ◌>>=◌, Finds, Demands}
-use Rattle.kd_state.specs.LineWords.{line_of}
+use Rattle.kd_tables.specs.LineWords.{line_of}
 use Rattle.kd_state.specs.SheetDay.{Day}
 use Rattle.kd_form.specs.declared.heading.Heading.{Heading}
 use Rattle.kd_form.specs.FormParts.{IsHeading, IsLineText}
@@ -51,7 +51,7 @@ is_body_byte byte = is_lost byte || is_text_byte (meant_byte byte)
 
 -- ---- The letters by which parts are compared.
 
--- The letter for a byte of a body, when parts are compared. A sign that may not be in a body is compared like a lost
+-- The letter for a byte of a body, when parts are compared. A sign that isn't allowed in a body is compared like a lost
 -- letter, as `Some None`. A space or a line end is left out, as `None`.
 abbrev pub body_letter : ℕ → Option (Option ℕ)
 body_letter byte = if is_body_byte byte then received_letter byte else Some None
@@ -78,7 +78,8 @@ abbrev pub IsPartTest : Day → Option PartNumbers → List (Option ℕ) → Gro
 IsPartTest s None body test = test ≡ NotTested
 IsPartTest s (Some numbers) body test = IsBodyTest s numbers.letters body test
 
--- The answer for the body of a part with the heading `h`: the text, or the first reason why it can't be read.
+-- The answer for the body of a part with the heading `h`: the body's text, or the first reason why the body can't be
+-- read.
 abbrev pub IsDamagedBodyAnswer : Day → Heading → List ℕ → AnswerRule PartDamage DamagedText
 IsDamagedBodyAnswer s h body = do
   _ ← Demands (All (λ byte. IsTrue (is_body_byte byte)) body) BadByte

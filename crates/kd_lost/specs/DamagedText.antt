@@ -44,9 +44,9 @@ IsLostInBoth (one ∷ start) (other ∷ end) = ((one ≡ None) × (other ≡ Non
 IsLostInBoth [] end = ⊥
 IsLostInBoth (one ∷ start) [] = ⊥
 
--- `test` is the result of comparing the received list letters with the day's. `start` and `end` are the two received
--- copies, and `due` are the day's list letters. The result is `Wrong` if a received letter differs from the day's
--- letter. Otherwise, it is `NotTested` if a letter is lost in both copies.
+-- `test` is the result of comparing the received list letters with the day's list letters `due`. `start` and `end` are
+-- the two received copies of the list letters. The result is `Wrong` if a received letter differs from the day's
+-- letter. Otherwise, the result is `NotTested` if a letter is lost in both copies.
 pub data IsListTest (due : List ℕ) (start end : List (Option ℕ)) (test : GroupTest) : Type 0 where
   ListWrong : ¬ (Completes start due × Completes end due) → test ≡ tests.Wrong → IsListTest due start end test
   ListLost : Completes start due → Completes end due → IsLostInBoth start end → test ≡ tests.NotTested
@@ -141,8 +141,8 @@ IsDamagedLettersAnswer s None received = do
 
 -- ---- What the code holds. No public contract cites this definition.
 
--- The answer for `received`, the letters between a Converter's indicators: the letters of the text, and the internal
--- key. The indicators give the keys `keys`.
+-- `received` has the letters between a Converter's indicators, and the indicators give the keys `keys`. The answer for
+-- `received` has the letters of the text, and the internal key.
 abbrev pub IsKeyedTextAnswer : Day → PinKeys → List (Option ℕ) → AnswerRule PartDamage (ArrayVec (Option ℕ) × ArrayVec ℕ)
 IsKeyedTextAnswer s keys received = do
   _ ← Demands (IsWindow (sheet_key s) keys.external) KeyNotOnWheel

@@ -1,6 +1,6 @@
--- Which lines of a damaged form are taken for headings. Such a line begins like `PART`. It also has a digit or a slash
--- anywhere, or a lost sign at the start of its second word. So a wrong sign in a body doesn't begin a part. A heading
--- begins a part even if some of its signs are lost or wrong.
+-- Which lines of a damaged form are taken for headings. A line that is taken for a heading begins like `PART`. The line
+-- also has a digit or a slash anywhere, or a lost sign at the start of its second word. So a wrong sign in a body
+-- doesn't begin a part. A heading begins a part even if some of its signs are lost or wrong.
 -- Test: tests/cases/curator-messages.toml
 use Rattle.std.specs.Prelude.{codes, ℕ, ◌+◌, ◌==◌, ◌&&◌, ◌||◌, nat_le, Bool, false, true, if◌then◌else◌, List, [], ◌∷◌}
 use Rattle.std.specs.Prelude.{Option, None, Some, drop, is_some, length, map, not, slice_get, take}
@@ -48,7 +48,7 @@ abbrev pub begins_with_word : List ℕ → List ℕ → Bool
 begins_with_word word bytes =
     right_signs word bytes == length word && not (is_letter (slice_get bytes (length word)))
 
--- whether `bytes` begin with `PART` without one of its letters, and no letter follows
+-- whether `bytes` begin with `ART`, `PRT`, `PAT` or `PAR`, and no letter follows
 abbrev pub begins_with_three : List ℕ → Bool
 begins_with_three bytes =
     begins_with_word (codes "ART") bytes || begins_with_word (codes "PRT") bytes
@@ -106,7 +106,7 @@ abbrev pub leading_signs : List ℕ → ℕ
 leading_signs [] = 0
 leading_signs (byte ∷ bytes) = if is_some (received_letter byte) then 1 + leading_signs bytes else 0
 
--- whether the first line of `bytes` begins with two groups of five letters, some of them perhaps lost
+-- whether the first line of `bytes` begins with two groups of five letters; letters of the groups may be lost
 abbrev pub begins_with_groups : List ℕ → Bool
 begins_with_groups bytes =
     leading_signs (after_blanks bytes) == 5 && leading_signs (after_blanks (drop 5 (after_blanks bytes))) == 5

@@ -18,8 +18,8 @@ use Rattle.kd_lost.specs.DamagedPart.{AreNumbersRead, IsDamagedTextAnswer, first
 use Rattle.kd_lost.specs.OneMessage.{are_of_one_message, bodies_agree}
 use Rattle.kd_lost.specs.Tidy.{tidied}
 
--- Two texts are enciphered with one key. Where they have the same letter, so do their ciphertexts. The texts may differ
--- at all other places.
+-- Two texts are enciphered with one key. Wherever the texts have the same letter, their ciphertexts have the same
+-- letter. The texts may differ at all other places.
 abbrev pub CiphersAgreeWhereTextsDo : Type 0
 CiphersAgreeWhereTextsDo =
     (key : EngineKey) (text other : List ℕ) (place : ℕ) → slice_get text place ≡ slice_get other place
@@ -50,7 +50,7 @@ PartsReadHaveNumbers =
     → IsPartAnswer s p part (Ok read) → AreNumbersRead s (first_line part) found
     → (numbers : PartNumbers) × (found ≡ Some numbers) × (numbers.part ≡ p.number) × (numbers.parts ≡ read.parts)
 
--- If `receive` reads a form, this crate cuts the form into the same parts.
+-- If `receive` reads a form, this crate cuts the form into the parts that `receive` finds.
 abbrev pub FormsReadHaveTheirParts : Type 0
 FormsReadHaveTheirParts =
     (s : Day) (form text : List ℕ) → IsTextOf s form text → form_parts form ≡ parts_of form

@@ -43,7 +43,7 @@ abbrev pub letter_or : Option ℕ → Option ℕ → Option ℕ
 letter_or (Some letter) other = Some letter
 letter_or None other = other
 
--- the letter at `place` in the first copy of the part `read` that didn't lose this letter
+-- the letter at `place` of the part `read`, from the first copy of this part that has the letter
 abbrev pub known_letter : List DamagedPart → DamagedPart → DamagedText → ℕ → Option ℕ
 known_letter [] read shown place = None
 known_letter (copy ∷ copies) read shown place =
@@ -87,7 +87,7 @@ completed_at copies index part = completed_of copies (slice_get copies index) pa
 abbrev pub copies_in : List DamagedPart → List DamagedPart
 copies_in parts = if are_of_one_message parts then parts else []
 
--- whether the part, read again with letters from its copies, keeps its number, and the letters that it had
+-- whether the part keeps its number and its known letters when the part is read again with letters from its copies
 abbrev pub is_kept : DamagedPart → DamagedPart → Bool
 is_kept alone again = is_same_part alone.numbers again.numbers && text_within (shown_text alone) (shown_text again)
 
@@ -98,6 +98,7 @@ are_kept (alone ∷ parts) (again ∷ others) = is_kept alone again && are_kept 
 are_kept [] (again ∷ others) = false
 are_kept (alone ∷ parts) [] = false
 
--- the parts read again, if each keeps its number and its letters; otherwise the parts as they were read alone
+-- `again`, the parts that were read again, if each part keeps its number and its letters; otherwise `alone`, the parts
+-- as they were read alone
 abbrev pub completed_or : List DamagedPart → List DamagedPart → List DamagedPart
 completed_or alone again = if are_kept alone again then again else alone

@@ -14,7 +14,7 @@ letters_on bytes = length (received_letters bytes)
 abbrev pub is_short : ℕ → Bool
 is_short letters = not (letters == 0) && not (letters == 50)
 
--- for each line of a body after the first, all bytes of the body from the start of this line on
+-- one item for each line of a body except the first: all bytes of the body from the start of this line on
 abbrev pub later_lines : List ℕ → List (List ℕ)
 later_lines [] = []
 later_lines (byte ∷ bytes) = if byte == 10 then bytes ∷ later_lines bytes else later_lines bytes
@@ -28,6 +28,6 @@ short_line_from all number (bytes ∷ others) =
     then Some (record { line = number; letters = letters_on (first_line bytes); before = all - letters_on bytes })
     else short_line_from all (number + 1) others
 
--- the first short line of a body, which begins on line 2 of its part
+-- the first short line of a body; the body begins on line 2 of its part
 abbrev pub short_line : List ℕ → Option ShortLine
 short_line body = short_line_from (letters_on body) 2 (body ∷ later_lines body)

@@ -56,12 +56,13 @@ is_text_worse counted (Some one) (Some other) =
 is_text_worse counted None (Some other) = true
 is_text_worse counted one None = false
 
--- Whether the text of `other` is better than the text of `one`, or is the only text. A text is better if it has fewer
--- lost letters. With equally many lost letters, a text read with the heading's count is better than a text by count.
+-- Whether the text of `other` is better than the text of `one`, or only `other` has a text. A text is better if it has
+-- fewer lost letters. With equally many lost letters, a text read with its heading's letter count is better than a text
+-- by count.
 abbrev pub is_worse : DamagedPart → DamagedPart → Bool
 is_worse one other = is_text_worse (is_err one.text && is_ok other.text) (shown_text one) (shown_text other)
 
--- `later`, if it has a better text than `part`, such as one with fewer lost letters; otherwise `part`
+-- `later`, if `later` has a better text than `part`, such as a text with fewer lost letters; otherwise `part`
 abbrev pub better : DamagedPart → Option DamagedPart → Option DamagedPart
 better part None = Some part
 better part (Some later) =
@@ -115,8 +116,8 @@ IsReadWhole part =
 abbrev pub IsNumberWhole : List DamagedPart → ℕ → Type 0
 IsNumberWhole parts number = MatchOption (shown_under parts number) ⊥ IsReadWhole
 
--- The part's group or list letters don't show another day or network. They can be tested even in a part that isn't
--- read.
+-- The part's group or list letters don't show another day or network. These letters can be tested even in a part that
+-- isn't read.
 abbrev pub MayBeOfTheDay : DamagedPart → Type 0
 MayBeOfTheDay part = IsFalse (is_of_other_day part)
 

@@ -1,4 +1,4 @@
--- The text that is shown of a part, and whether another text has all its letters.
+-- The text that is shown for a part, and whether one text has all letters of another text.
 use Rattle.std.specs.Prelude.{ℕ, ◌==◌, ◌&&◌, nat_le, Bool, true, false, is_none, List, [], ◌∷◌, Option, Some, None}
 use Rattle.std.specs.Prelude.{Result, Ok, Err}
 use Rattle.std.specs.List.{count_by}
@@ -12,7 +12,7 @@ abbrev pub text_or : Result DamagedText PartDamage → Option DamagedText → Op
 text_or (Ok shown) counted = Some shown
 text_or (Err damage) counted = counted
 
--- The text that is shown of a part: its text or, if there is none, its text by count.
+-- The text that is shown for a part: the part's text or, if there is none, its text by count.
 abbrev pub shown_text : DamagedPart → Option DamagedText
 shown_text part = text_or part.text part.by_count
 
@@ -27,8 +27,8 @@ abbrev pub test_or : GroupTest → Option DamagedText → GroupTest
 test_or other (Some shown) = shown.group
 test_or other None = other
 
--- Whether the group or the list letters of a part are of another day. They can be tested even in a part that isn't
--- read.
+-- Whether the group or the list letters of a part are of another day. The group and the list letters can be tested even
+-- in a part that isn't read.
 abbrev pub is_of_other_day : DamagedPart → Bool
 is_of_other_day part = is_wrong_day (test_or part.group (shown_text part))
 
@@ -36,7 +36,7 @@ is_of_other_day part = is_wrong_day (test_or part.group (shown_text part))
 abbrev pub lost_in : DamagedText → ℕ
 lost_in shown = count_by (λ letter. is_none letter) shown.letters.items
 
--- whether the first letter is lost, or the second letter is equal to it
+-- whether the first letter is lost, or is equal to the second letter
 abbrev pub letter_within : Option ℕ → Option ℕ → Bool
 letter_within None again = true
 letter_within (Some letter) (Some again) = letter == again

@@ -16,8 +16,8 @@ use Rattle.kd_lost.specs.DamagedPart.{first_line}
 abbrev pub without_mark : List ℕ → List ℕ
 without_mark form = if bytes_eq (take 3 form) (239 ∷ 187 ∷ 191 ∷ []) then drop 3 form else form
 
--- The bytes from a heading on: the first heading after the first line. `None` in two cases:
--- - There is no such heading.
+-- The bytes that begin with the first heading after the first line. `None` in two cases:
+-- - No heading stands after the first line.
 -- - A line between the first line and this heading may belong to a part.
 abbrev pub later_heading : List ℕ → Option (List ℕ)
 later_heading [] = None
@@ -57,7 +57,7 @@ as_space byte = if is_gap byte then 32 else byte
 abbrev pub spaced_byte : ℕ → List ℕ → List ℕ
 spaced_byte byte line = if is_gap byte && ends_word line then [] else as_space byte ∷ []
 
--- `line`, with one space for all gaps between two words, and without the gaps at its end
+-- `line` without the gaps at its end, and with one space in place of the gaps between two words
 abbrev pub spaced_from : List ℕ → List ℕ
 spaced_from [] = []
 spaced_from (byte ∷ line) = spaced_byte byte line ++ spaced_from line

@@ -4,7 +4,7 @@
 use Rattle.std.specs.Prelude.{◌≡◌, ◌⊎◌, ℕ, ◌+◌, ◌==◌, IsTrue, IsFalse, List, [], ◌∷◌, ◌++◌, length, All}
 use Rattle.std.specs.Prelude.{Option, MatchOption}
 use Rattle.std.specs.List.{count_by}
-use Rattle.kd_state.specs.LineWords.{IsWithout}
+use Rattle.kd_tables.specs.LineWords.{IsWithout}
 use Rattle.kd_lost.specs.declared.wrong_sign.WrongSign.{WrongSign}
 use Rattle.kd_lost.specs.Lost.{received_letters}
 use Rattle.kd_lost.specs.DamagedPart.{is_body_byte}

@@ -14,7 +14,7 @@ use itoa::Buffer;
 use kd_state::SheetDay;
 use std::alloc::Global;
 
-/// The short line of `part`, if the heading's count would be right with 50 letters on this line.
+/// The short line of `part`, if 50 letters on this line would make the heading's count right.
 ///
 /// Otherwise `None`.
 pub fn part_line(part: &DamagedPart) -> Option<ShortLine>
@@ -104,7 +104,7 @@ pub(crate) fn numbers_by_count(
     }
 }
 
-/// `part`, with `count` in place of the third word of its heading, the letter count.
+/// `part`, with `count` in place of the letter count, which is the heading's third word.
 fn counted_part(alloc: Global, part: &[u8], count: usize) -> Result<Vec<u8>, DamagedFormFault>
     ensures { MatchResult result
         (λ bytes. bytes.items ≡ counted_part count part.now)

@@ -15,7 +15,7 @@ pub enum PartDamage {
     BadByte,
     /// The body has more or fewer letters than its heading says.
     CountWrong,
-    /// Two copies of the Converter's key letter with this number differ.
+    /// The Converter's key letter with this number differs between two copies.
     CopiesDiffer(u8),
     /// The Converter's key letter with this number is lost in all its copies.
     KeyLetterLost(u8),

@@ -14,7 +14,7 @@ pub struct DamagedText {
     pub received: ArrayVec<Option<Letter>, 520>,
     /// The keys with which the text was deciphered.
     pub keys: TextKeys,
-    /// Whether the part's group or, on the Converter M-209, its list letters are the day's.
+    /// Whether the part's group or, on the Converter M-209, the part's list letters belong to the day.
     pub group: GroupTest,
     /// Which copies of a Converter's indicators have lost letters; `None` on a rotor machine.
     pub copies: Option<LostCopies>,
@@ -41,7 +41,7 @@ pub struct PinTextKeys {
 /// Whether the group or, on the Converter M-209, the list letters of a part are the day's.
 #[derive(Clone, Copy, Debug, PartialEq, Eq)]
 pub enum GroupTest {
-    /// The group or the list letters of the part are the day's.
+    /// The group or the list letters of the part belong to the day.
     Right,
     /// The group or the list letters of the part aren't the day's. The part was made with another day's settings, or
     /// its letters were changed on the air.

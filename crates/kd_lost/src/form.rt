@@ -20,7 +20,8 @@ use crate::tidy::{respaced, tidied};
 use kd_state::SheetDay;
 use std::alloc::Global;
 
-/// The greatest number of parts that are read of a form. A message has at most 99 parts, but some parts may come twice.
+/// The greatest number of parts that are read from a form. A message has at most 99 parts, but some parts may come
+/// twice.
 const MOST_PARTS: usize = 255;
 
 /// Why a form in which letters were lost isn't read.

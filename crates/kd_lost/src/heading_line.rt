@@ -14,8 +14,8 @@ use arrayvec::ArrayString;
 
 /// Whether the first line of `bytes` is taken for a heading.
 ///
-/// Such a line begins like `PART`. It also has a digit or a slash, or a lost sign in place of its number. No body has a
-/// digit or a slash.
+/// The line must begin like `PART`. It must also have a digit or a slash, or a lost sign in place of the part's number.
+/// A body has neither digits nor slashes.
 pub(crate) fn is_heading_line(bytes: &[u8]) -> bool
     ensures { result ≡ is_heading_line bytes.now }
 {
@@ -58,7 +58,7 @@ fn begins_lost(bytes: &[u8]) -> bool
     }
 }
 
-/// `bytes`, from the blank or LF after their first word on.
+/// The bytes of `bytes` from the end of the first word on. The word ends before the first blank or LF.
 fn after_word(bytes: &[u8]) -> &[u8]
     ensures { result.now ≡ after_word bytes.now }
 {
@@ -175,7 +175,7 @@ fn begins_exchanged(bytes: &[u8]) -> bool
         || begins_with_word(b"PATR", bytes)
 }
 
-/// Whether `bytes` begin with `PART` with a blank between two of its letters, and no letter follows.
+/// Whether `bytes` begin with `PART`, split by one blank, and no letter follows.
 fn begins_with_blank(bytes: &[u8]) -> bool
     ensures { result ≡ begins_with_blank bytes.now }
 {
@@ -191,7 +191,7 @@ fn begins_with_word(word: &[u8], bytes: &[u8]) -> bool
     right_signs(word, bytes) == word.len() && !is_letter(bytes.get(word.len()).copied())
 }
 
-/// Whether `bytes` begin with `PART` with an extra letter before the P, the A, the R or the T.
+/// Whether `bytes` begin with `PART` and one extra letter, which stands before the P, the A, the R or the T.
 ///
 /// No sixth letter follows.
 fn begins_with_five(bytes: &[u8]) -> bool
@@ -228,14 +228,14 @@ fn are_right(least: usize, word: &[u8], bytes: &[u8]) -> bool
     right_signs(word, bytes) >= least
 }
 
-/// Whether `bytes` has the right sign or a lost sign for at least `least` signs of `word`.
+/// Whether the first line of `bytes` has the sign of `word`, or a lost sign, at `least` or more places of `word`.
 fn are_fitting(least: usize, word: &[u8], bytes: &[u8]) -> bool
     ensures { result ≡ nat_le least (fitting_signs word.now bytes.now) }
 {
     fitting_signs(word, bytes) >= least
 }
 
-/// The number of places of `word` at which the first line of `bytes` has the same sign.
+/// How many signs of `word` stand at the same place in the first line of `bytes`.
 fn right_signs(word: &[u8], bytes: &[u8]) -> usize
     ensures signs { result ≡ right_signs word.now bytes.now }
     ensures few { result ≤ length word.now }

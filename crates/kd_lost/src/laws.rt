@@ -16,7 +16,8 @@ pub fn parts_read_are_shown_whole()
     ensures numbers { PartsReadHaveNumbers }
 {}
 
-/// If `receive` reads a form, this crate cuts the form into the same parts, and reads the same text, without a warning.
+/// If `receive` reads a form, this crate cuts the form into the parts that `receive` finds, and reads the text that
+/// `receive` returns, without a warning.
 ///
 /// No line before the form's first heading is passed over.
 pub fn forms_read_are_shown_whole()

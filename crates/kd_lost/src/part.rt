@@ -1,6 +1,6 @@
 //! Reads one part of a form. Letters of the part may be lost.
 ghost use Rattle.std.specs.Prelude.{◌≡◌, ◌↔◌, All, IsTrue, MatchResult, IfOk, None, false, length};
-ghost use Rattle.kd_state.specs.LineWords.{IsWithout};
+ghost use Rattle.kd_tables.specs.LineWords.{IsWithout};
 ghost use Rattle.kd_form.specs.FormParts.{IsHeading};
 ghost use Rattle.kd_lost.specs.DamagedPart.{AreNumbersRead, IsDamagedBodyAnswer, IsDamagedLinesAnswer};
 ghost use Rattle.kd_lost.specs.DamagedPart.{IsHeadedPartAnswer};
@@ -28,8 +28,8 @@ use arrayvec::{ArrayString, ArrayVec};
 use kd_form::day_machine::slots_of;
 use kd_form::heading::Heading;
 use kd_form::receiving::heading_reader::heading_of_ended_line;
-use kd_state::{SheetDay, split_once};
-use kd_tables::Letter;
+use kd_state::SheetDay;
+use kd_tables::{Letter, split_once};
 
 /// The result of reading one part of a form. Letters of the part may be lost.
 #[derive(Drop)]
@@ -43,8 +43,8 @@ pub struct DamagedPart {
     pub came: usize,
     /// The first letters of the body, at most 525. A sign that may not be in a body counts as a lost letter.
     pub body: ArrayVec<Option<Letter>, 525>,
-    /// Whether the group or the list letters in the body are the day's letters. A part that isn't read is tested, too,
-    /// but not a part with a damaged heading.
+    /// Whether the group or the list letters in the body are the day's letters. They are tested even if the part isn't
+    /// read, but not if its heading is damaged.
     pub group: GroupTest,
     /// The text, or why it can't be read.
     pub text: Result<DamagedText, PartDamage>,
@@ -53,8 +53,8 @@ pub struct DamagedPart {
     /// The text by count, if the heading's count may be wrong. It is read with the number of received letters in place
     /// of the heading's count.
     pub by_count: Option<DamagedText>,
-    /// The first line of the body that has letters, but not 50, though letters follow it. `None` if there is no such
-    /// line.
+    /// The first short line of the body: it has letters, but not 50, and letters follow the line. `None` if no line is
+    /// short.
     pub short_line: Option<ShortLine>,
     /// The number of the first group that doesn't have five letters, though letters follow the group. `None` if each
     /// group but the last has five letters.

@@ -114,7 +114,7 @@ pub(crate) fn body_letters(body: &[u8]) -> ArrayVec<Option<Letter>, 525>
 }
 
 /// The letter for a byte of a body, when parts are compared. It is `Some(None)` for a lost letter, and for a sign that
-/// may not be in a body.
+/// isn't allowed in a body.
 fn body_letter(byte: u8) -> Option<Option<Letter>>
     ensures { result ≡ body_letter byte }
 {

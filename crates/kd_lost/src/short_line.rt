@@ -1,9 +1,9 @@
-//! `ShortLine`: a line of a body that has letters, but not 50, though letters follow it.
+//! `ShortLine`: a short line of a body. A short line has letters, but not 50, and letters follow the line.
 ghost use Rattle.std.specs.Prelude.{◌≡◌, ◌&&◌, nat_lt};
 ghost use Rattle.kd_lost.specs.ShortLine.{is_short, letters_on, short_line};
 
 use crate::received::letter_count;
-use kd_state::split_once;
+use kd_tables::split_once;
 
 /// A line of a body that has letters, but not 50, though letters follow it.
 #[derive(Clone, Copy, Debug, PartialEq, Eq)]

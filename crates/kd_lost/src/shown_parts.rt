@@ -130,7 +130,7 @@ fn is_covered(all: &[DamagedPart], part: &DamagedPart) -> bool
     }
 }
 
-/// Whether at least one part is read, even if only by count.
+/// Whether at least one part is read, by its heading's count or by the number of received letters.
 pub fn is_any_read(parts: &[DamagedPart]) -> bool
     ensures { result ≡ is_any_read parts.now }
 {

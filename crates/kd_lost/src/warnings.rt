@@ -104,7 +104,7 @@ fn completes(received: &[Option<Letter>], letters: &[Letter]) -> bool
     received.is_empty() && letters.is_empty()
 }
 
-/// Whether, at some place, the letter is lost in both copies of the list letters.
+/// Whether both copies of the list letters have a lost letter at the same place.
 fn is_lost_in_both(start: &[Option<Letter>], end: &[Option<Letter>]) -> bool
     ensures { IsTrue result ↔ IsLostInBoth start.now end.now }
 {

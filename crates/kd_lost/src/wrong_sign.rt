@@ -59,9 +59,9 @@ fn line_after(line: usize, byte: u8) -> usize
     if byte == b'\n' { line + 1 } else { line }
 }
 
-/// The number that a letter just after `byte` has on its line, counted from 1.
+/// The number, counted from 1, that a letter just after `byte` has on its line.
 ///
-/// `letter` is the number that `byte` has, or would have as a letter.
+/// `letter` is the number of `byte` or, if `byte` isn't a letter, of a letter in its place.
 fn letter_after(letter: usize, byte: u8) -> usize
     requires { letter < 2 ^ 63 + 2 }
     ensures { result ≡ (if byte == 10 then 1

@@ -9,7 +9,7 @@ use Rattle.std.specs.List.{Contains, cons_option, range_with_len, slice_range}
 use Rattle.std.specs.Prelude.{IfOk}
 use Rattle.kd_tables.specs.Text.{is_text_byte}
 use Rattle.kd_state.specs.AnswerRules.{GoesOn}
-use Rattle.kd_state.specs.LineWords.{IsFirstPart, IsWithout, line_of}
+use Rattle.kd_tables.specs.LineWords.{IsFirstPart, IsWithout, line_of}
 use Rattle.kd_state.specs.SheetDay.{AreADaysGroup, Day}
 use Rattle.kd_state.proofs.OneAnswer.{ThenNext-Ok}
 use Rattle.kd_form.specs.declared.heading.{Heading.{Heading}, Indicator.{Indicator}}

@@ -236,17 +236,17 @@ fn draw_text_letters<W: Sink>(
 {
     match results {
         Results::Shown => draw_letters_shown(sink, &space_letter(day), letters),
-        Results::LeftOpen => draw_open_letters(sink, letters),
+        Results::LeftOpen => draw_open_text(sink, letters),
     }
 }
 
 /// Writes a line to write on for each letter, and `?` for each lost letter.
-fn draw_open_letters<W: Sink>(sink: &mut W, letters: &[Option<Letter>])
+fn draw_open_text<W: Sink>(sink: &mut W, letters: &[Option<Letter>])
     ensures { Draws W.taken W.has_failed sink.old sink.new (map open_byte letters.now) }
 {
     if let [letter, rest @ ..] = letters {
         draw(sink, open_sign(letter));
-        draw_open_letters(sink, rest);
+        draw_open_text(sink, rest);
     }
 }
 

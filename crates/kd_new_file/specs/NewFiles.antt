@@ -26,15 +26,15 @@ AddsFile (Some files) new name bytes = (files name ≡ None) × (new ≡ Some (w
 abbrev pub part_name : List ℕ → ℕ → List ℕ
 part_name name number = name ++ (codes ".part" ++ decimal number)
 
--- Why no file could be begun under any of the 100 other names of the file `name`. The reason is never `Taken`, since
--- further names are tried. If the files are known, the reason is `Device` only if all these names are taken.
+-- Why no file could be begun under any of the 100 names that `part_name` gives for `name`. The reason is never `Taken`,
+-- since further names are tried. If the files are known, the reason is `Device` only if all these names are taken.
 pub record IsWhyNotBegun (files : Option FilesByName) (name : List ℕ) (fault : NewFileFault) : Type 0 where
   pub other : fault ≢ Taken
   pub device : IfSome files (λ known. fault ≡ Device → (number : ℕ) → 1 ≤ number → number ≤ 100
       → IsSome (known (part_name name number)))
 
 -- Why a file that was begun under another name wasn't renamed to `name`. `files` are the files before the file was
--- begun. If `files` are known, the reason is `Taken` exactly if one of them is called `name`. It is then never
+-- begun. If `files` are known, the reason is `Taken` exactly if one of them is called `name`, and the reason is never
 -- `Device`.
 abbrev pub IsWhyUnnamed : Option FilesByName → List ℕ → NewFileFault → Type 0
 IsWhyUnnamed files name fault = IfSome files (λ known. ((fault ≡ Taken) ↔ IsSome (known name)) × (fault ≢ Device))

@@ -7,7 +7,7 @@ use crate::new_file_fault::NewFileFault;
 use crate::why_unread::WhyUnread;
 use kd_tables::Sink;
 
-/// Folders in which files are made, named, and removed. They also say why a file can't be read.
+/// Folders in which files are made, named, and removed. `why_unread` gives the reason why a file can't be read.
 pub trait NewFiles {
     /// A file that is being written.
     type Written: Sink + Drop;

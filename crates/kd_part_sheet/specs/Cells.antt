@@ -1,4 +1,5 @@
--- The cells of a row, one for each letter. A cell has a sign above the line to write on, and a sign below the line.
+-- The cells of a row, one for each letter. A cell has two signs: one above the line to write on, and one below this
+-- line.
 use Rattle.std.specs.Prelude.{decimal, ℕ, ◌+◌, ◌==◌, true, false, is_some, if◌then◌else◌, List, [], ◌∷◌, map, Option, None, Some}
 use Rattle.kd_tables.specs.Rings.{place_on, ring_of}
 use Rattle.kd_pictures.specs.Template.{letter_text}
@@ -51,8 +52,8 @@ text_sign for_space None = signs.Lost
 text_sign None (Some letter) = signs.Letter letter
 text_sign (Some space) (Some letter) = if letter == space then signs.Nothing else signs.Letter letter
 
--- The cells of received letters that the operator presses. Below each received letter stands its letter of the text, or
--- nothing for a space.
+-- The cells of received letters that the operator presses. Below each received letter stands the letter at its place in
+-- the text, or nothing for a space.
 abbrev pub received_cells : Option ℕ → List (Option ℕ) → List (Option ℕ) → List Cell
 received_cells for_space (key ∷ keys) (letter ∷ text) =
     record { above = sign_of key; below = text_sign for_space letter; is_pressed = true; mark = marks.NoMark }
@@ -62,9 +63,9 @@ received_cells for_space (key ∷ keys) [] = []
 
 -- ---- The internal key of a Converter: wheels 1 to 6 each take the next letter that they have.
 
--- The mark of `letter`, which is printed to find the internal key. Wheels 1 to 6 each take one printed letter. `taken`
--- is the last wheel that took a letter; 0 if none did. If the next wheel has `letter`, this wheel takes it. Otherwise
--- `letter` is struck out. After wheel 6, no letter is needed.
+-- The mark of the printed letter `letter`. The internal key is found with printed letters: wheels 1 to 6 each take one.
+-- `taken` is the last wheel that took a letter; 0 if none did. If the next wheel has `letter`, this wheel takes
+-- `letter`. Otherwise `letter` is struck out. After wheel 6, no letter is needed.
 abbrev pub mark_of : ℕ → ℕ → Mark
 mark_of taken letter =
     if taken == 6 then marks.NotNeeded
@@ -88,16 +89,17 @@ choice_cells taken chosen (letter ∷ printed) =
 
 -- ---- Worksheets.
 
--- The cell on a worksheet. If its letter is pressed, its sign below the line is left open, and it has no mark.
+-- The cell on a worksheet. If the cell's letter is pressed, the sign below the line is left open, and the cell has no
+-- mark.
 abbrev pub open_cell : Cell → Cell
 open_cell cell = if cell.is_pressed then record cell { below = signs.Open; mark = marks.NoMark } else cell
 
--- the cell with its result, or as a worksheet has it
+-- the cell, with its result or, if the result is left open, as a worksheet has the cell
 abbrev pub cell_with : Results → Cell → Cell
 cell_with Shown cell = cell
 cell_with LeftOpen cell = open_cell cell
 
--- the cells with their results, or as a worksheet has them
+-- the cells, with their results or, if the results are left open, as a worksheet has them
 abbrev pub cells_with : Results → List Cell → List Cell
 cells_with results cells = map (cell_with results) cells
 

@@ -27,8 +27,8 @@ two_spaces = wide_space ++ wide_space
 abbrev pub comma : List ℕ
 comma = codes ", "
 
--- The markup of a group: its start, and the end of the signs above the line. Then the markup of small print and of
--- marks, and the end of the group.
+-- The markup of a group: the group's start, and the end of the signs above the line. Then come the start and the end of
+-- small print, the start and the end of marks, and the group's end.
 abbrev pub group_start : List ℕ
 group_start = codes "<span><b>"
 

@@ -1,5 +1,6 @@
 -- The rows of letters in a step of a part's sheet. A row has up to ten groups of five letters, and the number of
--- letters so far. If letters of the row are pressed, the row also has the letters that the machine shows after it.
+-- letters so far. If letters of the row are pressed, the row also has the letters that the machine shows after these
+-- key presses.
 use Rattle.std.specs.Prelude.{decimal, ℕ, ◌+◌, ◌==◌, ◌||◌, Bool, true, false, not, if◌then◌else◌}
 use Rattle.std.specs.Prelude.{List, [], ◌∷◌, ◌++◌, flat_map, length}
 use Rattle.std.specs.Int.{div_ceil}
@@ -105,7 +106,7 @@ abbrev pub row_number : Bool → Progress → ℕ
 row_number is_converter progress = if is_converter then progress.presses else progress.letters
 
 -- A row: its groups, a checkbox, the row's number, and the windows after the row. The windows are left out on a
--- worksheet, and if no letter of the row is pressed.
+-- worksheet. They are also left out if no letter of the row is pressed.
 unfoldable pub row_text : Results → Day → List ℕ → Progress → List Cell → List ℕ
 row_text results s start progress row =
     markup.ROW.now ++ flat_map group_text (pieces 5 row)

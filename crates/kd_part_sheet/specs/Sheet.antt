@@ -20,8 +20,8 @@ for_sheet PinSend one two three four = two
 for_sheet RotorReceive one two three four = three
 for_sheet PinReceive one two three four = four
 
--- Whether the order has the windows that are set before the text: the message key, to send on a rotor machine.
--- Otherwise, the first step finds these windows.
+-- Whether the order gives the letters to set in the windows before the text: the message key, to send on a rotor
+-- machine. Otherwise, the first step finds these letters.
 abbrev pub has_given_start : Sheet → Bool
 has_given_start RotorSend = true
 has_given_start PinSend = false

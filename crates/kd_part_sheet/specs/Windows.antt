@@ -13,8 +13,8 @@ window_words is_converter number letter =
     if is_converter then filled markup.WHEEL_WORDS.now (decimal number ∷ letter_text letter ∷ [])
     else filled markup.WINDOW_WORDS.now (decimal number ∷ letter_text letter ∷ ordinal_text letter ∷ [])
 
--- The words for windows with the numbers from `number` on. `first` stands before the first window, and a comma before
--- each later window.
+-- The words for windows, which are numbered from `number` on. `first` stands before the first window, and a comma
+-- before each later window.
 abbrev pub words_after : Bool → List ℕ → ℕ → List ℕ → List ℕ
 words_after is_converter first number [] = []
 words_after is_converter first number (letter ∷ letters) =

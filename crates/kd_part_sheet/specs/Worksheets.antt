@@ -11,28 +11,28 @@ use Rattle.kd_part_sheet.specs.PartSheet.{part_sheet}
 use Rattle.kd_part_sheet.specs.PartWork.{Work}
 use Rattle.kd_part_sheet.specs.Sheet.{has_given_start}
 
--- Both cells have the same sign above the line, and both are pressed, or neither is. If they aren't pressed, they are
--- the same cell.
+-- The cells `one` and `other` have the same sign above the line. Either both are pressed, or neither is. If neither is
+-- pressed, the two cells are equal.
 pub record AskAlike (one other : Cell) : Type 0 where
   pub above : one.above ≡ other.above
   pub pressed : one.is_pressed ≡ other.is_pressed
   pub copied : IsFalse one.is_pressed → one ≡ other
 
--- There are equally many cells, and at each place `AskAlike` holds.
+-- The two lists have equally many cells, and `AskAlike` holds for the two cells at each place.
 abbrev pub AllAskAlike : List Cell → List Cell → Type 0
 AllAskAlike [] [] = Unit {0}
 AllAskAlike (one ∷ ones) (other ∷ others) = AskAlike one other × AllAskAlike ones others
 AllAskAlike [] (other ∷ others) = ⊥
 AllAskAlike (one ∷ ones) [] = ⊥
 
--- Both have the same letters to set, to press and to copy. The letters that the machine gives may differ.
+-- `work` and `other` have the same letters to set, to press and to copy. The letters that the machine gives may differ.
 pub record AskTheSame (sheet : Sheet) (work other : Work) : Type 0 where
   pub ground : work.ground ≡ other.ground
   pub key : AllAskAlike work.key other.key
   pub start : IsTrue (has_given_start sheet) → work.start ≡ other.start
   pub body : AllAskAlike work.body other.body
 
--- A worksheet doesn't tell what the machine gives: it is the same for all letters that the machine may give.
+-- A worksheet doesn't tell which letters the machine gives: whatever these letters are, the worksheet is the same.
 abbrev pub WorksheetsHideResults : Type 0
 WorksheetsHideResults =
     (l : Language) (sheet : Sheet) (s : Day) (name : PartName) (warnings : Warnings) (work other : Work)

@@ -122,7 +122,7 @@ fn sign_of(letter: Option<Letter>) -> Sign
 
 /// Appends the cells of received letters that the operator presses.
 ///
-/// Below each letter of `keys` stands its letter in `text`, or nothing if the letter in `text` is `for_space`.
+/// Below item `i` of `keys` stands item `i` of `text`, or nothing if this item is `for_space`.
 pub fn push_received<const N: usize>(
     cells: &mut ArrayVec<Cell, N>,
     for_space: &Option<Letter>,
@@ -182,8 +182,8 @@ pub fn push_choice<const N: usize>(
     }
 }
 
-/// The mark of a letter that is printed to find the internal key. `taken` is the last wheel that took a letter; 0 if
-/// none did.
+/// The mark of `letter`, which is printed when the internal key is looked for. `taken` is the last wheel that took a
+/// letter; 0 if no wheel took one.
 fn mark_of(taken: u8, letter: Letter) -> Mark
     requires { taken ≤ 6 }
     ensures { result ≡ mark_of taken letter }
@@ -209,7 +209,7 @@ fn taken_after(taken: u8, mark: Mark) -> u8
     }
 }
 
-/// The cells with their results or, if `results` are left open, as a worksheet has them.
+/// The cells with their results. If `results` are left open, the cells are as on a worksheet.
 pub(crate) fn cells_with<const N: usize>(
     results: Results,
     cells: &ArrayVec<Cell, N>,
@@ -223,8 +223,8 @@ pub(crate) fn cells_with<const N: usize>(
     shown
 }
 
-/// The cell with its result. If `results` are left open and its letter is pressed, its sign below the line is left
-/// open, and it has no mark.
+/// `cell` with its result. If `results` are left open and the cell's letter is pressed, the sign below the line is left
+/// open, and the cell has no mark.
 fn cell_with(results: Results, cell: Cell) -> Cell
     ensures { result ≡ cell_with results cell }
 {
@@ -247,7 +247,7 @@ pub(crate) enum Line {
     Marks,
 }
 
-/// Writes the text of a cell in a line of a group: a sign, or a mark.
+/// Writes the sign or the mark that a cell has in the line `line` of a group.
 pub(crate) fn draw_place<W: Sink>(sink: &mut W, line: Line, cell: &Cell)
     ensures { Draws W.taken W.has_failed sink.old sink.new (place_text line cell.now) }
 {

@@ -2,7 +2,7 @@
 ghost use Rattle.kd_part_sheet.specs.Checked.{TemplatesTakeTheirValues};
 ghost use Rattle.kd_part_sheet.specs.Worksheets.{WorksheetsHideResults};
 
-/// A worksheet doesn't tell what the machine gives.
+/// A worksheet doesn't tell the letters that the machine gives.
 pub fn worksheets_hide_results()
     ensures { WorksheetsHideResults }
 {}

@@ -18,7 +18,7 @@ pub const ROW_LETTERS: &str = "<br>";
 
 pub const ROW_NUMBERS: &str = "<br>";
 
-/// The markup of a group: its start, the end of the signs above the line, and its end.
+/// The markup of a group: the group's start, the end of the signs above the line, and the group's end.
 pub const GROUP: &str = "<span><b>";
 
 pub const ABOVE_END: &str = "</b>";
@@ -30,16 +30,16 @@ pub const SMALL: &str = "<small>";
 
 pub const SMALL_END: &str = "</small>";
 
-/// The markup of marks, with which a Converter's internal key is found: the start of a group's marks, and their end.
-/// Then the mark of a letter that is struck out.
+/// The markup of marks, with which a Converter's internal key is found: the start of a group's marks. The next two
+/// texts are the end of a group's marks, and the mark of a letter that is struck out.
 pub const MARKS: &str = "<i>";
 
 pub const MARKS_END: &str = "</i>";
 
 pub const STRUCK_OUT: &str = "-";
 
-/// A rotor machine's window in the picture's title. The values are the slot, the letter, and the letter's number. Then
-/// a Converter's wheel in the picture's title. The values are the wheel and the letter.
+/// The words in the picture's title for a rotor machine's window: the slot, the letter, and the letter's number. The
+/// next text has the words for a Converter's wheel in this title: the wheel and the letter.
 pub const WINDOW_WORDS: &str = "~: ~ ~";
 
 pub const WHEEL_WORDS: &str = "~: ~";

@@ -36,8 +36,8 @@ pub struct PartName {
     pub model: Model,
     /// The day's number.
     pub day: u8,
-    /// The number of the part's sheet, to which links lead. If the parts are of one message, this is the part's number.
-    /// Otherwise it is the part's place in the order of arrival.
+    /// The number of the part's sheet, by which links find the sheet. If the parts are of one message, this is the
+    /// part's number. Otherwise it is the part's place in the order of arrival.
     pub sheet: u8,
     /// The part's number, counted from 1.
     pub part: u8,
@@ -103,7 +103,7 @@ pub struct Warnings {
     pub letters_lost: bool,
     /// A letter is lost in a copy of the indicators, and no list letter is lost in both copies.
     pub copies_lost: bool,
-    /// The form's group or list letters aren't the day's.
+    /// The form's group or list letters don't belong to the day.
     pub wrong_day: bool,
     /// A letter of the group is lost, or a list letter is lost in both copies.
     pub not_tested: bool,
@@ -251,8 +251,8 @@ fn draw_text_step<W: Sink>(
     draw_text_rows(sink, language, sheet, day, name, start, body.as_slice());
 }
 
-/// Writes the picture of the windows that are set before the text. On a worksheet, writes nothing if the first step
-/// finds these windows.
+/// Writes the picture of the windows that are set before the text. On a worksheet, writes nothing if the operator finds
+/// out these windows in the first step.
 fn draw_start<W: Sink>(
     sink: &mut W,
     language: Language,
@@ -271,7 +271,8 @@ fn draw_start<W: Sink>(
     }
 }
 
-/// Whether the order has the windows that are set before the text. Otherwise, the first step finds them.
+/// Whether the order gives the letters to set in the windows before the text. Otherwise, the first step finds these
+/// letters.
 fn has_given_start(sheet: Sheet) -> bool
     ensures { result ≡ has_given_start sheet }
 {

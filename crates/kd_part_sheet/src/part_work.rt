@@ -17,7 +17,8 @@ use kd_state::SheetDay;
 use kd_tables::Letter;
 use std::marker::Model;
 
-/// The letters on a part's sheet: those to set, those to press, and those that the machine then gives.
+/// The letters on a part's sheet: the letters to set, the letters to press, and the letters that the machine then
+/// gives.
 #[derive(Drop)]
 pub struct PartWork {
     /// The windows before the letters `key` are pressed: the ground setting, or the external letters.

@@ -1,5 +1,6 @@
 //! The rows of letters in a step of a part's sheet. A row has up to ten groups of five letters, and the number of
-//! letters so far. If letters of the row are pressed, the row also has the letters that the machine shows after it.
+//! letters so far. If letters of the row are pressed, the row also has the letters that the machine shows after this
+//! row.
 ghost use Rattle.std.specs.Prelude.{◌≡◌, ◌+◌, ◌≤◌, ◌∷◌, flat_map, length};
 ghost use Rattle.kd_state.specs.EngineKey.{IsWindow};
 ghost use Rattle.kd_state.specs.OwnKeys.{sheet_key};

@@ -68,8 +68,8 @@ pub const OPEN_LEGEND: SheetText = (
     ),
 );
 
-/// The first step, in which the key is found, up to the picture of the windows. The values are the model, the day, the
-/// part, and the number of parts.
+/// The first step, in which the operator finds the key. The text ends before the picture of the windows. Its values are
+/// the model, the day, the part, and the number of parts.
 pub const KEY_STEP: SheetText = (
     (
         (
@@ -271,7 +271,7 @@ pub const LIST: Text = (
     "<p>Stifte und Reiter müssen auf dem Tagesschlüssel stehen. Liste: <b>~~</b>.",
 );
 
-/// The picture of a rotor machine's windows: the beginning of its title, and a window with its slot.
+/// The picture of a rotor machine's windows: the beginning of the picture's title, and a window with its slot.
 pub const WINDOWS: Text = (
     "<figure class=shown><svg role=\"img\" viewBox=\"0 0 600 66\"><title>Windows to set, from the left: ",
     "<figure class=shown><svg role=\"img\" viewBox=\"0 0 600 66\"><title>Fenster, von links einzustellen: ",

@@ -5,7 +5,7 @@ ghost use Rattle.kd_tables.specs.Rings.{IsRing};
 ghost use Rattle.kd_pins.specs.PinWheel.{IsWheel, letter_shown, is_acting_pin_effective, place_past, wheel_at_place};
 ghost use Rattle.kd_pins.specs.PinWheel.{wheel_showing};
 
-use kd_tables::{Letter, Refusal, Ring, Text};
+use kd_tables::{Letter, Refusal, RefusalText, Ring};
 use std::marker::Model;
 use thiserror::Error;
 
@@ -16,7 +16,7 @@ pub struct NotOnWheel;
 
 impl NotOnWheel {
     /// The refusal's number and name.
-    pub fn text(&self) -> Text
+    pub fn text(&self) -> RefusalText
         ensures { result.bytes ≡ refusal_name Refusal.NotOnWheel }
     {
         Refusal::NotOnWheel.text()

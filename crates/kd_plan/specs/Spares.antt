@@ -31,7 +31,8 @@ SparesStayFree = by_model (λ settings. ⊥)
 abbrev pub is_spare_at : List (Option ℕ × Option ℕ) → ℕ → Bool
 is_spare_at cables place = is_spare (slice_index_or cables place (None, None))
 
--- whether the cable at `place` comes before the spare cable at `spare`: it is in use, or `place` is below `spare`
+-- whether the cable at `place` comes before the spare cable at `spare`: the cable at `place` is in use, or `place` is
+-- below `spare`
 abbrev pub comes_before : List (Option ℕ × Option ℕ) → ℕ → ℕ → Bool
 comes_before cables place spare = nat_lt place spare || not (is_spare_at cables place)
 

@@ -29,9 +29,9 @@ pub record CanBeKinds {K X : Type 0} (format : KindFormat K X) (pairs : List (X 
   pub fine : All (IsValidKeyAndPrice format) pairs
 
 -- The list `new` is the list `old`, followed by added kinds. A kind stands for as many copies of its key and price as
--- its count says. Together, the added kinds stand for the copies of `kind`, and then for `pairs`. Suppose that the keys
--- of `kind` and `pairs` can be grouped into valid kinds. Then the added kinds are valid and strictly ascending. If the
--- key of `kind` comes after the kind `last`, all added kinds come after `last`, too.
+-- its count says. The added kinds stand for these copies, in order: first the copies that `kind` stands for, then
+-- `pairs`. Suppose that the keys of `kind` and `pairs` can be grouped into valid kinds. Then the added kinds are valid
+-- and strictly ascending. If the key of `kind` comes after the kind `last`, all added kinds come after `last`, too.
 pub record AppendsKinds {K X : Type 0} (format : KindFormat K X) (kind : KindOf X) (pairs : List (X × ℤ))
     (old new : List K) : Type 0 where
   pub made : List K

@@ -20,8 +20,8 @@ use kd_state::{
 
 /// Checks that `card` proves itself, or finds the first doubt about it.
 ///
-/// A card proves itself if its settings lead `machine` to `day`, and its prices show that no shorter list does. The
-/// variants of `Doubt` are tested in their order; the first variant that applies is the result.
+/// A card proves itself if its settings lead `machine` to `day`, and its prices show that no shorter list leads there.
+/// The variants of `Doubt` are tested in their order; the first variant that applies is the result.
 pub fn check(machine: &Machine, day: &SheetDay, card: &Card) -> Result<(), Doubt>
     ensures proves { IsOk result
         ↔ Proves machine.now day.now card.now.settings.items card.now.prices }

@@ -3,7 +3,7 @@ ghost use Rattle.std.specs.Prelude.{◌≡◌, Some};
 ghost use Rattle.kd_prices.specs.FaultText.{doubt_text};
 
 use kd_state::{IllegalAt, Why};
-use kd_tables::{Refusal, Text};
+use kd_tables::{Refusal, RefusalText};
 use std::fmt;
 use thiserror::Error;
 
@@ -34,7 +34,7 @@ pub enum Doubt {
 
 impl Doubt {
     /// The refusal's text, such as `17 NeedlessLine 2`: number and name, and then any details of the doubt.
-    pub fn text(&self) -> Text
+    pub fn text(&self) -> RefusalText
         ensures { result.bytes ≡ doubt_text self.now }
     {
         match *self {

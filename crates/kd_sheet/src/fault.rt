@@ -3,7 +3,7 @@ ghost use Rattle.std.specs.Prelude.{◌≡◌, Some};
 ghost use Rattle.kd_sheet.specs.FaultText.{sheet_fault_text};
 
 use super::key::Key;
-use kd_tables::{Refusal, Text};
+use kd_tables::{Refusal, RefusalText};
 use std::fmt;
 use thiserror::Error;
 
@@ -42,7 +42,7 @@ pub enum SheetFault {
 
 impl SheetFault {
     /// The refusal's number and name, followed by the variant's key or number, if it has one.
-    pub fn text(&self) -> Text
+    pub fn text(&self) -> RefusalText
         ensures { result.bytes ≡ sheet_fault_text self.now }
     {
         match *self {

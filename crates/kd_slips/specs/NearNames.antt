@@ -20,7 +20,8 @@ smaller one other = if nat_le one other then one else other
 abbrev pub larger : ℕ → ℕ → ℕ
 larger one other = if nat_le one other then other else one
 
--- how many letters two names share at their starts and ends together, but at most the length of the shorter name
+-- the number of letters shared at the starts of two names plus the number at their ends; at most the shorter name's
+-- length
 abbrev pub in_common : List ℕ → List ℕ → ℕ
 in_common name known =
     smaller (alike_at_start name known + alike_at_end name known) (smaller (length name) (length known))

@@ -74,7 +74,7 @@ pub fn check_box_letters(alloc: Global, table: &Table, key: Key, model: Model) -
     check_letters(alloc, table, key, model.wheels().len(), of.as_str())
 }
 
-/// Checks that `text` has exactly `count` capital letters. The words `of` say what the letters stand for.
+/// Checks that `text` has exactly `count` capital letters. `of` says what the letters stand for.
 pub fn check_text(
     alloc: Global,
     text: &str,

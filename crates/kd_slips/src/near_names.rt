@@ -15,7 +15,8 @@ pub fn is_near(slips: u8, name: &[u8], known: &[u8]) -> bool
     most <= in_common(name, known) + usize::from(slips)
 }
 
-/// How many letters two names share at their starts and ends together, but at most the length of the shorter name.
+/// The number of letters shared at the starts of two names plus the number at their ends; at most the shorter name's
+/// length.
 fn in_common(name: &[u8], known: &[u8]) -> usize
     ensures value { result ≡ in_common name.now known.now }
     ensures few { result ≤ length name.now }

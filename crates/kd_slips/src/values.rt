@@ -18,7 +18,7 @@ use kd_sheet::{Key, SheetFault};
 use std::alloc::{AllocError, Global};
 use toml::{Table, Value};
 
-/// The longest text that is shown in a line, in bytes.
+/// The length, in bytes, of the longest text that is shown in a line.
 const SHOWN: usize = 40;
 
 /// The value at `key`, or a slip if the key is missing.
@@ -146,7 +146,7 @@ pub fn check_count(alloc: Global, key: Key, len: usize, count: usize, of: &str) 
     )
 }
 
-/// Checks that a list of `len` items has at most `most` items. The words `of` say what the items are.
+/// Checks that a list of `len` items has at most `most` items. `of` says what the items are.
 pub fn check_at_most(alloc: Global, key: Key, len: usize, most: usize, of: &str) -> Result<(), Slip>
     ensures few { OnOk result (len ≤ most) }
     ensures many { OnErr result (most < len) }

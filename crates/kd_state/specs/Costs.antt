@@ -35,11 +35,12 @@ abbrev pub cable_cost : Option ℕ × Option ℕ → Option (ℕ × ℕ) → ℕ
 cable_cost cable column =
     count_by (λ l. exactly_one (has_letter (cable_letters cable) l) (has_letter (column_letters column) l)) alphabet
 
--- the number of lugs to move from the standing `bar` to the standing `other`
+-- the number of a bar's lugs to move from their places in `bar` to their places in `other`
 abbrev pub lugs_moved : Place × Place → Place × Place → ℕ
 lugs_moved bar other = one_unless (is_same_place bar.0 other.0) + one_unless (is_same_place bar.1 other.1)
 
--- the standings (places of a bar's two lugs) with the reading `row`, in the order of the list `standings`
+-- the standings with the reading `row`, in the order of the list `standings`; a standing is the places of a bar's two
+-- lugs
 unfoldable pub standings_as : ℕ × ℕ → List (Place × Place)
 standings_as row =
     filter (λ bar. let reading = reading_of bar in nat_eq reading.0 row.0 && nat_eq reading.1 row.1) standings
@@ -48,8 +49,8 @@ standings_as row =
 abbrev pub bar_cost : Place × Place → ℕ × ℕ → ℕ
 bar_cost standing row = fold min 2 (map (lugs_moved standing) (standings_as row))
 
--- the standing that reads as `row` after the fewest moves of the lugs of `bar`. Of two equally near standings, it is
--- the first in the list `standings`.
+-- the standing with the reading `row` that takes the fewest moves of the lugs of `bar`. Of two equally near standings,
+-- it is the first in the list `standings`.
 abbrev pub nearest_standing : Place × Place → ℕ × ℕ → Option (Place × Place)
 nearest_standing bar row = find (λ other. nat_eq (lugs_moved bar other) (bar_cost bar row)) (standings_as row)
 

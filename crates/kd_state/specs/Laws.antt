@@ -89,7 +89,7 @@ abbrev pub ReadsAsDayIsReady : Type 0
 ReadsAsDayIsReady =
     (machine : Parts) (day : Day) → IsMachine machine → IsLegalDay day → ReadsAs machine day → IsReady machine
 
--- If a machine is set as the day says and shows the day's letters, it enciphers as the day asks.
+-- If a machine is set as the day says and shows the day's letters, it enciphers each text by the day's key.
 abbrev pub ReadsAsDayEnciphersAsDay : Type 0
 ReadsAsDayEnciphersAsDay =
     (machine : Parts) (day : Day) (text : List ℕ) → IsMachine machine → IsLegalDay day → ReadsAs machine day

@@ -7,7 +7,6 @@ pub mod Setting
 pub mod OneChange
 pub mod FaultText
 pub mod FirstFault
-pub mod LineWords
 pub mod AnswerRules
 pub mod Line
 pub mod SheetDay

@@ -6,7 +6,7 @@ use Rattle.std.specs.List.{flat_map}
 use Rattle.kd_tables.specs.Tables.{wheel_text, reflector_text}
 use Rattle.kd_tables.specs.Places.{place_text, lug_text}
 use Rattle.kd_tables.specs.Text.{letters_text}
-use Rattle.kd_state.specs.LineWords.{line_of}
+use Rattle.kd_tables.specs.LineWords.{line_of}
 use Rattle.kd_state.specs.declared.setting.Setting.{Setting}
 use Rattle.kd_state.specs.declared.setting.Setting.TheVariants.{Pull, Put, Seat, SeatReflector, RingTo, Turn, PinTo}
 use Rattle.kd_state.specs.declared.setting.Setting.TheVariants.{LugTo}

@@ -1,4 +1,4 @@
--- When a machine allows a setting, and which one thing the setting changes.
+-- When a machine allows a setting, and which item of the machine the setting changes.
 -- Source: this desk's own rules; `outcome` in Setting.antt has the same rules as steps, with the reasons for refusals.
 -- Code: `carry` changes the machine in place.
 use Rattle.std.specs.Prelude.{◌≡◌, ◌≢◌, ◌↔◌, ℕ, ◌+◌, IsTrue, Bool, List, length, map, Contains}

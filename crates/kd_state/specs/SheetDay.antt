@@ -33,7 +33,7 @@ pub record PinDay : Type 0 where
   pub window : List ℕ
   pub list : List ℕ
 
--- a rotor machine's day with these values
+-- a rotor machine's day, made from the values of its fields
 abbrev pub rotor_day_of : ℕ → Model → Reflector → List SheetWheel → List (ℕ × ℕ) → List (List ℕ) → RotorDay
 rotor_day_of day model reflector wheels pairs groups = record {
   day = day;

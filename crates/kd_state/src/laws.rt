@@ -52,7 +52,7 @@ pub fn settings_lead_or_are_refused()
 
 /// An engine made from a machine enciphers as the machine does.
 ///
-/// The two still encipher alike after both are turned to the same letters.
+/// The engine and the machine still encipher alike after both are turned to the same letters.
 #[tactic(auto, using(crate::proofs::Keys::engine_cipher, crate::proofs::Keys::turned_engine))]
 pub fn engines_encipher_as_their_machines()
     ensures standing { EngineEnciphersAsMachine }
@@ -66,7 +66,7 @@ pub fn reads_as_day_enciphers_as_day()
     ensures cipher { ReadsAsDayEnciphersAsDay }
 {}
 
-/// A machine on the day's key is ready. It enciphers as the day asks, starting from the letters that it shows.
+/// A machine on the day's key is ready. It enciphers by the day's key, starting from the letters that it shows.
 #[tactic(auto, using(crate::proofs::Keys::on_key_ready, crate::proofs::Keys::on_key_cipher))]
 pub fn on_key_enciphers_by_days_key()
     ensures ready { OnKeyIsReady }

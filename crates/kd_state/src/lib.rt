@@ -4,7 +4,6 @@
 mod costs;
 mod engine;
 pub mod laws;
-mod line_words;
 mod machine;
 mod numbered_items;
 mod prover_facts;
@@ -14,10 +13,6 @@ mod sheet_day;
 pub use costs::tables::{bar_costs, cable_costs, column_at};
 pub use costs::{bar_cost, cable_cost, lies_in_column, nearest_standing};
 pub use engine::{Engine, NotReady, ReadyWheels, own_engine, ready_wheels};
-pub use line_words::{
-    day_of_text, is_word, letter_of_text, number_of_text, push_letter, push_number, split_once,
-    split_words, wide_number_of_text,
-};
 pub use machine::Machine;
 pub use machine::cable::{Cable, are_new_and_distinct, letters_in_order, lies_in};
 pub use machine::one_model::OneModel;
@@ -31,6 +26,6 @@ pub use setting::carry_list::carry_all;
 pub use setting::list::{ListFault, Settings, read_list, split_settings};
 pub use setting::why::{Illegal, IllegalAt, Why};
 pub use sheet_day::SheetDay;
-pub use sheet_day::entry::Entry;
+pub use sheet_day::entry::{Entry, day_of_text};
 pub use sheet_day::pin_entry::PinEntry;
 pub use sheet_day::rotor_entry::{RotorEntry, SheetWheel};

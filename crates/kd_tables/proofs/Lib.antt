@@ -6,3 +6,4 @@ pub mod DistinctLetters
 pub mod Orders
 pub mod Ciphers
 pub mod Failing
+pub mod LineWords

@@ -1,6 +1,7 @@
 pub mod Permutation
 pub mod Tables
 pub mod Text
+pub mod LineWords
 pub mod Rings
 pub mod Pairs
 pub mod Places

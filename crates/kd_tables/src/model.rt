@@ -34,7 +34,7 @@ pub enum Model {
     M209,
 }
 
-/// A family of models, which have the same sorts of settings.
+/// A family of models with the same sorts of settings.
 #[derive(Clone, Copy, PartialEq, Eq)]
 pub enum Family {
     /// Rotor machines: a reflector, wheels in slots, and cables.

@@ -7,7 +7,7 @@ use arrayvec::ArrayString;
 use itoa::Buffer;
 
 /// The text of a refusal: its number, its name, and sometimes more, such as a line's number or a reason.
-pub type Text = ArrayString<64>;
+pub type RefusalText = ArrayString<64>;
 
 /// The refusals, in the order of their numbers.
 #[derive(Clone, Copy)]
@@ -39,11 +39,11 @@ pub enum Refusal {
     Trailing,
     /// A machine refuses a line of a list or a card; the refusal names the line and the reason.
     IllegalAt,
-    /// After a card's lines, the machine isn't set as the day says, or shows other letters than the day's.
+    /// After a card's lines are carried out, the machine isn't set as the day says, or doesn't show the day's letters.
     NotTheSheet,
     /// In a cell of the table of costs, the prices of row and column add up to more than the cost.
     PriceTooHigh,
-    /// The sum of a card's prices isn't the number of the card's lines for cables or bars.
+    /// The sum of a card's prices isn't the number of the card's lines that change a cable or a bar.
     SumDiffers,
     /// A line of a card isn't needed: it doesn't lower the number of things, such as slots or rings, that differ from
     /// the day.
@@ -149,17 +149,17 @@ impl Refusal {
     }
 
     /// The number and the name of the refusal, without details such as a line's number.
-    pub fn text(self) -> Text
+    pub fn text(self) -> RefusalText
         ensures bytes { result.bytes ≡ refusal_name self }
         ensures short { array_string_len result ≤ 20 }
     {
-        let mut text = Text::new();
+        let mut text = RefusalText::new();
         text.push_str(self.name());
         text
     }
 
     /// The text of a refusal with one number, such as a line's or a part's number.
-    pub fn text_at(self, place: usize) -> Text
+    pub fn text_at(self, place: usize) -> RefusalText
         ensures bytes { result.bytes ≡ refusal_name self ++ word_after_space (decimal place) }
         ensures short { array_string_len result ≤ 41 }
     {
@@ -169,7 +169,7 @@ impl Refusal {
     }
 
     /// The text of a refusal with two numbers, such as the numbers of a cable and a column.
-    pub fn text_at_both(self, one: usize, other: usize) -> Text
+    pub fn text_at_both(self, one: usize, other: usize) -> RefusalText
         ensures { result.bytes ≡ refusal_name self ++ word_after_space (decimal one)
             ++ word_after_space (decimal other) }
     {
@@ -179,7 +179,7 @@ impl Refusal {
     }
 
     /// The refusal's number and name, and then `word`: the name of a TOML key or of a reason.
-    pub fn text_with_word(self, word: &str) -> Text
+    pub fn text_with_word(self, word: &str) -> RefusalText
         requires { length word.now ≤ 22 }
         ensures { result.bytes ≡ refusal_name self ++ word_after_space word.now }
     {
@@ -189,7 +189,7 @@ impl Refusal {
     }
 
     /// The text of a refusal with one number, and then `word`, the name of a reason.
-    pub fn text_at_with_word(self, place: usize, word: &str) -> Text
+    pub fn text_at_with_word(self, place: usize, word: &str) -> RefusalText
         requires { length word.now ≤ 22 }
         ensures { result.bytes
             ≡ refusal_name self ++ word_after_space (decimal place) ++ word_after_space word.now }
@@ -201,7 +201,7 @@ impl Refusal {
 }
 
 /// Appends a space and `place` in decimal.
-fn push_place(text: &mut Text, place: usize)
+fn push_place(text: &mut RefusalText, place: usize)
     requires { array_string_len text.old + 21 ≤ 64 }
     ensures bytes { text.new.bytes ≡ text.old.bytes ++ word_after_space (decimal place) }
     ensures short { array_string_len text.new ≤ array_string_len text.old + 21 }
@@ -212,7 +212,7 @@ fn push_place(text: &mut Text, place: usize)
 }
 
 /// Appends a space and `word`, the name of a TOML key or of a reason.
-fn push_word(text: &mut Text, word: &str)
+fn push_word(text: &mut RefusalText, word: &str)
     requires { array_string_len text.old + length word.now + 1 ≤ 64 }
     ensures { text.new.bytes ≡ text.old.bytes ++ word_after_space word.now }
 {

@@ -1,4 +1,4 @@
--- The table of a machine of any model, in which typing looks letters up.
+-- The table of a machine of any model, in which typing looks up letters.
 use Rattle.std.specs.Prelude.{◌≡◌, ◌<◌, List, ℕ, All}
 use Rattle.kd_state.specs.EngineKey.{EngineKey, IsWindow}
 use Rattle.kd_state.specs.EngineKey as keys

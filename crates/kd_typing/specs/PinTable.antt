@@ -1,4 +1,4 @@
--- The table of a Converter M-209, in which typing looks letters up. Wheels are numbered from 1 to 6.
+-- The table of a Converter M-209, in which typing looks up letters. Wheels are numbered from 1 to 6.
 -- Source: War Department TM 11-380
 use Rattle.std.specs.Prelude.{ℕ, ◌+◌, ◌-◌, ◌*◌, ◌/◌, ◌%◌, ◌^◌, nat_eq, nat_le, Bool, false, ◌&&◌, ◌||◌, List, [], ◌∷◌}
 use Rattle.std.specs.Prelude.{length, map, slice_index, slice_index_or}

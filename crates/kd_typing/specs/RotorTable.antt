@@ -1,7 +1,6 @@
--- The table of a rotor machine, in which typing looks letters up. At each key press, the right wheel moves, but the
+-- The table of a rotor machine, in which typing looks up letters. At each key press, the right wheel moves, but the
 -- other wheels move seldom. So the path of the current is cut into two parts. The first part leads in through the
--- plugboard and the right wheel. The second part leads through the core, which is all that lies to the left of the
--- right wheel.
+-- plugboard and the right wheel. The second part leads through the core: everything to the left of the right wheel.
 -- Source: the published accounts of the current's path and of the stepping.
 use Rattle.std.specs.Prelude.{◌≡◌, ℕ, zero, suc, ◌+◌, ◌-◌, ◌*◌, ◌/◌, ◌%◌, ◌^◌, ◌<◌, ◌≤◌, ◌==◌, Bool, false, List, [], ◌∷◌}
 use Rattle.std.specs.Prelude.{length, map, take, drop, slice_get, slice_index, slice_index_or, All, if◌then◌else◌}
@@ -38,7 +37,7 @@ right_slot slots = drop (length slots - 1) slots
 abbrev pub letter_in : List ℕ → ℕ → ℕ
 letter_in window from_right = slice_index window (length window - (from_right + 1))
 
--- the number of the core's row for the window letters in the list; these letters are the number's digits in base 26
+-- the number of the core's row for a list of window letters; in base 26, these letters are the digits of the number
 abbrev pub row_number : List ℕ → ℕ
 row_number [] = 0
 row_number (letter ∷ letters) = letter * 26 ^ length letters + row_number letters
@@ -48,8 +47,8 @@ abbrev pub window_by : RotorTable → List ℕ → List ℕ
 window_by table window =
     with_last_moved (slice_index table.steps (26 * letter_in window 1 + letter_in window 0)) window
 
--- The letter that lights up for `key` while the windows show `window`. The current of `key` comes out of the core at
--- some place. The letter belongs to the key whose own current enters the core at this place.
+-- The letter that lights up for `key` while the windows show `window`. The current of `key` leaves the core at some
+-- place. The lit letter is the letter whose own key sends its current into the core at this place.
 abbrev pub lamp_by : RotorTable → List ℕ → ℕ → ℕ
 lamp_by table window key =
     let into = slice_index_or table.into (letter_in window 0) [] in

@@ -3,8 +3,7 @@ ghost use Rattle.std.specs.Prelude.{◌≡◌};
 ghost use Rattle.kd_typing.specs.TableText.{row_line};
 
 use arrayvec::ArrayString;
-use kd_state::push_letter;
-use kd_tables::Letter;
+use kd_tables::{Letter, push_letter};
 
 /// A row as a line of capital letters, with an LF before it.
 pub(crate) fn row_line(row: &[Letter; 26]) -> ArrayString<27>

@@ -1,4 +1,4 @@
-//! The style sheet of the page, which is the same on every page.
+//! The style sheet, which is the same on every page.
 
 /// The text between the tags of the style sheet. Its SHA-256 is in the page's policy.
 pub const STYLE: &str = ":root{--ink:#111;--paper:#fff;--soft:#555;--line:#aaa;--in:#0b4f8a}

@@ -3,9 +3,9 @@
 
 use kd_pictures::texts::Text;
 
-/// The file's title; the machine's model stands in place of `~`. The next text is the content security policy: it
-/// names, by their SHA-256, the only script and the only style sheet that the page may use. The text after the policy
-/// is the start of the body.
+/// The file's title; the machine's model stands in place of `~`. The next text, `POLICY`, is the content security
+/// policy. It names, by their SHA-256, the only script and style sheet that the page may use. The last text, `BODY`, is
+/// the start of the body.
 pub const TITLE: Text = ("~: typing", "~: Tippen");
 
 pub const POLICY: &str =

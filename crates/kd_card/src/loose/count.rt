@@ -87,7 +87,7 @@ fn loose_pins(present: &PinSet, wanted: &PinSet) -> usize
         + count_differing(&present.w6, &wanted.w6)
 }
 
-/// Counts the places where pins or letters in `present` differ from the day's in `wanted`.
+/// Counts the places where the pins or letters in `present` differ from the day's pins or letters in `wanted`.
 fn count_differing<T: PartialEq>(present: &[T], wanted: &[T]) -> usize
     ensures value { result ≡ count_by (λ z. not (T.eq z.0 z.1)) (zip present.now wanted.now) }
     ensures few { result ≤ length present.now }

@@ -75,7 +75,7 @@ fn push_pin_turns(settings: &mut Settings, number: u8, letters: &[Letter], windo
     }
 }
 
-/// Appends the setting PIN for each pin of one wheel that differs from the day's, in the wheel's order.
+/// Appends a setting PIN for each letter of `ring` at which `present` and `wanted` differ, in the order of `ring`.
 fn push_wheel_pins(
     settings: &mut Settings,
     wheel: u8,

@@ -14,8 +14,8 @@ use crate::heading::Heading;
 use crate::stream::reader::Output;
 use crate::text_bytes::letter_of_byte;
 use arrayvec::ArrayVec;
-use kd_state::{SheetDay, is_word};
-use kd_tables::Letter;
+use kd_state::SheetDay;
+use kd_tables::{Letter, is_word};
 
 /// The greatest number of letters of a body that the reader keeps.
 ///
@@ -23,7 +23,8 @@ use kd_tables::Letter;
 /// of the next heading.
 const KEPT_LETTERS: usize = 525;
 
-/// The number of letters in `PART`. If a heading line follows a body, these letters are kept with the body's letters.
+/// The number of letters in `PART`. If a heading line follows a body, the reader keeps the letters of `PART` together
+/// with the body's letters.
 pub(crate) const HEADING_LETTERS: usize = 4;
 
 /// The greatest number of bytes of a line that the reader keeps: enough to recognize a heading line.

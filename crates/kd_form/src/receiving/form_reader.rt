@@ -33,7 +33,7 @@ pub(crate) struct FormReader {
     pub(crate) stage: FormStage,
 }
 
-/// The section of a part that the next byte belongs to, with the bytes or letters kept so far.
+/// The section to which the next byte of a part belongs, with the bytes or letters kept so far.
 #[derive(Drop)]
 pub(crate) enum FormStage {
     /// The heading line; its first `KEPT_LINE` bytes are kept.
@@ -170,7 +170,8 @@ fn check_heading(
     Ok(heading)
 }
 
-/// Whether `parts` is `expected`, the number of parts in the form's first heading; true if `expected` is `None`.
+/// Whether `parts` equals `expected`, the number of parts in the form's first heading. If `expected` is `None`, the
+/// result is true.
 fn is_expected(expected: Option<u8>, parts: u8) -> bool
     ensures { IsTrue result ↔ IsExpectedCount expected parts }
 {

@@ -3,7 +3,7 @@ ghost use Rattle.std.specs.Prelude.{◌≡◌, ◌≢◌, ◌⊎◌, ◌↔◌, 
 ghost use Rattle.std.specs.Prelude.{All, decimal, map, take, IsTrue, MatchOption};
 ghost use Rattle.kd_tables.specs.Text.{letters_text};
 ghost use Rattle.kd_state.specs.Machine.{AreLetters};
-ghost use Rattle.kd_state.specs.LineWords.{line_of, IsWithout};
+ghost use Rattle.kd_tables.specs.LineWords.{line_of, IsWithout};
 ghost use Rattle.kd_form.specs.declared.heading.Heading.{Heading};
 ghost use Rattle.kd_form.specs.Part.{fraction_text, indicator_words, heading_words};
 ghost use Rattle.kd_form.specs.FormParts.{IsFraction, IsLetterCount, IsHeading, IsLineText};
@@ -14,10 +14,8 @@ ghost use Rattle.kd_form.specs.BodyCipher.{HasIndicator};
 use crate::day_machine::slots_of;
 use crate::heading::{Heading, Indicator};
 use arrayvec::ArrayVec;
-use kd_state::{
-    PerSlot, SheetDay, is_word, number_of_text, split_once, split_words, wide_number_of_text,
-};
-use kd_tables::Letter;
+use kd_state::{PerSlot, SheetDay};
+use kd_tables::{Letter, is_word, number_of_text, split_once, split_words, wide_number_of_text};
 
 /// Reads a word such as `2/5`: a part's number and the number of all parts. A form has at most 99 parts.
 fn read_fraction(word: &[u8]) -> Option<(u8, u8)>

@@ -2,12 +2,11 @@
 ghost use Rattle.std.specs.Prelude.{◌≡◌, ◌+◌, ◌*◌, ◌≤◌, [], ◌∷◌, ◌++◌, length};
 ghost use Rattle.arrayvec.specs.ArrayString.{array_string_len};
 ghost use Rattle.kd_tables.specs.Text.{letters_text};
-ghost use Rattle.kd_state.specs.LineWords.{line_then};
+ghost use Rattle.kd_tables.specs.LineWords.{line_then};
 ghost use Rattle.kd_form.specs.Part.{words_after_spaces, body_text, letter_groups, pieces};
 
 use arrayvec::ArrayString;
-use kd_state::push_letter;
-use kd_tables::Letter;
+use kd_tables::{Letter, push_letter};
 
 /// Appends `letters` in groups of five, ten groups a line.
 pub(crate) fn push_body<const N: usize>(text: &mut ArrayString<N>, letters: &[Letter])

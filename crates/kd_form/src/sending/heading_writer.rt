@@ -1,14 +1,14 @@
 //! Writes the heading line of a part.
 ghost use Rattle.std.specs.Prelude.{◌≡◌, ◌+◌, ◌≤◌, [], ◌++◌};
 ghost use Rattle.arrayvec.specs.ArrayString.{array_string_len};
-ghost use Rattle.kd_state.specs.LineWords.{line_then};
+ghost use Rattle.kd_tables.specs.LineWords.{line_then};
 ghost use Rattle.kd_form.specs.Part.{heading_words, indicator_words, words_after_spaces};
 
 use super::body_writer::push_letters;
 use crate::heading::{Heading, Indicator};
 use arrayvec::ArrayString;
 use itoa::Buffer;
-use kd_state::push_number;
+use kd_tables::push_number;
 
 /// Appends the heading line of `heading`.
 #[tactic(auto, using(crate::proofs::MadeParts::heading_line))]

@@ -11,7 +11,7 @@ use crate::keys::Keys;
 use arrayvec::ArrayVec;
 use kd_state::SheetDay;
 
-/// An upper bound for the bytes of a line of an order's head, with its line end.
+/// An upper bound for the bytes in one line of an order's head, line end included.
 const LONGEST_LINE: usize = 25;
 
 /// A reader of an order's head: the lines of keys and the line TEXT.

@@ -50,7 +50,7 @@ pub(crate) fn check_message<M: MessageReader + Drop>(
     Ok(())
 }
 
-/// Writes to `sink` the form or text that `message` becomes.
+/// Reads `message`, and writes the message's form or text to `sink`.
 fn write_message<M: MessageReader + Drop, W: Sink>(
     day: &SheetDay,
     message: &[u8],

@@ -5,8 +5,8 @@ ghost use Rattle.kd_sheet.specs.MachineText.{cable_text, slot_text};
 
 use super::letters::letters_text;
 use arrayvec::ArrayString;
-use kd_state::{Cable, SheetWheel, push_letter};
-use kd_tables::{Letter, Reading, Standing, Wheel};
+use kd_state::{Cable, SheetWheel};
+use kd_tables::{Letter, Reading, Standing, Wheel, push_letter};
 
 /// The text of an array's item, at most 32 bytes.
 pub type ItemString = ArrayString<32>;

@@ -8,8 +8,7 @@ use super::item_text::ItemString;
 use super::lines::{FileString, push_text_line};
 use crate::Key;
 use kd_pins::PinSet;
-use kd_state::push_letter;
-use kd_tables::{Letter, Ring, ring1, ring2, ring3, ring4, ring5, ring6};
+use kd_tables::{Letter, Ring, push_letter, ring1, ring2, ring3, ring4, ring5, ring6};
 
 /// Writes `letters` as a text.
 pub(crate) fn letters_text(letters: &[Letter]) -> ItemString

@@ -6,7 +6,7 @@ ghost use Rattle.kd_sheet.specs.{Key.{key_name}, MachineText.{quoted_text, array
 use super::item_text::ItemText;
 use crate::Key;
 use arrayvec::ArrayString;
-use kd_state::push_number;
+use kd_tables::push_number;
 
 /// A text of at most 2048 bytes: a machine file, or one day of a key sheet.
 pub type FileString = ArrayString<2048>;

@@ -42,7 +42,7 @@ fn costs_of_cable(cable: &Cable, pairs: &[(Letter, Letter)]) -> [u8; 13]
     costs
 }
 
-/// The cost table of bars: the cost of each bar with each of the day's rows.
+/// The cost table of bars: the cost of each bar for each of the day's rows.
 ///
 /// Entry `[i][j]` is for bar `i` and row `j`, both counted from 0.
 pub fn bar_costs(bars: &[Standing; 27], rows: &[Reading; 27]) -> [[u8; 27]; 27]
@@ -55,7 +55,7 @@ pub fn bar_costs(bars: &[Standing; 27], rows: &[Reading; 27]) -> [[u8; 27]; 27]
     costs
 }
 
-/// The costs of one bar with each of the day's rows.
+/// The cost of one bar for each of the day's rows.
 fn costs_of_bar(bar: Standing, rows: &[Reading; 27]) -> [u8; 27]
     ensures { result ≡ map (costs.bar_cost bar) rows.now }
 {

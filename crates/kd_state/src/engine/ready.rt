@@ -23,7 +23,7 @@ use crate::machine::rotor_parts::RotorParts;
 use crate::sheet_day::rotor_entry::SheetWheel;
 use arrayvec::ArrayVec;
 use kd_enigma::Plugs;
-use kd_tables::{Letter, Reflector, Refusal, Text, Wheel};
+use kd_tables::{Letter, Reflector, Refusal, RefusalText, Wheel};
 use thiserror::Error;
 
 /// The machine isn't ready: a slot is empty, or a cable has exactly one letter.
@@ -33,7 +33,7 @@ pub struct NotReady;
 
 impl NotReady {
     /// The refusal's number and name.
-    pub fn text(&self) -> Text
+    pub fn text(&self) -> RefusalText
         ensures { result.bytes ≡ refusal_name Refusal.NotReady }
     {
         Refusal::NotReady.text()

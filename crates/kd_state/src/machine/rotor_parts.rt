@@ -43,7 +43,7 @@ impl RotorParts {
             && cable::have_no_letter_twice(&self.cables)
     }
 
-    /// The parts with each cable's letters in alphabetical order.
+    /// These parts, but with each cable's letters in alphabetical order.
     pub(crate) fn with_cables_in_order(&self) -> RotorParts
         ensures { Parts.Rotor result ≡ with_cables_in_order (Parts.Rotor self.now) }
     {

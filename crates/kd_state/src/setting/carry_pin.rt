@@ -56,7 +56,7 @@ impl PinParts {
         Ok(())
     }
 
-    /// Moves the left or the right lug of bar `bar` to `place`.
+    /// Moves the lug `lug` of bar `bar` to `place`.
     #[tactic(auto, using(crate::proofs::Slots::is_numbered))]
     fn lug_to(&mut self, bar: u8, lug: Lug, place: Place) -> Result<(), Why>
         ensures { IsCarryAnswer (Parts.Pin self.old) (Setting.LugTo bar lug place)

@@ -5,13 +5,13 @@ ghost use Rattle.kd_state.specs.declared.setting.Setting.TheVariants.{SeatReflec
 ghost use Rattle.kd_tables.specs.Text.{letters_text};
 ghost use Rattle.kd_state.specs.Line.{setting_line, on_off_text, IsSettingInRange, IsSettingOfWords};
 
-use crate::line_words::{
-    is_word, letter_of_text, number_of_text, push_letter, push_number, split_words,
-};
 use crate::prover_facts::learn_setting_range;
 use crate::setting::Setting;
 use arrayvec::ArrayString;
-use kd_tables::{Letter, Lug, Place, Reflector, Wheel};
+use kd_tables::{
+    Letter, Lug, Place, Reflector, Wheel, is_word, letter_of_text, number_of_text, push_letter,
+    push_number, split_words,
+};
 
 impl Setting {
     /// The setting's line without LF, such as `PULL 3 K`.

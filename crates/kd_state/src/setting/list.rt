@@ -4,10 +4,9 @@ ghost use Rattle.kd_state.specs.FaultText.{list_fault_text};
 ghost use Rattle.kd_state.specs.Line.{BeginsWithSettingLine, BeginsWithNoSetting, BeginsWithAllSettings, IsListText};
 ghost use Rattle.kd_state.specs.Line.{IsListFault};
 
-use crate::line_words::split_once;
 use crate::setting::Setting;
 use arrayvec::ArrayVec;
-use kd_tables::{Refusal, Text};
+use kd_tables::{Refusal, RefusalText, split_once};
 use std::fmt;
 use thiserror::Error;
 
@@ -25,7 +24,7 @@ pub enum ListFault {
 
 impl ListFault {
     /// The refusal's number and name, and for `BadLine` the number of the line.
-    pub fn text(&self) -> Text
+    pub fn text(&self) -> RefusalText
         ensures { result.bytes ≡ list_fault_text self.now }
     {
         match *self {

@@ -2,7 +2,7 @@
 ghost use Rattle.std.specs.Prelude.{◌≡◌, ◌≤◌, length};
 ghost use Rattle.kd_state.specs.FaultText.{illegal_text, illegal_at_text, why_name};
 
-use kd_tables::{Refusal, Text};
+use kd_tables::{Refusal, RefusalText};
 use thiserror::Error;
 
 /// Why a machine refuses a setting.
@@ -63,7 +63,7 @@ pub struct Illegal {
 
 impl Illegal {
     /// The refusal's number and name, and the reason.
-    pub fn text(&self) -> Text
+    pub fn text(&self) -> RefusalText
         ensures { result.bytes ≡ illegal_text self.now }
     {
         Refusal::Illegal.text_with_word(self.why.name())
@@ -80,7 +80,7 @@ pub struct IllegalAt {
 
 impl IllegalAt {
     /// The refusal's number and name, the number of the line, and the reason.
-    pub fn text(&self) -> Text
+    pub fn text(&self) -> RefusalText
         ensures { result.bytes ≡ illegal_at_text self.now }
     {
         Refusal::IllegalAt.text_at_with_word(self.line, self.why.name())

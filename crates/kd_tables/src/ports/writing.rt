@@ -5,7 +5,7 @@ ghost use Rattle.kd_tables.specs.Writing.{Writes};
 
 use super::failed::Failed;
 use super::sink::Sink;
-use crate::refusal::{Refusal, Text};
+use crate::refusal::{Refusal, RefusalText};
 use thiserror::Error;
 
 /// A source, a sink or a file failed.
@@ -15,7 +15,7 @@ pub struct Device;
 
 impl Device {
     /// The text of the refusal: `6 Device`.
-    pub fn text(&self) -> Text
+    pub fn text(&self) -> RefusalText
         ensures { result.bytes ≡ refusal_name Refusal.Device }
     {
         Refusal::Device.text()

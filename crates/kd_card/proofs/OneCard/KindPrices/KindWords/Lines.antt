@@ -29,7 +29,7 @@ pub use Rattle.kd_card.specs.CardFault.{IsValueAnswer, BeginsWithHead, IsCardAns
 pub use Rattle.kd_card.specs.CardFault.{IsTablePricesAnswer, AtOther, HasNoNext, IsGroupAnswer, IsListsAnswer}
 pub use Rattle.kd_card.specs.CardFault.{IsNumeral}
 pub use Rattle.kd_card.specs.declared.prices.CostTable.{CostTable, TheVariants.{Bars, Cables}}
-pub use Rattle.kd_state.specs.LineWords.{line_then}
+pub use Rattle.kd_tables.specs.LineWords.{line_then}
 pub use Rattle.kd_card.specs.CardText.{card_text, head_words, IsCard, lines_text, price_lines}
 pub use Rattle.kd_card.specs.declared.prices.PriceParts.{PriceParts, TheVariants.{BarKinds, Bars, CableKinds, Cables}}
 pub use Rattle.kd_card.specs.declared.{kinds.KindOf.KindOf, prices.Version.{Version, TheVariants.{ByKind, ByNumber}}}
@@ -46,9 +46,10 @@ pub use Rattle.kd_state.specs.{Costs.column_letters, declared.setting.Setting.Se
 pub use Rattle.kd_state.{proofs.Lines.IsWord, specs.LineWords.{IsWithout, line_of, words_of}}
 pub use Rattle.kd_state.specs.{Line.{BeginsWithAllSettings, BeginsWithSettingLines, setting_line}}
 pub use Rattle.kd_state.specs.{LineWords.IsFirstPart, Line.{BeginsWithNoSetting, list_text, setting_words}}
-pub use Rattle.kd_state.proofs.Lines.{lines_split_into_words, not_longer, same_end, word_by_test, words_make_one_line}
-pub use Rattle.kd_state.proofs.Lines.{IsNumeralModel-digits, numbers_are_words, ok_part, texts_determine_first_parts}
-pub use Rattle.kd_state.proofs.Lines.{word_by_bytes}
+pub use Rattle.kd_tables.proofs.LineWords.{lines_split_into_words, word_by_test, words_make_one_line}
+pub use Rattle.kd_state.proofs.Lines.{not_longer, same_end}
+pub use Rattle.kd_tables.proofs.LineWords.{IsNumeralModel-digits, numbers_are_words, ok_part, texts_determine_first_parts}
+pub use Rattle.kd_tables.proofs.LineWords.{word_by_bytes}
 
 abbrev pub settings_words : ℕ → List (List ℕ)
 settings_words number = codes "SETTINGS" ∷ decimal number ∷ []

@@ -1,5 +1,6 @@
-use Rattle.kd_state.proofs.{Lines.AreTaken, Prelude.length, Prelude.map}
-use Rattle.kd_state.proofs.line_words.split_words.Given as goal
+use Rattle.kd_tables.proofs.LineWords.{AreTaken}
+use Rattle.std.proofs.Common.{length, map}
+use Rattle.kd_tables.proofs.line_words.split_words.Given as goal
 
 abbrev pub invariant-loop-word : goal.invariant-loop-word
 invariant-loop-word g l = AreTaken l.line l.rest (map (λ word. word.now) l.words.items)

@@ -3,13 +3,11 @@ ghost use Rattle.std.specs.Prelude.{◌≡◌, ◌≢◌, ◌↔◌, ℕ, ◌+�
 ghost use Rattle.std.specs.Prelude.{MatchOption};
 ghost use Rattle.arrayvec.specs.ArrayString.{array_string_len};
 ghost use Rattle.kd_tables.specs.Text.{letters_text};
-ghost use Rattle.kd_state.specs.SheetDay.{IsDayNumber};
-ghost use Rattle.kd_state.specs.LineWords.{words_of, IsWithout, IsFirstPart};
+ghost use Rattle.kd_tables.specs.LineWords.{words_of, IsWithout, IsFirstPart};
 
-use crate::sheet_day::entry::is_day_number;
+use crate::letter::Letter;
 use arrayvec::{ArrayString, ArrayVec};
 use itoa::Buffer;
-use kd_tables::Letter;
 use std::str;
 
 /// The parts of `text` before and after the first `byte`. `None` if `byte` isn't in `text`.
@@ -27,7 +25,7 @@ pub fn split_once(text: &[u8], byte: u8) -> Option<(&[u8], &[u8])>
 }
 
 /// Splits `line` at its spaces into words. `None` if there are more than `N` words.
-#[tactic(auto, using(crate::proofs::Lines::splitting))]
+#[tactic(auto, using(crate::proofs::LineWords::splitting))]
 pub fn split_words<const N: usize>(line: &[u8]) -> Option<ArrayVec<&[u8], N>>
     ensures { MatchOption result
         (N < length (words_of line.now))
@@ -75,17 +73,6 @@ pub fn number_of_text(text: &[u8]) -> Option<u8>
         (λ number. decimal number ≡ text.now) }
 {
     u8::try_from(wide_number_of_text(text)?).ok()
-}
-
-/// Reads a day of a month: a decimal number from 1 to 31. `None` for other texts.
-#[tactic(auto, using(std::proofs::lemmas::Fmt::decimal_injective))]
-pub fn day_of_text(text: &[u8]) -> Option<u8>
-    ensures { MatchOption result
-        ((day : ℕ) → IsDayNumber day → decimal day ≢ text.now)
-        (λ day. (decimal day ≡ text.now) × IsDayNumber day) }
-{
-    let day = number_of_text(text)?;
-    is_day_number(day).then_some(day)
 }
 
 /// Reads a text of one capital letter. `None` for other texts.

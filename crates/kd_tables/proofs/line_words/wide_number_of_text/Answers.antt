@@ -1,5 +1,6 @@
-use Rattle.kd_state.proofs.{Lines.{no_number, decimal-not_text, ok_part, only_number}, Prelude.{arith, sym, ◌∙◌}}
-use Rattle.kd_state.proofs.line_words.wide_number_of_text.Goals as goal
+use Rattle.kd_tables.proofs.LineWords.{no_number, decimal-not_text, ok_part, only_number}
+use Rattle.std.proofs.Common.{arith, sym, ◌∙◌}
+use Rattle.kd_tables.proofs.line_words.wide_number_of_text.Goals as goal
 
 pub returns-in_err-ok : goal.returns-in_err-ok
 returns-in_err-ok c =
