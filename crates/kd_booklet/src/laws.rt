@@ -2,7 +2,7 @@
 ghost use Rattle.kd_booklet.specs.HandOrder.{HandOrderIsPermutation, HandOrderLeads};
 ghost use Rattle.kd_booklet.specs.SettingChanges.{DaySettingsChangeThings};
 
-/// Putting a list of settings in the order that suits an operator adds no setting, and loses none.
+/// The order that suits an operator keeps all settings of a list, and adds none.
 ///
 /// If no setting seats a wheel after an earlier setting has turned a window, the list leads to the same machine in both
 /// orders.

@@ -26,8 +26,8 @@ FittingPricesBoundLists =
     → PricesFit (cost_table machine day) prices → LeadsToTheDay machine day settings
     → (pos (loose_count machine day) +ℤ price_sum prices) ≤ℤ pos (length settings)
 
--- A setting is unpriced if it changes no cable and no bar. Suppose that a list reaches the day, and has no more
--- unpriced settings than there are loose things. Then each unpriced setting lowers the number of loose things by one.
+-- A setting is unpriced if it changes no cable and no bar. Suppose that a list reaches the day, with at most as many
+-- unpriced settings as loose things. Then each unpriced setting lowers the number of loose things by one.
 abbrev pub AsFewAreNeeded : Type 0
 AsFewAreNeeded =
     (machine : Parts) (day : Day) (settings : List Setting) → IsLegalDay day → model_of machine ≡ day_model day

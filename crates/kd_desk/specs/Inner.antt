@@ -21,7 +21,7 @@ use Rattle.kd_desk.specs.Stops.{stop_after}
 abbrev pub with_task_stream : {F O P : Type 0} → (O → P) → Task F O → Task F P
 with_task_stream g task = with_task_files (λ file. file) g task
 
--- the action, with `g` applied to its streamed file, if it has one
+-- the action, with `g` applied to the action's streamed file, if there is one
 abbrev pub with_action_stream : {F O P : Type 0} → (O → P) → Action F O → Action F P
 with_action_stream g action = with_action_files (λ file. file) g action
 

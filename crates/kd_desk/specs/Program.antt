@@ -81,8 +81,8 @@ pub record AppliesTo (machine list : List ℕ) (sink : Port) (answer : Result (U
   pub refused : IfErr (machine_of machine) (λ fault. AnswersFault answer (File fault))
   pub applied : IfOk (machine_of machine) (λ m. Applies m list sink answer ⊎ LacksMemory answer)
 
--- A task was carried out with the machine `m` and the day `s`, whose number is `number`. An order or a form is read
--- from a port.
+-- A task was carried out with the machine `m` and the day `s`, whose number is `number`. For `Message`, the order or
+-- the form is read from a port.
 abbrev pub DoesTask : Task (List ℕ) Port → ℕ → Port → Result (Unit {0}) DeskFault → Parts → Day → Type 0
 DoesTask tasks.Card number sink answer m s = Prints (IsChosenCard m s number) m s number sink answer
 DoesTask (tasks.Check card) number sink answer m s = Checks m s number card sink answer

@@ -27,7 +27,8 @@ pub fn bytes_give_one_list_or_one_fault()
 /// If cards and machine files are written for one day after another, they set the machine to each of these days.
 ///
 /// Each card's settings lead from the machine of one file to the machine of the next file. The next file's machine is
-/// set as the day says, shows the day's letters, and enciphers as the day asks. No fewer settings lead to the day.
+/// set as the card's day says, shows this day's letters, and enciphers as this day asks. No shorter list of settings
+/// leads to this day.
 pub fn months_set_the_machine()
     ensures { MonthsSetTheMachine }
 {}

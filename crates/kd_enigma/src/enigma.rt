@@ -146,7 +146,7 @@ impl<const S: usize> Enigma<S> {
     }
 }
 
-/// The current's path through all wheels but the right one to the reflector, and back.
+/// The current's path to the reflector and back, through all wheels except the right wheel.
 #[tactic(auto, using(crate::proofs::Seats::around_more))]
 fn around_slow<const S: usize>(rotors: &[Rotor; S], window: &[Letter; S], reflecting: Map) -> Map
     requires { 1 ≤ S }

@@ -170,6 +170,6 @@ IsWriteMessageAnswer m bytes sink (Ok _) = (text : List ℕ) × m.becomes bytes 
 IsWriteMessageAnswer m bytes sink (Err (Refused fault)) = m.refused bytes fault
 IsWriteMessageAnswer m bytes sink (Err Device) = Unit {0}
 
--- The whole message `bytes` has a result.
+-- There is a text that the whole message `bytes` becomes.
 abbrev pub HasResult : Message → List ℕ → Type 0
 HasResult m bytes = (text : List ℕ) × m.becomes bytes text

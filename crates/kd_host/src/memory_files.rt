@@ -82,7 +82,7 @@ impl<'n> Files<'n> for MemoryFiles<'n> {
     }
 }
 
-/// An opened file in memory. No read of such a file fails.
+/// An opened file in memory. Reading the file never fails.
 #[derive(Drop)]
 pub struct MemoryFile<'a> {
     rest: &'a [u8],

@@ -99,7 +99,7 @@ pub record IsReadOf (s : Day) (part : List ℕ) (read : DamagedPart) : Type 0 wh
 abbrev pub IsReadAt : Day → PlacedPart → DamagedPart → Type 0
 IsReadAt s part read = IsReadOf s part.bytes read × (read.line ≡ part.line)
 
--- `reads` has what can be read of each of `parts`, in the same order.
+-- For each of `parts`, in order, `reads` has what can be read of the part.
 abbrev pub AreReadOf : Day → List PlacedPart → List DamagedPart → Type 0
 AreReadOf s [] [] = Unit {0}
 AreReadOf s (part ∷ parts) (read ∷ reads) = IsReadAt s part read × AreReadOf s parts reads

@@ -169,7 +169,7 @@ ends_line (Some byte) = byte == 10 || byte == 13
 abbrev pub is_text_line : List ℕ → Bool
 is_text_line bytes = nat_le 4 (right_signs (codes "TEXT") bytes) && ends_line (slice_get bytes 4)
 
--- whether a line of `bytes` after the first is `TEXT`
+-- whether a line after the first line of `bytes` is `TEXT`
 abbrev pub has_text_line : List ℕ → Bool
 has_text_line [] = false
 has_text_line (byte ∷ bytes) = if byte == 10 && is_text_line bytes then true else has_text_line bytes

@@ -123,8 +123,8 @@ may_repeat one other =
 
 -- ---- The parts of a form.
 
--- Whether two headings can be of one message. Both give the same number of parts. Their part numbers differ or, if
--- `agree` is true, may be equal.
+-- Whether two headings can be of one message: both give the same number of parts, and their part numbers differ. If
+-- `agree` is true, the part numbers may also be equal.
 abbrev pub numbers_agree : PartNumbers → PartNumbers → Bool → Bool
 numbers_agree one other agree =
     one.parts == other.parts && (not (one.part == other.part) || agree)

@@ -19,8 +19,8 @@ abbrev pub later_lines : List ℕ → List (List ℕ)
 later_lines [] = []
 later_lines (byte ∷ bytes) = if byte == 10 then bytes ∷ later_lines bytes else later_lines bytes
 
--- The first short line in a list. Each item of the list has a line, and then all later bytes of the body. The line in
--- the first item has the number `number`. The body has `all` letters.
+-- The first short line in a list. Each item of the list has one line of the body, and then all later bytes of the body.
+-- The first item's line has the number `number`. The whole body has `all` letters.
 abbrev pub short_line_from : ℕ → ℕ → List (List ℕ) → Option ShortLine
 short_line_from all number [] = None
 short_line_from all number (bytes ∷ others) =

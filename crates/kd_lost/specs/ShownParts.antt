@@ -76,7 +76,7 @@ shown_under [] number = None
 shown_under (part ∷ parts) number =
     if is_number number part.numbers then better part (shown_under parts number) else shown_under parts number
 
--- the text that is shown of a part; `None` if there is no part, or the part has no text
+-- the shown text of a part; `None` if there is no part, or the part has no text
 abbrev pub text_in : Option DamagedPart → Option DamagedText
 text_in None = None
 text_in (Some part) = shown_text part

@@ -57,7 +57,7 @@ pub enum GroupTest {
 /// the last ten.
 #[derive(Clone, Copy, Debug, PartialEq, Eq)]
 pub struct LostCopies {
-    /// Whether a letter is lost in the copy before the text.
+    /// Whether the copy of the indicators before the text has a lost letter.
     pub at_start: bool,
     /// Whether a letter is lost in the copy after the text.
     pub at_end: bool,

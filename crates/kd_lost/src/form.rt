@@ -94,8 +94,8 @@ fn read_parts(
     Ok(parts)
 }
 
-/// Reads the part at place `index` of its form, with letters from its copies in place of lost letters. The part begins
-/// on line `line`.
+/// Reads `part`, which is at place `index` of its form, and begins on line `line`. Letters from the part's copies stand
+/// in place of the part's lost letters.
 fn read_one(
     alloc: Global,
     day: &SheetDay,

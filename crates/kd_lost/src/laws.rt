@@ -2,7 +2,8 @@
 ghost use Rattle.kd_lost.specs.Laws.{CiphersAgreeWhereTextsDo, PartsReadAreShownWhole, PartsReadHaveNumbers};
 ghost use Rattle.kd_lost.specs.Laws.{FormsReadAreShownWhole, FormsReadAreTidy, FormsReadHaveTheirParts, RepetitionsAgree};
 
-/// Two texts are enciphered with one key. Where they have the same letter, so do their ciphertexts.
+/// If two texts are enciphered with one key, their ciphertexts have the same letter wherever the texts have the same
+/// letter.
 ///
 /// The texts may differ at all other places.
 #[tactic(auto, using(crate::proofs::Ciphers::ciphers_agree))]

@@ -216,8 +216,8 @@ fn lug_word(lug: Lug) -> Word
     }
 }
 
-/// Writes the place of `lug` before the settings. Writes nothing if `bar` is `None`, because the machine doesn't have
-/// the lug's bar.
+/// Writes the place that `lug` has before the settings are carried out. Writes nothing if `bar` is `None`, because the
+/// machine doesn't have the lug's bar.
 fn draw_lug_from<W: Sink>(sink: &mut W, language: Language, lug: Lug, bar: Option<Standing>)
     ensures { Draws W.taken W.has_failed sink.old sink.new (lug_from_text language lug bar) }
 {

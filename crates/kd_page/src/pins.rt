@@ -79,7 +79,7 @@ fn draw_pin_wheel<W: Sink>(sink: &mut W, page: &Page<'_>, wheel: u8)
     draw(sink, ROW_END);
 }
 
-/// Writes the heading of a wheel, with the wheel's number, and `count`, the number of pins to set.
+/// Writes the heading of a wheel: the wheel's number, and the number `count` of pins to set.
 fn draw_pin_head<W: Sink>(sink: &mut W, language: Language, wheel: u8, count: u8)
     ensures { Draws W.taken W.has_failed sink.old sink.new (pin_head language wheel count) }
 {

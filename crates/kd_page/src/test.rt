@@ -186,7 +186,8 @@ fn draw_again_end<W: Sink>(sink: &mut W, language: Language, model: Model)
     }
 }
 
-/// Writes that fewer settings than the page's aren't possible. If the page has no settings, writes nothing.
+/// Writes the number of the page's settings, and that fewer settings aren't possible. If the page has no settings,
+/// writes nothing.
 fn draw_fewest<W: Sink>(sink: &mut W, page: &Page<'_>)
     ensures { Draws W.taken W.has_failed sink.old sink.new
         (fewest_text page.now.language (length page.now.settings)) }

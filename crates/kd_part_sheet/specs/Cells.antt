@@ -71,7 +71,7 @@ mark_of taken letter =
     if taken == 6 then marks.NotNeeded
     else if is_some (place_on (ring_of (taken + 1)) letter) then marks.Taken (taken + 1) else marks.StruckOut
 
--- The last wheel that took a printed letter, after a letter with the given mark is printed. `taken` is the last wheel
+-- The last wheel that took a printed letter. The latest printed letter has the given mark. `taken` is the last wheel
 -- that took an earlier letter; 0 if none did.
 abbrev pub taken_after : ℕ → Mark → ℕ
 taken_after taken marks.NoMark = taken
@@ -111,7 +111,7 @@ mark_text marks.NotNeeded = no_letter
 mark_text marks.StruckOut = struck_out
 mark_text (marks.Taken wheel) = decimal wheel
 
--- the text of a cell in a line of a group: a sign, or a mark
+-- the text that a group's line has for a cell: a sign, or a mark
 abbrev pub place_text : Line → Cell → List ℕ
 place_text lines.Above cell = sign_text cell.above
 place_text lines.Below cell = sign_text cell.below

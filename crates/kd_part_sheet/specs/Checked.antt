@@ -10,7 +10,7 @@ abbrev pub SheetTakes : SheetText → ℕ → Type 0
 SheetTakes text number =
     Takes text.0.0 number × Takes text.0.1 number × Takes text.1.0 number × Takes text.1.1 number
 
--- all templates, each with the number of values that a sheet fills into it
+-- Each template takes as many values as a sheet fills into it.
 abbrev pub TemplatesTakeTheirValues : Type 0
 TemplatesTakeTheirValues =
     SheetTakes texts.HEAD 5 × SheetTakes texts.KEY_STEP 4 × SheetTakes texts.TEXT_STEP 5 × SheetTakes texts.NEXT_STEP 4

@@ -46,7 +46,8 @@ pin_work s k internal text = record {
       ++ map copied (pin_indicators s k);
 }
 
--- `work` has the letters to press to encipher `text` with the given keys on the day `s`, and their ciphertext.
+-- `work` is for enciphering `text` with the given keys on the day `s`. It has the letters to press, and the ciphertext
+-- of these letters.
 abbrev pub IsWork : Day → Keys → List ℕ → Work → Type 0
 IsWork s (keys.Rotor k) text work = work ≡ rotor_work s k text
 IsWork s (keys.Pin k) text work =

@@ -1,4 +1,5 @@
-//! The letters on a part's sheet: those to set, those to press, and those that the machine then gives.
+//! The letters on a part's sheet: the letters to set, the letters to press, and the letters that the machine then
+//! gives.
 ghost use Rattle.std.specs.Prelude.{◌≡◌, ◌≤◌, ◌+◌, ℕ, List, length, Ok};
 ghost use Rattle.kd_state.specs.EngineKey.{IsWindow};
 ghost use Rattle.kd_state.specs.OwnKeys.{sheet_key};

@@ -101,8 +101,8 @@ fn draw_row<W: Sink>(
     draw(sink, ROW_END);
 }
 
-/// The number at the end of a row. On a Converter, it is what the machine's counter shows: how many letters were
-/// pressed in this step. On a rotor machine, it is how many letters the rows have so far.
+/// The number at the end of a row. On a Converter, this number is what the machine's counter shows: how many letters
+/// were pressed in the step so far. On a rotor machine, this number is how many letters the rows have so far.
 fn row_number(is_converter: bool, progress: Progress) -> u16
     requires presses { progress.presses ≤ progress.letters }
     requires few { progress.letters ≤ 520 }

@@ -70,7 +70,7 @@ pub(crate) fn draw_rings<W: Sink>(
     }
 }
 
-/// Writes the day's cables; if there are none, the word that says so.
+/// Writes the day's cables. If there are none, writes the word for `none`.
 pub(crate) fn draw_cables<W: Sink>(sink: &mut W, language: Language, pairs: &[(Letter, Letter)])
     ensures { Draws W.taken W.has_failed sink.old sink.new (cables_text language pairs.now) }
 {

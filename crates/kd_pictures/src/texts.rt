@@ -345,8 +345,8 @@ pub const ON: Text = ("ON", "EIN");
 
 pub const OFF: Text = ("OFF", "AUS");
 
-/// A checkbox for a lug, in pieces. The first piece says which of the bar's two lugs it is. A later piece has the lug's
-/// old place. The last piece has the lug's new place, and the setting's line.
+/// A checkbox for a lug, in pieces. The first piece says whether the lug is the bar's left lug or its right lug. A
+/// later piece has the lug's old place. The last piece has the lug's new place, and the setting's line.
 pub const LUG: &str = "<td><label><input type=checkbox> ~";
 
 pub const LEFT_LUG: Text = ("left lug", "linker");
@@ -417,7 +417,7 @@ pub const RING_WORDS: Text = (", ring ~", ", Ring ~");
 
 pub const WINDOW_WORDS: Text = (", window ~", ", Fenster ~");
 
-/// A band of the picture: the band's name and labels. Then a reflector, drawn as old or as new.
+/// The name and the labels of a band of the picture. The next two texts draw an old reflector, and a new reflector.
 pub const BAND: Text = (
     "<text class=\"label bold\" x=\"2\" y=\"~\" font-size=\"20\">~</text>\n<text class=\"label\" x=\"2\" y=\"~\" font-size=\"18\">wheel</text>\n<text class=\"label\" x=\"2\" y=\"~\" font-size=\"18\">ring</text>\n<text class=\"label\" x=\"2\" y=\"~\" font-size=\"18\">window</text>\n<text x=\"134\" y=\"~\" font-size=\"18\">reflector</text>\n",
     "<text class=\"label bold\" x=\"2\" y=\"~\" font-size=\"20\">~</text>\n<text class=\"label\" x=\"2\" y=\"~\" font-size=\"18\">Walze</text>\n<text class=\"label\" x=\"2\" y=\"~\" font-size=\"18\">Ring</text>\n<text class=\"label\" x=\"2\" y=\"~\" font-size=\"18\">Fenster</text>\n<text x=\"134\" y=\"~\" font-size=\"18\">UKW</text>\n",

@@ -47,7 +47,7 @@ pub record AppendsKinds {K X : Type 0} (format : KindFormat K X) (kind : KindOf 
 abbrev pub HasNoneLeft : {X : Type 0} → List (KindOf X) → X → Type 0
 HasNoneLeft kinds key = All (λ pair. pair.0 ≢ key) (expansion kinds)
 
--- `left` are the kinds `kinds` with one copy of `key` and `price` less. A kind stands for as many copies of its key and
--- price as its count says.
+-- `left` are the kinds that remain of `kinds` after one copy of `key` and `price` is taken away. A kind stands for as
+-- many copies of its key and price as its count says.
 abbrev pub TakesOne : {X : Type 0} → List (KindOf X) → X → ℤ → List (KindOf X) → Type 0
 TakesOne kinds key price left = IsPermutation (expansion kinds) ((key, price) ∷ expansion left)

@@ -1,4 +1,5 @@
-//! Laws of checked cards: their doubts, their remaining lines, and the prices of equal cables or bars.
+//! Laws of checked cards: the doubts about a card, the lines left while the card is carried out, and the prices of
+//! equal cables or bars.
 ghost use Rattle.kd_prices.specs.Laws.{ProvingCardsAreInNoDoubt, OneDoubt, RestIsShortest, AlikePricesAreEqual};
 
 /// If a card proves itself, there is no doubt about it. No card has two different first doubts.
@@ -7,7 +8,7 @@ pub fn a_card_is_in_one_doubt_at_most()
     ensures one { OneDoubt }
 {}
 
-/// At any point of carrying out a card that proves itself, the remaining lines are a shortest list.
+/// After any number of lines of a card that proves itself, the remaining lines are a shortest list.
 pub fn rest_of_a_card_is_shortest()
     ensures { RestIsShortest }
 {}

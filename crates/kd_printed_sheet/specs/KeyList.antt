@@ -61,7 +61,7 @@ key_list l day =
     ++ text_in l texts.CHECK ++ fives_from 0 (check_of day)
     ++ text_in l texts.CHECK_END ++ words_text letter_text day.window ++ texts.KEY_LIST_END.now
 
--- the key list of a Converter's day; empty for another day, or for no day
+-- the key list of a Converter's day; empty for a rotor machine's day, or if there is no day
 abbrev pub key_list_of : Language → Option Day → List ℕ
 key_list_of l None = []
 key_list_of l (Some (Rotor values)) = []

@@ -37,7 +37,7 @@ pub(crate) fn draw_key_lists<W: Sink>(
     }
 }
 
-/// Writes the key list of a Converter's day; nothing for another day, or for no day.
+/// Writes the key list of a Converter's day. Writes nothing for a rotor machine's day, or if `day` is `None`.
 fn draw_day<W: Sink>(sink: &mut W, language: Language, day: Option<&SheetDay>)
     ensures { Draws W.taken W.has_failed sink.old sink.new
         (key_list_of language (option_copied day.entry)) }

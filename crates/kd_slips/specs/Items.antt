@@ -38,7 +38,7 @@ abbrev pub IsOfItsRow : Slip → Type 0
 IsOfItsRow (slips.Fault found told words) = told ≡ row_in found
 IsOfItsRow slips.NoMemory = Unit {0}
 
--- the fault at `key` if the value is missing, or is of the wrong type
+-- the fault for the value at `key`, which is missing or of the wrong type
 abbrev pub type_fault : Key → Option Data → SheetFault
 type_fault key value = if is_some value then BadValue key else Missing key
 

@@ -84,7 +84,8 @@ fn push_few(
     }
 }
 
-/// The first of `rest` that has more pairs or groups than `day`, and that no day in `days` surpasses.
+/// The first day in `rest` that satisfies `has_most`: it has more pairs or groups than `day`, and no day in `days` has
+/// more than it.
 ///
 /// Only days of the same model are compared.
 fn find_most(

@@ -78,7 +78,7 @@ unfoldable pub column_from : Cell → List (List ℕ) → ℕ → ℕ → Option
 column_from cell head place count =
     find (λ at. names_column cell (cell_at (Some at) head)) (range_with_len place count)
 
--- the place of the cell's column: the first column with one of its three names, among the table's first 64 columns
+-- the place of the cell's column: the first of the table's first 64 columns that has one of the cell's three names
 abbrev pub column_named : Cell → List (List ℕ) → Option ℕ
 column_named cell head = column_from cell head 0 64
 

@@ -135,7 +135,7 @@ pub fn german_name(cell: Cell) -> &'static str
     }
 }
 
-/// The place of the column of `cell`: the first column with one of its three names, among the table's first 64 columns.
+/// The place of the cell's column: the first of the table's first 64 columns that has one of the cell's three names.
 fn column_named(head: &ByteRecord, cell: Cell) -> Option<usize>
     ensures { result ≡ column_named cell (fields_of head.now) }
 {

@@ -12,7 +12,8 @@ use kd_sheet::writing::item_text::ItemString;
 use kd_sheet::writing::lines::{FileString, push_list_line, push_text_line};
 use kd_tables::{Device, Family, Model, Sink, put_all};
 
-/// Writes a key sheet to fill in. It has `days` days of `model`. In it, `?` stands for each missing letter and number.
+/// Writes a key sheet to fill in, with `days` days of `model`. In the sheet, `?` stands for each missing letter and
+/// number.
 ///
 /// A day that still has a `?` is refused. On the fault `Device`, the sink has taken a prefix of the text.
 #[tactic(auto, unfolding(crate::specs::EmptySheet::empty_month_text))]

@@ -19,7 +19,7 @@ pub enum Setting {
         cable: u8,
         letter: Letter,
     },
-    /// Puts the letter into the cable.
+    /// Puts the letter at an empty end of the cable.
     Put {
         cable: u8,
         letter: Letter,

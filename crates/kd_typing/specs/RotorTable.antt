@@ -64,8 +64,8 @@ typed_by table window (key ∷ text) =
 
 -- ---- The table of a key.
 
--- For each key, the place that the key's current reaches through the plugboard and the right wheel. The right window
--- shows `letter`.
+-- for each key, the place that the key's current reaches through the plugboard and the right wheel, while the right
+-- window shows `letter`
 unfoldable pub into_row : RotorKey → ℕ → List ℕ
 into_row key letter = product (key.plugs ∷ rotors (right_slot key.wheels) (right_slot key.rings) (letter ∷ []))
 
@@ -89,7 +89,8 @@ abbrev pub letters_with_number : ℕ → ℕ → List ℕ
 letters_with_number zero number = []
 letters_with_number (suc count) number = number / 26 ^ count % 26 ∷ letters_with_number count number
 
--- Whether a wheel is at a notch while its window shows `letter`. Wheels are counted from the right, from 0.
+-- Whether the wheel `from_right` is at a notch while its window shows `letter`. Wheels are counted from the right, from
+-- 0.
 abbrev pub is_at_notch : List Wheel → ℕ → ℕ → Bool
 is_at_notch wheels from_right letter =
     option_map_or (λ wheel. is_notch wheel letter) (slice_get wheels (length wheels - (from_right + 1))) false

@@ -92,7 +92,7 @@ fn is_met(bar: Reading, number: usize) -> bool
     is_in_row(number, smaller) || is_in_row(number, larger)
 }
 
-/// Whether `wheel` is from 1 to 6, and is in set `number` of wheels.
+/// Whether `wheel` is from 1 to 6, and belongs to the set of wheels with the number `number`.
 ///
 /// The set's number has six binary digits, for wheels 1 to 6; 1 means that the set has the wheel.
 fn is_in_row(number: usize, wheel: u8) -> bool

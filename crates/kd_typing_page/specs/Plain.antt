@@ -4,7 +4,7 @@ use Rattle.kd_pictures.specs.Checked.{Takes}
 use Rattle.kd_pictures.specs.Template.{is_gap}
 use Rattle.kd_typing_page.specs.declared.texts.TheConstants as texts
 
--- each template takes exactly as many values as the page fills into it
+-- Each template takes exactly as many values as the page fills into it.
 abbrev pub TemplatesTakeTheirValues : Type 0
 TemplatesTakeTheirValues =
     Takes texts.TITLE 1 × Takes texts.ROTOR_HEAD 1 × Takes texts.PIN_HEAD 1 × Takes texts.WINDOW 3

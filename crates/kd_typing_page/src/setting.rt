@@ -119,7 +119,7 @@ fn draw_pin<W: Sink>(sink: &mut W, letter: Letter, effective: Option<bool>)
     }
 }
 
-/// Writes the places of the lugs of the bars with the numbers `bars`.
+/// Writes the places of both lugs for each bar whose number is in `bars`.
 fn draw_bars<W: Sink>(sink: &mut W, language: Language, machine: &Machine, bars: &[u8])
     ensures { Draws W.taken W.has_failed sink.old sink.new
         (flat_map (λ bar. bar_text (machine_standing machine.now bar)) bars.now) }

@@ -63,8 +63,8 @@ pub const KNOB: Text = (
     "</div>\n<fieldset class=knob><legend>Knopf</legend><label><input type=radio name=knob value=C autocomplete=off checked><span><b>C</b> verschlüsseln</span></label><label><input type=radio name=knob value=D autocomplete=off><span><b>D</b> entschlüsseln</span></label></fieldset>\n<div id=strip class=strip aria-hidden=true></div>\n",
 );
 
-/// The line for reports, and the start of the keys. The next two texts are the keys of a rotor machine, and the keys of
-/// a Converter.
+/// The line for the page's reports to the user, and the start of the keys. The next text has a rotor machine's keys.
+/// The text after it has a Converter's keys.
 pub const KEYS: Text = (
     "<p id=told role=status></p>\n<div id=keys role=group aria-label=\"Keys\">\n",
     "<p id=told role=status></p>\n<div id=keys role=group aria-label=\"Tasten\">\n",

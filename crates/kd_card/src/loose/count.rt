@@ -32,7 +32,7 @@ pub fn loose_count(machine: &Machine, day: &SheetDay) -> usize
     }
 }
 
-/// Counts the slots that are empty or hold another wheel than the day's.
+/// Counts the slots without the day's wheel: empty slots, and slots that hold a different wheel.
 fn loose_slots(slots: &[Option<Wheel>], wheels: &[SheetWheel]) -> usize
     ensures value { result ≡ count_by
         (λ slot. not (option_map_or (same_wheel slot.1.wheel) slot.0 false))

@@ -22,8 +22,8 @@ static OFTEN_NAMED: [Cell; 5] = [
     Cell::Bars,
 ];
 
-/// Names the misnamed columns, and the columns that every table needs, but this table lacks. If the first row has no
-/// column names, not even misnamed ones, says why.
+/// Names the misnamed columns, and the missing columns that every table needs. If the first row has no column names,
+/// not even misnamed ones, says why it has none.
 pub fn head_words(head: &Head<'_>) -> Words {
     let mut lines = Words::new();
     for cell in &ALL_CELLS {

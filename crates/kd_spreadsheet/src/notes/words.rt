@@ -124,5 +124,5 @@ const ROOM: usize = 2048;
 /// The last line, if further lines are left out because there is no room.
 const MORE: &[u8] = b"\nfurther faults aren't told";
 
-/// The greatest number of bytes that are shown of a cell.
+/// The greatest number of a cell's bytes that a note shows.
 const SHOWN: usize = 60;
