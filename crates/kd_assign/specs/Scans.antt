@@ -1,8 +1,8 @@
 -- How often a column is compared with a row while `n` trees give `n` rows their columns.
 use Rattle.std.specs.Prelude.{ℕ, zero, suc, ◌+◌, ◌-◌, ◌*◌, ◌/◌, ◌≤◌}
 
--- The number of comparisons, `scans`, is at least `n * n`: one for each cell of the table. It is at most 1 + 4 + ... +
--- `n * n`: the number for `n` trees that all grow to their full size.
+-- `scans`, the number of comparisons, is at least `n * n`: one for each cell of the table. `scans` is at most 1 + 4 +
+-- ... + `n * n`, the number of comparisons if all `n` trees grow to their full size.
 pub record IsScanCount (n scans : ℕ) : Type 0 where
   pub least : n * n ≤ scans
   pub most : scans ≤ n * (n + 1) * (2 * n + 1) / 6

@@ -27,8 +27,8 @@ pub record IsNearest (n : ℕ) (prices : List ℤ) (reached : List Bool) (ceilin
 
 -- A column is compared with `row`, which offers the price `offer` for this column. Before the comparison, the column's
 -- nearest row is `near`, which offers `ceiling`. After the comparison, the nearest row is `near'`, which offers
--- `ceiling'`. If the column is outside the tree, `near'` is the row of `near` and `row` that offers less. If the tree
--- has the column (`reached`), nothing changes.
+-- `ceiling'`. If the column is outside the tree, `near'` is the row that offers less: `near` or `row`. If the tree has
+-- the column (`reached`), nothing changes.
 pub record IsCompared (reached : Bool) (row : ℕ) (offer : ℤ) (near : ℕ) (ceiling : ℤ)
     (near' : ℕ) (ceiling' : ℤ) : Type 0 where
   pub one : ((near' ≡ near) × (ceiling' ≡ ceiling)) ⊎ ((reached ≡ false) × (near' ≡ row) × (ceiling' ≡ offer))

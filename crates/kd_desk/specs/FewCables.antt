@@ -11,11 +11,11 @@ use Rattle.kd_sheet.specs.SheetFile.{sheet_of}
 use Rattle.kd_desk.specs.Month.{CardAndFile, AreWrittenInTurn}
 use Rattle.kd_desk.specs.Settings.{AreSettings}
 
--- The machine that `file` describes uses no cable above `number`.
+-- The machine that `file` describes uses no cable with a number above `number`.
 abbrev pub FileUsesNoneAbove : ℕ → List ℕ → Type 0
 FileUsesNoneAbove number file = (m : Parts) → machine_of file ≡ Ok m → UsesNoneAbove number m
 
--- The settings of `card` name no cable above `number`.
+-- The settings of `card` name no cable with a number above `number`.
 abbrev pub CardNamesNoneAbove : ℕ → List ℕ → Type 0
 CardNamesNoneAbove number card =
     (settings : List Setting) → AreSettings card settings → All (NamesNoneAbove number) settings

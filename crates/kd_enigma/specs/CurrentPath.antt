@@ -11,7 +11,8 @@ pub record SeatedWheel : Type 0 where
   pub ring : ℕ
   pub board : List ℕ
 
--- the current's path around `core`: in through board and wheel, through `core`, and back through wheel and board
+-- the current's path around `core`: in through the board and the wheel, through `core`, and back through the wheel and
+-- the board
 abbrev pub around_wheel : List ℕ → List ℕ → List ℕ → List ℕ
 around_wheel board core wheel = followed_by (followed_by (followed_by board wheel) core)
     (followed_by (inverse wheel) board)

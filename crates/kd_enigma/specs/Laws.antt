@@ -31,7 +31,7 @@ SamePairsExchangeAlike =
 abbrev pub PathsAreOwnInverses : Type 0
 PathsAreOwnInverses = (key : RotorKey) (window : List ℕ) → IsPlugboard key.plugs → IsOwnInverse (path key window)
 
--- The current's path takes no letter to itself.
+-- The current's path maps no letter to itself.
 abbrev pub PathsMoveEachLetter : Type 0
 PathsMoveEachLetter = (key : RotorKey) (window : List ℕ) → IsPlugboard key.plugs → MovesEachLetter (path key window)
 
@@ -52,7 +52,7 @@ pub record ArePairs (pairs : List (ℕ × ℕ)) : Type 0 where
 abbrev pub key_with_pairs : RotorKey → List (ℕ × ℕ) → RotorKey
 key_with_pairs key pairs = record key { plugs = exchange pairs }
 
--- If the plugboard is made from pairs of letters, the current's path is its own inverse, and takes no letter to itself.
+-- If the plugboard is made from pairs of letters, the current's path is its own inverse, and maps no letter to itself.
 abbrev pub PairedPathsLeadBack : Type 0
 PairedPathsLeadBack =
     (key : RotorKey) (pairs : List (ℕ × ℕ)) (window : List ℕ) → ArePairs pairs

@@ -35,7 +35,7 @@ pub fn enciphering_twice_gives_back()
     ensures { EnigmaTwiceGivesBack }
 {}
 
-/// If the plugboard is made from pairs, the current's path is its own inverse, and takes no letter to itself.
+/// If the plugboard is made from pairs, the current's path is its own inverse, and maps no letter to itself.
 ///
 /// Enciphering twice with the same key gives the text back.
 pub fn keys_with_pairs_lead_back()

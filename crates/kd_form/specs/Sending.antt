@@ -76,8 +76,8 @@ pub record OrderParts : Type 0 where
   pub head : List ℕ
   pub text : List ℕ
 
--- The result of cutting an order into head and text. Without a complete head, the fault is `BadByte`, with the position
--- that `IsOrderHeadFault` says.
+-- The result of cutting an order into head and text. If the head isn't complete, the fault is `BadByte`;
+-- `IsOrderHeadFault` defines the fault's position.
 abbrev pub IsDividedAnswer : Day → List ℕ → AnswerRule FormFault OrderParts
 IsDividedAnswer s order (Ok parts) = IsOrder s order parts.keys parts.head parts.text
 IsDividedAnswer s order (Err fault) = (position : ℕ) × IsOrderHeadFault s order position × (fault ≡ BadByte position)

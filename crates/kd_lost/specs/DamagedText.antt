@@ -65,8 +65,8 @@ abbrev pub last_letters : ℕ → List (Option ℕ) → List (Option ℕ)
 last_letters counted body =
     if length body == counted then drop (length body - 2) body else None ∷ None ∷ []
 
--- `test` is the result of comparing the group or the list letters in `body` with the day's. `body` has the letters of a
--- part, even of a part that can't be read. The part's heading says that there are `counted` letters.
+-- `test` is the result of comparing the group or the list letters in `body` with the day's letters. `body` has the
+-- letters of a part, even of a part that can't be read. The part's heading says that there are `counted` letters.
 pub data IsBodyTest (s : Day) (counted : ℕ) (body : List (Option ℕ)) (test : GroupTest) : Type 0 where
   FrontMissing : length body < front_letters s → test ≡ tests.NotTested → IsBodyTest s counted body test
   GroupTested : (d : RotorDay) → s ≡ Rotor d → front_letters s ≤ length body

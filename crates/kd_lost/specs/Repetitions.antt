@@ -56,8 +56,8 @@ abbrev pub completed_byte : Option ℕ → ℕ → ℕ
 completed_byte (Some letter) byte = if is_lost byte then letter + 65 else byte
 completed_byte None byte = byte
 
--- The bytes of a body, with letters from copies in place of lost letters. The first letter of these bytes has the place
--- `place` in the body.
+-- The bytes of a body, with letters from the part's copies in place of lost letters. The first letter among these bytes
+-- has the place `place` in the body.
 abbrev pub completed_from : List DamagedPart → DamagedPart → DamagedText → ℕ → List ℕ → List ℕ
 completed_from copies read shown place [] = []
 completed_from copies read shown place (byte ∷ bytes) =

@@ -155,7 +155,8 @@ fn bodies_agree(one: &[Option<Letter>], other: &[Option<Letter>]) -> bool
     true
 }
 
-/// Whether two headings can be of one message. `agree` says whether the two parts may be one part, sent twice.
+/// Whether the headings of two parts can be of one message. `agree` says whether these parts may be one part, sent
+/// twice.
 fn numbers_agree(one: &PartNumbers, other: &PartNumbers, agree: bool) -> bool
     ensures { result ≡ numbers_agree one.now other.now agree }
 {

@@ -117,7 +117,7 @@ fn are_covered(all: &[DamagedPart], parts: &[DamagedPart]) -> bool
     }
 }
 
-/// Whether the part that is shown under the number of `part` has all letters of `part`.
+/// Whether the letters of `part` are in the part of `all` that is shown under the same number.
 fn is_covered(all: &[DamagedPart], part: &DamagedPart) -> bool
     ensures { result ≡ is_covered all.now part.now }
 {

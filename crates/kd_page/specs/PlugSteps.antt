@@ -34,7 +34,7 @@ plugs_out page count =
     step_text page words.PlugsOut count ++ board_text page.language Out page.before page.after
     ++ plug_table page (text_in page.language texts.PLUGS_OUT) PlugsOut ++ texts.BOARD_STEP_END.now
 
--- the step of the plugs to take out; only its title if there are no plugs to take out
+-- the step in which plugs are taken out; only its title if there are no plugs to take out
 abbrev pub out_step : Page → List ℕ
 out_step page =
     let count = count_at (step_spot PlugsOut) page.settings in
@@ -51,7 +51,7 @@ plugs_in page count =
     step_text page words.PlugsIn count ++ board_text page.language In page.after page.before ++ in_table page count
     ++ texts.BOARD_STEP_END.now
 
--- the step of the plugs to put in; only its title if no cable is plugged after the settings
+-- the step in which plugs are put in; only its title if no cable is plugged after the settings
 abbrev pub in_step : Page → List ℕ
 in_step page =
     if has_cables page.after CABLES then plugs_in page (count_at (step_spot PlugsIn) page.settings)

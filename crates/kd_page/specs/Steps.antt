@@ -28,7 +28,7 @@ step_text page title count =
 abbrev pub idle_text : Language → Word → List ℕ
 idle_text l title = filled IDLE_STEP.now (word_text l title ∷ count_text l 0 ∷ [])
 
--- the head of a step without a number of settings
+-- a step's head that doesn't give the number of settings
 unfoldable pub plain_step_text : Page → Word → List ℕ
 plain_step_text page title = filled PLAIN_STEP.now (word_text page.language title ∷ []) ++ titled_text page
 

@@ -22,7 +22,7 @@ use Rattle.kd_pictures.specs.Template.{count_text, filled, letter_text, ordinal_
 use Rattle.kd_page.specs.Windows.{letter_shown}
 use Rattle.kd_pictures.specs.Words.{is_converter}
 
--- the keys of the test: the alphabet or, on a Converter, 26 times A
+-- the keys to press in the test: the alphabet or, on a Converter, 26 times A
 abbrev pub test_keys : Parts → List ℕ
 test_keys m = if is_converter (model_of m) then replicate 26 0 else alphabet
 

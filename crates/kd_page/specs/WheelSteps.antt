@@ -61,7 +61,7 @@ rings_in_box page told m =
 
 -- ---- The steps.
 
--- The step of the rings, which are set while the wheels are out of the machine.
+-- The step in which the rings are set, while the wheels are out of the machine.
 unfoldable pub some_rings_text : Page → ℕ → List ℕ
 some_rings_text page count =
     step_text page words.RingsOut count ++ rings_in_box page (text_in page.language BOX_AFTER) page.after

@@ -18,7 +18,7 @@ use kd_pictures::words::Word;
 use kd_pictures::{draw, draw_in};
 use kd_tables::Sink;
 
-/// Writes the step of the plugs to take out.
+/// Writes the step in which plugs are taken out.
 pub(crate) fn draw_out_step<W: Sink>(sink: &mut W, page: &Page<'_>)
     ensures { Draws W.taken W.has_failed sink.old sink.new (out_step page.now) }
 {
@@ -41,7 +41,7 @@ fn draw_plugs_out<W: Sink>(sink: &mut W, page: &Page<'_>, count: u8)
     draw(sink, BOARD_STEP_END);
 }
 
-/// Writes the step of the plugs to put in.
+/// Writes the step in which plugs are put in.
 pub(crate) fn draw_in_step<W: Sink>(sink: &mut W, page: &Page<'_>)
     ensures { Draws W.taken W.has_failed sink.old sink.new (in_step page.now) }
 {

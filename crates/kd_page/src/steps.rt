@@ -61,7 +61,7 @@ pub(crate) fn draw_idle<W: Sink>(sink: &mut W, language: Language, title: Word)
     );
 }
 
-/// Writes the head of a step without a number of settings.
+/// Writes a step's head that doesn't give the number of settings.
 pub(crate) fn draw_plain_step<W: Sink>(sink: &mut W, page: &Page<'_>, title: Word)
     ensures { Draws W.taken W.has_failed sink.old sink.new (plain_step_text page.now title) }
 {

@@ -80,7 +80,7 @@ fn draw_test_end<W: Sink>(sink: &mut W, language: Language, model: Model)
     }
 }
 
-/// The keys of the test: the alphabet or, on a Converter, 26 times A.
+/// The keys to press in the test: the alphabet or, on a Converter, 26 times A.
 fn test_keys(machine: &Machine) -> [Letter; 26]
     ensures { result ≡ test_keys machine.now }
 {
@@ -174,8 +174,8 @@ fn draw_again<W: Sink>(sink: &mut W, language: Language, has_number: bool, lette
     }
 }
 
-/// Writes the end of the sentence about the letters to set again. Then writes a field for the letters that the machine
-/// shows when it is put away.
+/// Writes the end of the sentence that says which letters to set again. Then writes a field for the letters that the
+/// machine shows when it is put away.
 fn draw_again_end<W: Sink>(sink: &mut W, language: Language, model: Model)
     ensures { Draws W.taken W.has_failed sink.old sink.new (again_end language model) }
 {

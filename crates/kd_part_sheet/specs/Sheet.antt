@@ -20,8 +20,8 @@ for_sheet PinSend one two three four = two
 for_sheet RotorReceive one two three four = three
 for_sheet PinReceive one two three four = four
 
--- Whether the order gives the letters to set in the windows before the text: the message key, to send on a rotor
--- machine. Otherwise, the first step finds these letters.
+-- Whether the order gives the letters to set in the windows before the text. This is so only on the sheet for sending
+-- on a rotor machine, where these letters are the message key. On other sheets, the first step finds these letters.
 abbrev pub has_given_start : Sheet → Bool
 has_given_start RotorSend = true
 has_given_start PinSend = false

@@ -41,7 +41,7 @@ window_items l is_converter number (letter ∷ letters) =
 abbrev pub windows_title : Language → Bool → List ℕ
 windows_title l is_converter = if is_converter then text_in l texts.WHEELS else text_in l texts.WINDOWS
 
--- the picture, with its title
+-- the picture of the windows, or of a Converter's wheels, with the picture's title
 unfoldable pub windows_text : Language → Bool → List ℕ → List ℕ
 windows_text l is_converter letters =
     windows_title l is_converter ++ words_after is_converter [] 1 letters

@@ -34,7 +34,7 @@ pub struct Cell {
     pub mark: Mark,
 }
 
-/// The mark of a letter that is printed to find a Converter's internal key.
+/// The mark of a letter that a Converter prints when its internal key is looked for.
 #[derive(Clone, Copy)]
 pub enum Mark {
     /// No mark: the cell isn't for the internal key.
@@ -182,8 +182,8 @@ pub fn push_choice<const N: usize>(
     }
 }
 
-/// The mark of `letter`, which is printed when the internal key is looked for. `taken` is the last wheel that took a
-/// letter; 0 if no wheel took one.
+/// The mark of `letter`, a letter that a Converter prints when its internal key is looked for. `taken` is the last
+/// wheel that took a letter; 0 if no wheel took one.
 fn mark_of(taken: u8, letter: Letter) -> Mark
     requires { taken ≤ 6 }
     ensures { result ≡ mark_of taken letter }

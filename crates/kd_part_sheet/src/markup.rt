@@ -30,8 +30,8 @@ pub const SMALL: &str = "<small>";
 
 pub const SMALL_END: &str = "</small>";
 
-/// The markup of marks, with which a Converter's internal key is found: the start of a group's marks. The next two
-/// texts are the end of a group's marks, and the mark of a letter that is struck out.
+/// The markup before the marks of a group. With these marks, a Converter's internal key is found. The next two texts
+/// are the markup after the marks, and the mark of a letter that is struck out.
 pub const MARKS: &str = "<i>";
 
 pub const MARKS_END: &str = "</i>";

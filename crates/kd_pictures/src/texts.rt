@@ -7,7 +7,7 @@ pub type Text = (&'static str, &'static str);
 /// The code of the language, which stands in the file's head.
 pub const LANGUAGE: Text = ("en", "de");
 
-/// The head of the file, up to its title. Then the style sheet, which stands after the title.
+/// The head of the file, up to its title. The next text is the style sheet, which stands after the title.
 pub const HEAD: &str =
     "<!DOCTYPE html>\n<html lang=~>\n<meta charset=utf-8>\n<meta name=viewport content=\"width=device-width,initial-scale=1\">\n<title>";
 
@@ -262,8 +262,9 @@ pub const COMPARE_PIN: Text = (
 
 pub const DAY_END: &str = "</article>\n";
 
-/// The head of a step. Its values are the step's title and its number of settings. The second text is the head of a
-/// step without a number of settings. The page's title follows either head. `IDLE_STEP` is a step with nothing to do.
+/// The head of a step. Its values are the step's title and its number of settings. The second text is a step's head
+/// that doesn't give the number of settings. The page's title follows either head. `IDLE_STEP` is a step with nothing
+/// to do.
 pub const STEP: &str = "<section>\n<h2>~ <small>~</small><span>";
 
 pub const PLAIN_STEP: &str = "<section>\n<h2>~<span>";
@@ -517,8 +518,8 @@ pub const PLUGS_END: &str = "</table>\n";
 
 pub const BOARD_STEP_END: &str = "</div>\n</section>\n";
 
-/// The table of the pins: its caption, the head of a wheel, and the words with which each settings line of the wheel
-/// begins. Then the cells of pins; the cell of a pin to change is framed.
+/// The texts for the table of pins: its caption, the head of a wheel, and the words with which each settings line of
+/// the wheel begins. After these come the texts for the cells of pins; the cell of a pin to change is framed.
 pub const PINS: Text = (
     "<table class=pins>\n<caption>Pins after: ~ effective, ~ not. Framed pins are to change: ON makes a pin effective, OFF not.</caption>\n",
     "<table class=pins>\n<caption>Stifte nachher: ~ wirksam, ~ unwirksam. Umrahmte Stifte umstellen: EIN macht wirksam, AUS unwirksam.</caption>\n",
@@ -543,8 +544,8 @@ pub const PIN_SHOWN: &str = "~<br>~";
 
 pub const PINS_END: &str = "</table>\n</section>\n";
 
-/// The table of the bars: its caption and head, the head of a bar, and the cells of the bar's places. Then the end of a
-/// bar's row: without a checkbox, with one, or with two.
+/// The texts for the table of bars: its caption and head, the head of a bar's row, and the cells of a bar's places.
+/// After these come the ends of a bar's row: without a checkbox, with one checkbox, or with two checkboxes.
 pub const DRUM: Text = (
     "<table class=drum>\n<caption>~ a lug stays here, ~ a lug leaves, ~ a lug comes. Move the lugs of a bar in the order shown.</caption>\n<thead>\n<tr><th scope=col>Bar<th scope=col>1<th scope=col>0L<th scope=col>2<th scope=col>3<th scope=col>4<th scope=col>5<th scope=col>0R<th scope=col>6<th scope=col colspan=2>Lugs to move\n<tbody>\n",
     "<table class=drum>\n<caption>~ Reiter bleibt, ~ Reiter geht, ~ Reiter kommt. Die Reiter einer Stange in der gezeigten Reihenfolge versetzen.</caption>\n<thead>\n<tr><th scope=col>Stange<th scope=col>1<th scope=col>0L<th scope=col>2<th scope=col>3<th scope=col>4<th scope=col>5<th scope=col>0R<th scope=col>6<th scope=col colspan=2>Reiter versetzen\n<tbody>\n",

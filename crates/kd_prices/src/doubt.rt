@@ -28,7 +28,7 @@ pub enum Doubt {
     /// The sum of the prices isn't the number of lines that change a cable or a bar.
     SumDiffers,
     /// This line is the first that isn't needed. It changes no cable and no bar, and doesn't lower the number of loose
-    /// things by one.
+    /// things by one. A thing is loose if it isn't as the day says; cables and bars are never loose.
     NeedlessLine(usize),
 }
 

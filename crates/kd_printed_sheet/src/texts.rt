@@ -70,8 +70,8 @@ pub const BAR_BELOW_TEN: &str = "<tr><th scope=row>0~<td>~-~";
 
 pub const BAR: &str = "<tr><th scope=row>~<td>~-~";
 
-/// The cell of an effective pin, with the pin's letter. The next two texts are for a pin that isn't effective, and for
-/// a wheel with fewer pins.
+/// The cell of an effective pin, with the pin's letter. The next two texts are the cells for an ineffective pin, and
+/// for a place where the wheel has no pin.
 pub const EFFECTIVE: &str = "<td>~";
 
 pub const INEFFECTIVE: &str = "<td>-";
@@ -96,8 +96,8 @@ pub const COLUMN_NAMES: &str = "day,model,reflector,wheels,rings,plugs,window,gr
 
 pub const LIST_COLUMN_NAMES: &str = ",list,pins 1,pins 2,pins 3,pins 4,pins 5,pins 6,bars";
 
-/// The comma between two cells of a CSV table. The next text has the empty cells of a rotor machine's row, in place of
-/// the key list in a Converter's row.
+/// The comma between two cells of a CSV table. The next text is for a rotor machine's row: empty cells where a
+/// Converter's row has the key list.
 pub const COMMA: &str = ",";
 
 pub const NO_LIST: &str = ",,,,,,,,";

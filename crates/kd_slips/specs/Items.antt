@@ -52,8 +52,8 @@ first_refused reads items =
 unfoldable pub reads_pins : ℕ → Data → Bool
 reads_pins wheel item = is_some (from_text (pins_of_text (ring_of wheel)) item)
 
--- The number of the first wheel whose pins the desk refuses. `None` if the list doesn't have an item for each of the
--- six wheels.
+-- The number of the first wheel whose pins the desk refuses. `None` if the list at the key `pins` doesn't have six
+-- items, one for each wheel.
 unfoldable pub refused_pins : Members → Option ℕ
 refused_pins table = option_map_or (λ items. if length items == 6 then first_refused reads_pins items else None)
     (option_and_then as_items (get_member (key_name keys.Pins) table)) None

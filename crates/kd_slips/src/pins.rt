@@ -102,8 +102,8 @@ fn reads_pins(wheel: u8, item: &Value) -> bool
     }
 }
 
-/// Adds the item number `item` to the slip in `checked`. If `checked` is `Ok`, returns a slip with general words: the
-/// desk refuses the item in any case.
+/// Returns the slip in `checked`, with `item` as the number of its item. If `checked` is `Ok`, returns a slip with
+/// general words, because the desk refuses the item in any case.
 fn at_item(alloc: Global, checked: Result<(), Slip>, item: usize) -> Result<(), Slip>
     ensures refused { IsErr result }
     ensures slip { IfErr result (IsOfItem (Some item)) }

@@ -58,7 +58,7 @@ german_name cells.Pins5 = codes "Stifte 5"
 german_name cells.Pins6 = codes "Stifte 6"
 german_name cells.Bars = codes "Stangen"
 
--- the short German name of a cell's column; if it has no short name, its German name
+-- the short German name of a cell's column; the German name if the column has no short name
 abbrev pub short_name : Cell → List ℕ
 short_name cells.Reflector = codes "UKW"
 short_name cells.Wheels = codes "Walzen"

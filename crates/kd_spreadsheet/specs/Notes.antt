@@ -134,9 +134,9 @@ pub data TellsCells (options : OptionTexts) (columns : Columns) (head : List (Li
       → TellsCells options columns head place row (cell ∷ rest)
       (flat_map (line_at (cell_place columns head place cell)) words ++ note)
 
--- The notes on a row: on columns that the table lacks, then on the row's cells, then on the row as a whole. If the row
--- isn't a day, there is at least one note on the row or on one of its cells. There may be no note if the table lacks a
--- column that the row needs.
+-- The notes on a row: first on columns that the table lacks, then on the row's cells, then on the row as a whole.
+-- Suppose that the row isn't a day, and the table has each column that the row needs. Then there is at least one note
+-- on the row or on its cells.
 pub record TellsRow (options : OptionTexts) (columns : Columns) (head : List (List ℕ)) (number : ℕ)
     (row : List (List ℕ)) (note : List ℕ) : Type 0 where
   pub missing : List (List ℕ)

@@ -96,7 +96,7 @@ pub fn english_name(cell: Cell) -> &'static str
     }
 }
 
-/// The short German name of the column of `cell`. If it has no short name, its German name.
+/// The short German name of the column of `cell`; the German name if the column has no short name.
 pub fn short_name(cell: Cell) -> &'static str
     ensures name { result.now ≡ short_name cell }
     ensures short { length result.now ≤ 32 }

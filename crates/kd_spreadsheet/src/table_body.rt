@@ -20,7 +20,7 @@ pub struct TableBody {
     pub refused: bool,
 }
 
-/// Reads the days of the rows under the first row, and whether one of these rows is refused.
+/// Reads the rows under the first row. Returns the days of these rows, and whether one of these rows is refused.
 pub fn read_body(
     alloc: Global,
     options: &TableOptions<&[u8]>,

@@ -1,4 +1,4 @@
--- The page with which to type on a machine, in language `l`.
+-- The page for typing on a machine, in language `l`.
 use Rattle.std.specs.Prelude.{ℕ, if◌then◌else◌, List, [], ◌∷◌, ◌++◌}
 use Rattle.kd_tables.specs.declared.model.Model.{Model}
 use Rattle.kd_tables.specs.Text.{letters_text}

@@ -1,4 +1,4 @@
-//! The page with which to type on a machine. It has keys, lamps, and a table in which a script looks letters up.
+//! The page for typing on a machine. It has keys, lamps, and a table in which a script looks letters up.
 #![tactic(auto)]
 
 pub mod laws;

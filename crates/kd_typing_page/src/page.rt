@@ -1,4 +1,4 @@
-//! The page with which to type on a machine.
+//! The page for typing on a machine.
 ghost use Rattle.std.specs.Prelude.{◌≡◌, ◌↔◌, IsOk, OnErr, OnOk};
 ghost use Rattle.kd_pictures.specs.Drawing.{Draws};
 ghost use Rattle.kd_state.specs.Machine.{model_of};
@@ -24,8 +24,8 @@ use kd_state::{Machine, NotReady};
 use kd_tables::{Model, Sink};
 use kd_typing::MachineRows;
 
-/// Writes the page with which to type on `machine`, in `language`. A text typed with the page's table becomes the
-/// machine's ciphertext.
+/// Writes the page for typing on `machine`, in `language`. A text typed with the page's table becomes the machine's
+/// ciphertext.
 ///
 /// Returns `NotReady`, and writes nothing, if a slot is empty, or a cable has exactly one letter.
 pub fn draw_typing_page<W: Sink>(

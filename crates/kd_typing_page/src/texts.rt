@@ -1,5 +1,5 @@
-//! The fixed texts of a page with which to type on a machine. Texts with words are in English and in German. In a
-//! template, each sign `~` stands for a value. In the words of the script, values stand in place of `%s`.
+//! The fixed texts of a page for typing on a machine. Texts with words are in English and in German. In a template,
+//! each sign `~` stands for a value. In the words of the script, values stand in place of `%s`.
 
 use kd_pictures::texts::Text;
 
