@@ -58,7 +58,8 @@ impl<const N: usize> Nearest<N> {
         }
     }
 
-    /// If `column` is outside the tree and the column's ceiling is above `offer`, makes `row` the column's nearest row.
+    /// If `column` is outside the tree, and `offer` is below the column's ceiling (the lowest offer so far), makes
+    /// `row` the column's nearest row.
     fn compare(&mut self, reached: bool, row: usize, column: usize, offer: i16, scans: &mut Scans)
         requires column { column < N }
         requires room { scans.old < 4294967295 }

@@ -38,8 +38,8 @@ pub record IsDrawable (m : Parts) (plan : DayPlan) (n : Parts) : Type 0 where
   pub ready : IsReady n
   pub few : length plan.settings.items ≤ 192
 
--- Each day's page can be drawn. The first page starts from machine `m`, each later page from the machine to which the
--- previous plan leads.
+-- Each day's page can be drawn. The first page starts from machine `m`. Each later page starts from the machine to
+-- which the previous plan leads.
 abbrev pub AreDrawable : Parts → List DayPlan → Type 0
 AreDrawable m [] = Unit {0}
 AreDrawable m (plan ∷ plans) = (n : Parts) × IsDrawable m plan n × AreDrawable n plans

@@ -1,4 +1,4 @@
--- Each setting of a day's list changes the thing that it sets.
+-- Each setting of a day's list makes a lasting change to the thing that it sets.
 use Rattle.std.specs.Prelude.{◌≡◌, ◌≢◌, ℕ, true, false, All, Option, Some, option_map}
 use Rattle.kd_tables.specs.declared.lug.Lug.{Lug}
 use Rattle.kd_tables.specs.declared.lug.Lug.TheVariants.{Left, Right}
@@ -50,8 +50,8 @@ Changes m n (PinTo wheel letter effective) =
 Changes m n (LugTo bar lug place) = Becomes (lug_at m bar lug) (lug_at n bar lug) (Some place)
 Changes m n (Turn number letter) = WindowTurns m n number letter
 
--- Each setting of a day's list changes the thing that it sets. Other lists may have settings without a lasting change,
--- such as the first of two turns of one wheel.
+-- Each setting of a day's list makes a lasting change to the thing that it sets. Other lists may have settings without
+-- a lasting change, such as the first of two turns of one wheel.
 abbrev pub DaySettingsChangeThings : Type 0
 DaySettingsChangeThings =
     (m n : Parts) (s : Day) (plan : DayPlan) → IsMachine m → IsLegalDay s → IsDayPlan m s plan n

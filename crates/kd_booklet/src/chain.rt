@@ -15,7 +15,7 @@ use kd_state::{Machine, SheetDay};
 /// The plans of at most 31 days, one after another.
 pub type DayPlans = ArrayVec<DayPlan, 31>;
 
-/// Plans the days `numbers`. The first plan starts from `machine`, each later plan from the machine to which the
+/// Plans the days `numbers`. The first plan starts from `machine`. Each later plan starts from the machine to which the
 /// previous plan leads.
 ///
 /// The fault names the first day that the sheet doesn't have, or that is for another model than the machine's.

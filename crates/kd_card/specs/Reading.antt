@@ -32,8 +32,8 @@ pub record EndsKindsAt {K X : Type 0} (format : KindFormat K X) (last : Option K
   pub ends : EndsGroup format.word bytes
   pub none_more : HasNoNext format last bytes
 
--- A group of kinds doesn't end before `bytes`, but goes on with a bad line. A bad line has no LF, isn't a valid kind's
--- line, or has a kind that doesn't come after `last`.
+-- At the start of `bytes`, a group of kinds goes on, but with a bad line. A bad line has no LF, isn't the line of a
+-- valid kind, or has a kind that doesn't come after `last`.
 pub record IsBadKindAt {K X : Type 0} (format : KindFormat K X) (last : Option K) (bytes : List ℕ) : Type 0 where
   pub goes_on : ¬ (EndsGroup format.word bytes)
   pub none_more : HasNoNext format last bytes

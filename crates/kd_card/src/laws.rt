@@ -32,8 +32,8 @@ pub fn fitting_prices_bound_lists()
     ensures { FittingPricesBoundLists }
 {}
 
-/// Suppose that a list reaches the day, and has no more unpriced settings than there are loose things. Then each
-/// setting of the list is needed.
+/// Suppose that a list reaches the day, and the number of its unpriced settings is at most the number of loose things.
+/// Then each setting of the list is needed.
 ///
 /// A setting is priced if it changes a cable or a bar, and priced settings always count as needed. An unpriced setting
 /// is needed if it lowers the number of loose things by one.

@@ -29,7 +29,7 @@ SettingsHaveOneFault =
 
 -- ---- The laws of a month: its cards set the machine to each day, on an Enigma by the fewest settings in all.
 
--- If cards and machine files are written for one day after another, they set the machine to each of these days.
+-- Cards and machine files that are written for one day after another set the machine to each of these days.
 abbrev pub MonthsSetTheMachine : Type 0
 MonthsSetTheMachine =
     (file sheet numbers : List ℕ) (papers : List CardAndFile) → AreWrittenInTurn file sheet numbers papers

@@ -60,8 +60,8 @@ impl Rotor {
 
     /// The current's path while the letter `window` shows: in to `core`, through `core`, and back.
     ///
-    /// The way in leads through board and wheel. `core` is the path through all that lies further left: to the
-    /// reflector, and back.
+    /// The way in leads through the board and the wheel. `core` is the path through the parts to the left of the wheel:
+    /// to the reflector, and back.
     pub(crate) fn enclose(&self, core: Map, window: Letter) -> Map
         ensures { result ≡ around_wheel self.now.board core (rotor self.now.wheel self.now.ring window) }
     {

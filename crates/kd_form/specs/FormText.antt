@@ -47,7 +47,7 @@ abbrev pub plaintext_byte : Option ℕ → ℕ → ℕ
 plaintext_byte None letter = letter + 65
 plaintext_byte (Some for_space) letter = if letter == for_space then 32 else letter + 65
 
--- the bytes for letters: capital letters, but on the Converter M-209 a space for each Z
+-- the bytes for letters: capital letters; on the Converter M-209, a space for each Z
 abbrev pub plaintext_bytes : Day → List ℕ → List ℕ
 plaintext_bytes s letters = map (plaintext_byte (space_letter s)) letters
 

@@ -10,7 +10,7 @@ use Rattle.kd_form.specs.FormText.{IsAnswerAfter, IsFormAnswer, IsTextOf, IsRefu
 abbrev pub OrdersHaveOneAnswer : Type 0
 OrdersHaveOneAnswer = (s : Day) (order : List ℕ) → HasOneAnswer (IsOrderAnswer s order)
 
--- An order has a right answer: it becomes a form or has a fault.
+-- An order has a right answer: a form or a fault.
 abbrev pub OrderIsAnswered : Day → List ℕ → Type 0
 OrderIsAnswered s order = (answer : Result (List ℕ) FormFault) × IsOrderAnswer s order answer
 
@@ -31,7 +31,7 @@ FormsStayRefused =
     (s : Day) (form more text : List ℕ) (fault : FormFault) → IsRefusedForGood s form text fault
     → IsAnswerAfter s (form ++ more) text (Err fault) × IsRefusedForGood s (form ++ more) text fault
 
--- A form has a right answer: it becomes a text or has a fault.
+-- A form has a right answer: a text or a fault.
 abbrev pub FormIsAnswered : Day → List ℕ → Type 0
 FormIsAnswered s form = (answer : Result (List ℕ) FormFault) × IsFormAnswer s form answer
 

@@ -45,8 +45,8 @@ abbrev pub IsPatternFault : (List ℕ → Type 0) → List ℕ → PatternFault 
 IsPatternFault Is bytes Incomplete = (more : List ℕ) × (more ≢ []) × Is (bytes ++ more)
 IsPatternFault Is bytes Mismatch = (more : List ℕ) → ¬ (Is (bytes ++ more))
 
--- `position` is the position of the first wrong byte in the order's head, counted from 1. A head can begin with the
--- bytes before `position`, but not with these bytes and the wrong byte. If the order ends within its head, `position`
+-- `position` is the position of the first wrong byte in the order's head, counted from 1. The bytes before `position`
+-- can begin a head, but these bytes together with the wrong byte can't. If the order ends within its head, `position`
 -- is one past the order's last byte.
 pub record IsOrderHeadFault (s : Day) (order : List ℕ) (position : ℕ) : Type 0 where
   pub before : List ℕ

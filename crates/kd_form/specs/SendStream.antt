@@ -24,8 +24,8 @@ pub record IsWritableCount (size parts letters written : ℕ) : Type 0 where
   pub writable : (written ≡ 0) ⊎ ((written < parts) × (size * written < letters))
   pub most : (other : ℕ) → other < parts → size * other < letters → other ≤ written
 
--- The bytes `sent` are written before the end of the order is read. If the head isn't complete, or the keys don't suit
--- the day, nothing is written. Otherwise `sent` are the form's first parts; `IsWritableCount` says how many.
+-- `sent` are the bytes that are written before the order's end is read. If the head isn't complete, or the keys don't
+-- suit the day, `sent` is empty. Otherwise `sent` has the form's first parts; `IsWritableCount` says how many.
 pub data IsSentBeforeEnd (s : Day) (order sent : List ℕ) : Type 0 where
   NothingSent : (fault : FormFault) → IsHeadAnswer s order (Err fault) → sent ≡ [] → IsSentBeforeEnd s order sent
   TextBegun : (parts : OrderParts) (front : List ℕ) (written : ℕ) → IsHeadAnswer s order (Ok parts)

@@ -38,7 +38,8 @@ text_letters s text = letters_from (space_letter s) text
 abbrev pub IsByteAnswer : ℕ → ℕ → AnswerRule FormFault (Unit {0})
 IsByteAnswer position byte = Demands (IsTrue (is_text_byte byte)) (BadByte position)
 
--- The result of testing whether all bytes of `text` are allowed in a text. The first of these bytes is at `position`.
+-- The result of testing whether each byte of `text` is allowed in a text. `position` is the position of the first byte
+-- of `text`.
 abbrev pub IsBytesAnswer : ℕ → List ℕ → AnswerRule FormFault (Unit {0})
 IsBytesAnswer position text = InTurn IsByteAnswer position text
 

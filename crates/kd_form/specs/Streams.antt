@@ -1,4 +1,5 @@
--- Kinds of messages: a message's faults, its result, and the text that is written while the message is read.
+-- Kinds of messages. A kind says which faults and which result a message has, and which text is written while the
+-- message is read.
 use Rattle.std.specs.Prelude.{◌≡◌, ◌≢◌, ℕ, ◌≤◌, Bool, true, false, List, [], ◌∷◌, ◌++◌, length, Option, None, Some}
 use Rattle.std.specs.Prelude.{Result, Ok, Err, MatchResult}
 use Rattle.std.specs.Io.{StartsWith}

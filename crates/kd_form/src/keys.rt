@@ -27,7 +27,7 @@ pub struct RotorKeys {
 pub struct PinKeys {
     /// The letter that is enciphered twelve times for the internal key.
     pub chosen: Letter,
-    /// The letters in the windows before the chosen letter is enciphered.
+    /// The letters that the windows show before `chosen` is enciphered.
     pub external: [Letter; 6],
 }
 

@@ -45,7 +45,7 @@ pub record IsDamagedHeading (s : Day) (line : List ℕ) (h : Heading) : Type 0 w
   pub is_heading : IsHeading s h
   pub text : IsLineText (map filled_byte line) (line_of (heading_words h))
 
--- whether the byte may be in a body: a letter, a lost letter, a space, CR or LF
+-- whether the byte is allowed in a body: a letter, a lost letter, a space, CR or LF
 abbrev pub is_body_byte : ℕ → Bool
 is_body_byte byte = is_lost byte || is_text_byte (meant_byte byte)
 
@@ -96,7 +96,7 @@ IsHeadedPartAnswer s h line body = do
 -- The answer for a part that consists of `line` and `body`. The tests come in this order:
 -- - `line` is a heading.
 -- - No letter of the heading is lost.
--- - Each byte of the body may be in a body.
+-- - Each byte of the body is allowed in a body.
 -- - The body has as many letters as the heading says.
 -- - On a Converter, the indicators give the keys.
 abbrev pub IsDamagedLinesAnswer : Day → List ℕ → List ℕ → AnswerRule PartDamage DamagedText

@@ -145,12 +145,12 @@ is_heading_line bytes = is_part_line bytes && (has_digit_line bytes || has_lost_
 
 -- ---- A heading as it came.
 
--- whether the byte may stand in a heading: a capital letter, a digit, a lost sign, `/` or a space
+-- whether the byte is allowed in a heading: a capital letter, a digit, a lost sign, `/` or a space
 abbrev pub is_heading_byte : ℕ → Bool
 is_heading_byte byte =
     is_capital byte || (nat_le 47 byte && nat_le byte 57) || (is_lost byte || byte == 32)
 
--- the sign that the byte means; `?` if this sign may not stand in a heading
+-- the sign that the byte means; `?` if this sign isn't allowed in a heading
 abbrev pub heading_sign : ℕ → ℕ
 heading_sign byte = if is_heading_byte (meant_byte byte) then meant_byte byte else 63
 

@@ -140,7 +140,7 @@ headings_agree None other agree = true
 abbrev pub parts_agree : DamagedPart → DamagedPart → Bool
 parts_agree one other = headings_agree one.numbers other.numbers (may_repeat one other)
 
--- whether `part` can be of one message with each of the other parts
+-- whether `part` agrees with each of the other parts: the two parts can be of one message
 abbrev pub agrees_with_each : DamagedPart → List DamagedPart → Bool
 agrees_with_each part [] = true
 agrees_with_each part (other ∷ others) = parts_agree part other && agrees_with_each part others

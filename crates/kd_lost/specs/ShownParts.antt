@@ -116,8 +116,8 @@ IsReadWhole part =
 abbrev pub IsNumberWhole : List DamagedPart → ℕ → Type 0
 IsNumberWhole parts number = MatchOption (shown_under parts number) ⊥ IsReadWhole
 
--- The part's group or list letters don't show another day or network. These letters can be tested even in a part that
--- isn't read.
+-- The part's group or list letters don't show that the part is of another day or network. These letters can be tested
+-- even in a part that isn't read.
 abbrev pub MayBeOfTheDay : DamagedPart → Type 0
 MayBeOfTheDay part = IsFalse (is_of_other_day part)
 

@@ -18,7 +18,7 @@ pub record HasKeysAround (letters : List ℕ) : Type 0 where
   pub again : take 8 letters ≡ take 8 (drop (length letters - 10) letters)
   pub twice : slice_index letters 0 ≡ slice_index letters 1
 
--- `text` is the text of the Converter's body `letters`, whatever its list letters are.
+-- The body `letters` of a Converter's part has the text `text`. The list letters in `letters` may be any letters.
 pub record IsPinText (s : Day) (letters text : List ℕ) : Type 0 where
   pub around : HasKeysAround letters
   pub on_wheels : IsWindow (sheet_key s) (keys_of_body letters).external
@@ -26,14 +26,14 @@ pub record IsPinText (s : Day) (letters text : List ℕ) : Type 0 where
   pub is_key : IsInternalKey (enciphered_choice s (keys_of_body letters)) internal
   pub is : text ≡ cipher_from s internal (text_of_body letters)
 
--- `text` is the text of the body `letters`, whatever its group or list letters are. If there is an indicator, the body
--- is a rotor machine's; otherwise it is a Converter's.
+-- The body `letters` has the text `text`. The group or list letters in `letters` may be any letters. If there is an
+-- indicator, the body is a rotor machine's; otherwise it is a Converter's.
 abbrev pub IsLettersText : Day → Option Indicator → List ℕ → List ℕ → Type 0
 IsLettersText s (Some i) letters text = text ≡ cipher_from s (deciphered_key s i) (drop 5 letters)
 IsLettersText s None letters text = IsPinText s letters text
 
--- `part` has the heading `h` and the text `text`, whatever its group or list letters are. `receive` also tests the
--- group or the list letters, and the numbers in the heading.
+-- `part` has the heading `h` and the text `text`. The part's group or list letters may be any letters. `receive` also
+-- tests the group or the list letters, and the numbers in the heading.
 pub record IsPartText (s : Day) (part : List ℕ) (h : Heading) (text : List ℕ) : Type 0 where
   pub body : List ℕ
   pub has : HasHeading s part h body

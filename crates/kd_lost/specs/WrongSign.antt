@@ -1,5 +1,5 @@
--- The first wrong sign of a part's body: a byte that may not be in a body. Its position is given by its line, its place
--- among the letters of the line, and its place among all letters of the body.
+-- The first wrong sign of a part's body: a byte that isn't allowed in a body. Its position is given by its line, its
+-- place among the letters of the line, and its place among all letters of the body.
 -- Test: tests/cases/curator-messages.toml
 use Rattle.std.specs.Prelude.{◌≡◌, ◌⊎◌, ℕ, ◌+◌, ◌==◌, IsTrue, IsFalse, List, [], ◌∷◌, ◌++◌, length, All}
 use Rattle.std.specs.Prelude.{Option, MatchOption}
@@ -16,8 +16,8 @@ pub record IsLastLine (bytes line : List ℕ) : Type 0 where
   pub whole : (before ≡ []) ⊎ ((front : List ℕ) × (before ≡ front ++ 10 ∷ []))
   pub without : IsWithout 10 line
 
--- `front` is a prefix of a body, and each byte of `front` may be in a body. `front` ends on line `number` of the part,
--- before letter `letter` of this line. The body begins on line 2.
+-- `front` is a prefix of a body, and each byte of `front` is allowed in a body. `front` ends on line `number` of the
+-- part, before letter `letter` of this line. The body begins on line 2.
 pub record IsReadTo (front : List ℕ) (number letter : ℕ) : Type 0 where
   pub line : List ℕ
   pub allowed : All (λ byte. IsTrue (is_body_byte byte)) front
@@ -25,8 +25,8 @@ pub record IsReadTo (front : List ℕ) (number letter : ℕ) : Type 0 where
   pub on_line : number ≡ count_by (λ byte. byte == 10) front + 2
   pub at_letter : letter ≡ length (received_letters line) + 1
 
--- `sign` describes the first byte of `body` that may not be in a body. It has this byte, its line, and its places among
--- the letters of the line and of the body.
+-- `sign` describes the first byte of `body` that isn't allowed in a body. It has this byte, its line, and its places
+-- among the letters of the line and of the body.
 pub record IsWrongSign (body : List ℕ) (sign : WrongSign) : Type 0 where
   pub front : List ℕ
   pub rest : List ℕ

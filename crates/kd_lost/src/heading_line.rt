@@ -293,7 +293,7 @@ fn has_digit_line(bytes: &[u8]) -> bool
 /// The greatest number of signs of a heading line that `heading_signs` returns.
 const MOST_SIGNS: usize = 64;
 
-/// The first signs of a received heading line, at most 64. `?` stands for each sign that may not be in a heading.
+/// The first signs of a received heading line, at most 64. `?` stands for each sign that isn't allowed in a heading.
 pub(crate) fn heading_signs(line: &[u8]) -> ArrayString<64>
     ensures { result.bytes ≡ heading_signs line.now }
 {
@@ -305,7 +305,7 @@ pub(crate) fn heading_signs(line: &[u8]) -> ArrayString<64>
     signs
 }
 
-/// The sign that `byte` means; `?` if this sign may not stand in a heading.
+/// The sign that `byte` means; `?` if this sign isn't allowed in a heading.
 fn heading_sign(byte: u8) -> u8
     ensures sign { result ≡ heading_sign byte }
     ensures ascii { result < 128 }

@@ -37,11 +37,12 @@ pub struct DamagedPart {
     /// The numbers in the heading. If only the letter count is damaged, and the part is read by count, `letters` is the
     /// number of received letters. With any other damage of the heading, `None`.
     pub numbers: Option<PartNumbers>,
-    /// The first signs of the received heading line, at most 64. `?` stands for each sign that may not be in a heading.
+    /// The first signs of the received heading line, at most 64. `?` stands for each sign that isn't allowed in a
+    /// heading.
     pub heading: ArrayString<64>,
     /// How many letters the received body has, lost ones included.
     pub came: usize,
-    /// The first letters of the body, at most 525. A sign that may not be in a body counts as a lost letter.
+    /// The first letters of the body, at most 525. A sign that isn't allowed in a body counts as a lost letter.
     pub body: ArrayVec<Option<Letter>, 525>,
     /// Whether the group or the list letters in the body are the day's letters. They are tested even if the part isn't
     /// read, but not if its heading is damaged.

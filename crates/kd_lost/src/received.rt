@@ -31,7 +31,7 @@ pub(crate) fn meant_byte(byte: u8) -> u8
     }
 }
 
-/// The byte that `byte` means; B for a lost letter.
+/// B if `byte` is a lost letter, otherwise the byte that `byte` means.
 fn filled_byte(byte: u8) -> u8
     ensures { result ≡ filled_byte byte }
 {
@@ -75,14 +75,14 @@ pub(crate) fn is_spelled(part: &[u8]) -> bool
     part.iter().all(|byte| meant_byte(*byte) == *byte)
 }
 
-/// Whether each byte of `body` may be in a body.
+/// Whether each byte of `body` is allowed in a body.
 pub(crate) fn are_body_bytes(body: &[u8]) -> bool
     ensures { IsTrue result ↔ All (λ byte. IsTrue (is_body_byte byte)) body.now }
 {
     body.iter().all(|byte| is_body_byte(*byte))
 }
 
-/// Whether `byte` may be in a body: a letter, a lost letter, a space, CR or LF.
+/// Whether `byte` is allowed in a body: a letter, a lost letter, a space, CR or LF.
 pub(crate) fn is_body_byte(byte: u8) -> bool
     ensures { result ≡ is_body_byte byte }
 {
@@ -101,7 +101,7 @@ pub(crate) fn received_letters(body: &[u8]) -> ArrayVec<Option<Letter>, 525>
     letters
 }
 
-/// The first letters of a body, at most 525. A sign that may not be in a body counts as a lost letter.
+/// The first letters of a body, at most 525. A sign that isn't allowed in a body counts as a lost letter.
 #[tactic(auto, using(crate::proofs::Bytes::body_more, crate::proofs::Bytes::kept_already))]
 pub(crate) fn body_letters(body: &[u8]) -> ArrayVec<Option<Letter>, 525>
     ensures { result.items ≡ body_letters body.now }

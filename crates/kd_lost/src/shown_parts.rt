@@ -162,7 +162,7 @@ fn are_numbered(parts: &[DamagedPart]) -> bool
     }
 }
 
-/// Whether all parts may be of the day: no group or list letters show another day or network.
+/// Whether all parts may be of the day: no group or list letters show that a part is of another day or network.
 fn may_be_of_the_day(parts: &[DamagedPart]) -> bool
     ensures { IsTrue result ↔ All MayBeOfTheDay parts.now }
 {

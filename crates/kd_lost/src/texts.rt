@@ -7,7 +7,7 @@ use crate::damaged_text::{DamagedText, GroupTest};
 use crate::part::DamagedPart;
 use kd_tables::Letter;
 
-/// The text that is shown of a part: its text or, if there is none, its text by count.
+/// The text that is shown for a part: the part's text or, if there is none, its text by count.
 pub fn shown_text(part: &DamagedPart) -> Option<&DamagedText>
     ensures { MatchOption result
         (shown_text part.now ≡ None)

@@ -5,7 +5,7 @@ ghost use Rattle.kd_lost.specs.WrongSign.{IsFirstWrongSign};
 
 use crate::received::{is_body_byte, is_received, letter_count};
 
-/// A sign that may not be in a body. It is no letter, no lost letter, no blank, and no part of a line end.
+/// A sign that isn't allowed in a body. It is no letter, no lost letter, no blank, and no part of a line end.
 #[derive(Clone, Copy, Debug, PartialEq, Eq)]
 pub struct WrongSign {
     /// The number of the sign's line in the part, counted from 1. The heading is line 1.
@@ -14,7 +14,7 @@ pub struct WrongSign {
     pub letter: usize,
     /// The place of the sign among the letters of the body, counted from 1.
     pub place: usize,
-    /// The byte that may not be in a body.
+    /// The byte that isn't allowed in a body.
     pub byte: u8,
 }
 

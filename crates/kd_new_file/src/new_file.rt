@@ -7,7 +7,7 @@ use crate::new_file_fault::NewFileFault;
 use crate::new_files::NewFiles;
 use std::alloc::Global;
 
-/// How many names are tried, at most, for a new file that isn't whole yet.
+/// The greatest number of temporary names that are tried for an incomplete new file.
 const NAMES: u8 = 100;
 
 /// Begins a new file under another name, in the folder of `name`. Returns this other name, and the empty file.

@@ -40,7 +40,8 @@ row_of (settings.PinTo wheel letter effective) = wheel
 row_of (settings.LugTo bar lug place) = bar
 row_of (settings.Turn slot letter) = slot
 
--- The cell of a setting in the setting's row: the letter of the pin. It is 0 if the row has no cells.
+-- The cell of a setting in the setting's row. For a setting of a pin, this is the pin's letter. For other settings, the
+-- row has no cells, and the result is 0.
 abbrev pub cell_of : Setting → ℕ
 cell_of (settings.RingTo wheel letter) = 0
 cell_of (settings.Seat slot wheel) = 0

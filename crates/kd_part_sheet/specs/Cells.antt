@@ -79,8 +79,9 @@ taken_after taken marks.NotNeeded = taken
 taken_after taken marks.StruckOut = taken
 taken_after taken (marks.Taken wheel) = wheel
 
--- The cells with which the internal key is found. In each cell, `chosen` stands above the line, and the letter printed
--- for it stands below, with a mark. `taken` is the last wheel that took an earlier letter; 0 if none did.
+-- The cells with which the internal key is found. Each cell has the letter `chosen` above the line. Below the line, it
+-- has the letter that was printed for `chosen`, with a mark. `taken` is the last wheel that took a letter before these
+-- cells; 0 if no wheel took one.
 abbrev pub choice_cells : ℕ → ℕ → List ℕ → List Cell
 choice_cells taken chosen [] = []
 choice_cells taken chosen (letter ∷ printed) =

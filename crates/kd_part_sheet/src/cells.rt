@@ -156,10 +156,10 @@ fn text_sign(for_space: &Option<Letter>, letter: Option<Letter>) -> Sign
     }
 }
 
-/// Appends the cells with which the internal key is found. In each cell, `chosen` stands above the line, and the letter
-/// printed for it stands below, with a mark.
+/// Appends the cells with which the internal key is found. Each cell has the letter `chosen` above the line. Below the
+/// line, it has the letter that was printed for `chosen`, with a mark.
 ///
-/// `taken` is the last wheel that took an earlier letter; 0 if none did.
+/// `taken` is the last wheel that took a letter before these cells; 0 if no wheel took one.
 pub fn push_choice<const N: usize>(
     cells: &mut ArrayVec<Cell, N>,
     taken: u8,

@@ -151,7 +151,8 @@ pub const TEXT_STEP: SheetText = (
     ),
 );
 
-/// The second step on a second sheet of paper. The values are the model, the day, the part, and the number of parts.
+/// The start of the second sheet of paper, on which the second step goes on. The values are the model, the day, the
+/// part, and the number of parts.
 pub const NEXT_STEP: SheetText = (
     (
         (

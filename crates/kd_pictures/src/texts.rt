@@ -223,8 +223,8 @@ pub const TITLE_DAY: Text = ("~, day ~, ", "~, Tag ~, ");
 
 pub const TITLE_DAYS: Text = ("~, days ~ to ~, ", "~, Tage ~ bis ~, ");
 
-/// The list of the days in a file with several days. The file's title stands between the first two texts. The values of
-/// an item are the day, the day again, and the number of settings on this day.
+/// The list of the days in a file with several days. The file's title stands between `NAV` and `NAV_LIST`. The values
+/// of `NAV_DAY`, an item of the list, are the day, the day again, and the number of settings on this day.
 pub const NAV: Text = (
     "<nav class=days aria-label=\"Days\">\n<p>",
     "<nav class=days aria-label=\"Tage\">\n<p>",
@@ -246,8 +246,8 @@ pub const ONE_SETTING: Text = ("1 setting", "1 Handgriff");
 
 pub const SETTINGS: Text = (" settings", " Handgriffe");
 
-/// The head of a day. The page's title stands between the first two texts; their values are the day, and the number of
-/// settings. The third text says what to compare first on a Converter.
+/// The head of a day. The page's title stands between `DAY` and `DAY_TITLED`. The value of `DAY` is the day, and the
+/// value of `DAY_TITLED` is the number of settings. `COMPARE_PIN` says what to compare first on a Converter.
 pub const DAY: &str = "<article id=day-~>\n<header>\n<h1>";
 
 pub const DAY_TITLED: Text = (

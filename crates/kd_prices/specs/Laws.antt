@@ -11,7 +11,7 @@ use Rattle.kd_prices.specs.Alike.{ReadAlike, StandAlike}
 use Rattle.kd_prices.specs.Doubt.{IsDoubt}
 use Rattle.kd_prices.specs.declared.doubt.Doubt.{Doubt}
 
--- If a card proves itself, there is no doubt about it.
+-- If a card proves itself, there is no doubt about the card.
 abbrev pub ProvingCardsAreInNoDoubt : Type 0
 ProvingCardsAreInNoDoubt =
     (machine : Parts) (day : Day) (settings : List Setting) (prices : PriceParts) (doubt : Doubt)
@@ -40,8 +40,9 @@ RestIsShortest =
     → Proves machine day settings prices → lines ≤ length settings → Leads machine (take lines settings) between
     → AreShortest between day (drop lines settings) (length settings - lines)
 
--- On a rotor machine, cables with the same letters have equal prices, and so have all columns without a pair. On a
--- Converter, bars with the same standing have equal prices, and so have rows with the same reading.
+-- On a rotor machine, cables with the same letters have equal prices. All columns without a pair also have equal
+-- prices. On a Converter, bars with the same standing have equal prices. Rows with the same reading also have equal
+-- prices.
 pub record AreEqualWhereAlike (machine : Parts) (day : Day) (prices : PriceParts) : Type 0 where
   pub rows :
       (place other : ℕ) → place < table_size prices → other < table_size prices → StandAlike machine place other

@@ -98,9 +98,9 @@ fn bar_prices(
     }
 }
 
-/// Finds the first doubt about a card's `settings`, from the prices of the table's rows and columns.
+/// Finds the first doubt about a card's `settings`, with the prices of the table's rows and columns.
 ///
-/// If `prices` is a doubt, the result is this doubt.
+/// If `prices` is an error, returns this error's doubt.
 fn check_by_prices<const N: usize>(
     machine: &Machine,
     day: &SheetDay,

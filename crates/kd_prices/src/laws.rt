@@ -2,7 +2,7 @@
 //! equal cables or bars.
 ghost use Rattle.kd_prices.specs.Laws.{ProvingCardsAreInNoDoubt, OneDoubt, RestIsShortest, AlikePricesAreEqual};
 
-/// If a card proves itself, there is no doubt about it. No card has two different first doubts.
+/// If a card proves itself, there is no doubt about the card. No card has two different first doubts.
 pub fn a_card_is_in_one_doubt_at_most()
     ensures none { ProvingCardsAreInNoDoubt }
     ensures one { OneDoubt }

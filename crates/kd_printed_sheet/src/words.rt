@@ -23,7 +23,7 @@ pub(crate) trait CellWord<Kind> {
 /// A kind of word in a table's cell: a letter.
 pub(crate) struct SingleLetter;
 
-/// A kind of word in a table's cell: the text that stands for the value in key sheets.
+/// A kind of word in a table's cell: a value, written as in key sheets.
 pub(crate) struct Item;
 
 /// A kind of word in a table's cell: the letter of a wheel in the ground setting.

@@ -1,5 +1,5 @@
--- The number of the list item that a slip's words are about: the first item that the desk's reader refuses. A slip says
--- why a value is refused.
+-- The item number in a slip. A slip says why a value is refused. The number is for the first list item that the desk's
+-- reader refuses, and the slip's words are about this item.
 -- Test: tests/cases/curator-look.toml
 use Rattle.std.specs.Prelude.{◌≡◌, ℕ, ◌==◌, not, Bool, true, List, length, find, Option, Some, None, is_some}
 use Rattle.std.specs.Prelude.{if◌then◌else◌}

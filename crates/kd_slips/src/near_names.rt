@@ -2,7 +2,7 @@
 ghost use Rattle.std.specs.Prelude.{◌≡◌, ◌≤◌, length};
 ghost use Rattle.kd_slips.specs.NearNames.{alike_at_end, alike_at_start, in_common, is_near, larger, smaller};
 
-/// Whether two names are equal apart from one stretch of at most `slips` letters in each name.
+/// Whether two names differ only in one stretch of letters, which has at most `slips` letters in each name.
 #[tactic(auto, unfolding(crate::specs::NearNames::is_near))]
 pub fn is_near(slips: u8, name: &[u8], known: &[u8]) -> bool
     ensures { result ≡ is_near slips name.now known.now }
@@ -15,8 +15,7 @@ pub fn is_near(slips: u8, name: &[u8], known: &[u8]) -> bool
     most <= in_common(name, known) + usize::from(slips)
 }
 
-/// The number of letters shared at the starts of two names plus the number at their ends; at most the shorter name's
-/// length.
+/// How many letters two names share at their starts and at their ends, together; at most the shorter name's length.
 fn in_common(name: &[u8], known: &[u8]) -> usize
     ensures value { result ≡ in_common name.now known.now }
     ensures few { result ≤ length name.now }

@@ -8,8 +8,8 @@ use std::alloc::AllocError;
 /// The reason why a value is refused.
 #[derive(Drop)]
 pub enum Slip {
-    /// The fault that the desk names, the number of the list item that the words are about, and the words. If the words
-    /// aren't about an item, there is no number.
+    /// The fault that the desk names, the number of a list item, and words. The words are about this item; if they
+    /// aren't about an item, the number is `None`.
     Fault(SheetFault, Option<usize>, String),
     /// Memory ran out.
     NoMemory,

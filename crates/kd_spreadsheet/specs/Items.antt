@@ -93,7 +93,7 @@ abbrev pub single : {A : Type 0} → List A → Option A
 single (x ∷ []) = Some x
 single _ = None
 
--- the rule for cells whose words stand between gaps, such as cells of numbers or pairs
+-- the rule for cells whose words are separated by gaps, such as cells of numbers or pairs
 abbrev pub words : Bytes
 words = record { keeps = λ byte. false; alone = λ byte. false }
 

@@ -37,8 +37,7 @@ is_meant columns head cell place =
 unfoldable pub near_from : Columns → List (List ℕ) → Cell → ℕ → ℕ → Option ℕ
 near_from columns head cell place count = find (is_meant columns head cell) (range_with_len place count)
 
--- the first column, among the first 64, that isn't read, but whose name is nearly one of the names for the cell's
--- column
+-- of the first 64 columns, the first unread column whose name is nearly one of the names for the cell's column
 abbrev pub near_column : Columns → List (List ℕ) → Cell → Option ℕ
 near_column columns head cell = near_from columns head cell 0 64
 

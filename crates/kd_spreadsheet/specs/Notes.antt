@@ -64,11 +64,11 @@ unread_line head place =
     if is_blank (cell_at (Some place) head) || is_column_read (columns_of head) place then []
     else codes "column " ++ shown (cell_at (Some place) head) ++ unread_words
 
--- the notes on all unread columns, among `count` columns from `place` on, of a table whose first row is `head`
+-- the notes on a table's unread columns, among the `count` columns from `place` on; `head` is the table's first row
 unfoldable pub unread_from : List (List ℕ) → ℕ → ℕ → List ℕ
 unread_from head place count = flat_map (unread_line head) (range_with_len place count)
 
--- the notes on all unread columns, among the first 64, of a table whose first row is `head`
+-- the notes on a table's unread columns, among the first 64; `head` is the table's first row
 abbrev pub unread_note : List (List ℕ) → List ℕ
 unread_note head = unread_from head 0 64
 
@@ -119,7 +119,7 @@ abbrev pub cell_name : Columns → List (List ℕ) → Cell → List ℕ
 cell_name columns head cell =
     option_map_or (λ place. shown (cell_at (Some place) head)) (column_of columns cell) (option_name cell)
 
--- the words for the place of `cell`: first `row`, the words for the row's place, and then the name of the cell's column
+-- the words for the place of `cell`: the words `row` for the row's place, and then the name of the cell's column
 abbrev pub cell_place : Columns → List (List ℕ) → List ℕ → Cell → List ℕ
 cell_place columns head row cell = row ++ cell_name columns head cell ++ codes ": "
 

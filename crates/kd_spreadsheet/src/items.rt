@@ -23,11 +23,11 @@ pub type Values<T> = ArrayVec<T, 192>;
 /// How a cell is split into words.
 #[derive(Clone, Copy)]
 pub enum WordRule {
-    /// Words stand between gaps.
+    /// Words are separated by gaps.
     Gaps,
-    /// Words stand between gaps, and each letter is a word by itself.
+    /// Words are separated by gaps, and each letter is a word by itself.
     Letters,
-    /// Words stand between gaps, and a hyphen isn't a gap.
+    /// Words are separated by gaps, and a hyphen isn't a gap.
     Hyphens,
 }
 

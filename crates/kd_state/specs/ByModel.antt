@@ -7,8 +7,8 @@ use Rattle.kd_state.specs.declared.machine.parts.Parts.{Parts}
 use Rattle.kd_state.specs.declared.machine.parts.Parts.TheVariants.{Rotor, Pin}
 use Rattle.kd_state.specs.SheetDay.{RotorDay, PinDay, Day, Rotor, Pin}
 
--- the value for a machine and a day. Rotor machines: `rotor machine day`. Converters: `pin machine day`. Machine and
--- day of different sorts: `unlike`.
+-- a value that depends on the sort of the machine and the day: `rotor machine day` for rotor machines, `pin machine
+-- day` for Converters, `unlike` if the machine and the day are of different sorts
 abbrev pub by_model {ℓ} : {X : Type ℓ} → X → (RotorParts → RotorDay → X) → (PinParts → PinDay → X) → Parts → Day → X
 by_model unlike rotor pin (Rotor machine) (Rotor day) = rotor machine day
 by_model unlike rotor pin (Pin machine) (Pin day) = pin machine day

@@ -99,7 +99,7 @@ ReadsAsDayEnciphersAsDay =
 abbrev pub OnKeyIsReady : Type 0
 OnKeyIsReady = (machine : Parts) (day : Day) → IsMachine machine → IsLegalDay day → OnKey machine day → IsReady machine
 
--- A machine on the day's key enciphers as the day asks, starting from the letters that it shows.
+-- A machine on the day's key enciphers by the day's key, starting from the letters that the machine shows.
 abbrev pub OnKeyEnciphersByDaysKey : Type 0
 OnKeyEnciphersByDaysKey =
     (machine : Parts) (day : Day) (text : List ℕ) → IsMachine machine → IsLegalDay day → OnKey machine day

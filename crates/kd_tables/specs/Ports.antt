@@ -69,8 +69,9 @@ pub record FailsAlone (p other : Port) : Type 0 where
   pub failed : IsTrue p.has_failed
   pub well : KeepsFailureFlag other
 
--- The flag tells whether a call returned the error `Device`. If the flag is true, one of the ports `source` and `sink`
--- has failed, and the call didn't make the other port fail. If the flag is false, the call made neither port fail.
+-- The flag tells whether a call returned the error `Device`. If the flag is true, `source` or `sink` has failed, and
+-- the call left the failure flag of the other port as it was. If the flag is false, the call left the failure flags of
+-- both ports as they were.
 abbrev pub FailureAgrees : Port → Port → Bool → Type 0
 FailureAgrees source sink false = KeepsFailureFlag source × KeepsFailureFlag sink
 FailureAgrees source sink true = FailsAlone source sink ⊎ FailsAlone sink source

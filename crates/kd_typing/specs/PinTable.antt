@@ -52,8 +52,8 @@ printed_text table letters (letter ∷ text) =
 
 -- ---- The table of a key.
 
--- Whether wheel `wheel` is in set `number` of wheels. The set's number has six binary digits, for wheels 1 to 6; 1
--- means that the set has the wheel.
+-- Whether wheel `wheel` is in the set of wheels with the number `number`. The set's number has six binary digits, for
+-- wheels 1 to 6; 1 means that the set has the wheel.
 abbrev pub is_in_row : ℕ → ℕ → Bool
 is_in_row number wheel = (nat_le 1 wheel && nat_le wheel 6) && nat_eq (number / 2 ^ (6 - wheel) % 2) 1
 

@@ -14,11 +14,11 @@ use Rattle.kd_enigma.specs.Cipher.{RotorKey, IsPlugboard, path, product, rotors}
 
 -- The table of a rotor machine.
 -- - `into` has a row for each letter in the right window. The row says which place each key's current reaches through
---   the plugboard and the right wheel.
+-- the plugboard and the right wheel.
 -- - `core` has a row for each combination of letters in the other windows: the places at which the current comes out of
---   the core.
--- - `steps` has a number for each pair of letters in the middle and the right window: how many wheels move at the next
---   key press.
+-- the core.
+-- - `steps` has a number for each pair of letters in the middle and the right window. The number says how many wheels
+-- move at the next key press.
 pub record RotorTable : Type 0 where
   pub into : List (List ℕ)
   pub core : List (List ℕ)
@@ -37,7 +37,7 @@ right_slot slots = drop (length slots - 1) slots
 abbrev pub letter_in : List ℕ → ℕ → ℕ
 letter_in window from_right = slice_index window (length window - (from_right + 1))
 
--- the number of the core's row for a list of window letters; in base 26, these letters are the digits of the number
+-- the number of the row in `core` for a list of window letters; in base 26, these letters are the number's digits
 abbrev pub row_number : List ℕ → ℕ
 row_number [] = 0
 row_number (letter ∷ letters) = letter * 26 ^ length letters + row_number letters

@@ -16,9 +16,9 @@ use kd_tables::{Letter, Sink};
 impl RotorRows {
     /// Writes the table as lines, with LFs between them.
     ///
-    /// The first line has a digit for each pair of letters in the middle and the right window: how many wheels move at
-    /// the next key press. Then come the rows of the right wheel, from A on. Last come the rows of the core, in the
-    /// alphabetical order of the core's window letters.
+    /// The first line has a digit for each pair of letters in the middle and the right window. The digit says how many
+    /// wheels move at the next key press. Then come the rows of the right wheel, from A on. Last come the rows of the
+    /// core, in the alphabetical order of the core's window letters.
     #[tactic(auto, using(crate::proofs::TableTexts::rotor_text_is))]
     pub fn draw<W: Sink>(&self, sink: &mut W)
         ensures { Draws W.taken W.has_failed sink.old sink.new
@@ -36,8 +36,8 @@ impl RotorRows {
         draw_windows(sink, self.wheels());
     }
 
-    /// A line with a digit for each pair of letters in the middle and the right window: how many wheels move at the
-    /// next key press.
+    /// A line with a digit for each pair of letters in the middle and the right window. The digit says how many wheels
+    /// move at the next key press.
     fn steps_line(&self) -> ArrayString<676>
         ensures { result.bytes ≡ digits_text (rotor_table self.now).steps }
     {

@@ -7,7 +7,7 @@ use arrayvec::ArrayVec;
 use kd_state::SheetDay;
 use kd_tables::Letter;
 
-/// `letters` as bytes: capital letters, but on the Converter M-209 a space for each Z.
+/// `letters` as bytes: capital letters; on the Converter M-209, a space for each Z.
 pub(crate) fn plaintext_bytes<const N: usize>(day: &SheetDay, letters: &[Letter]) -> ArrayVec<u8, N>
     requires { length letters.now ≤ N }
     ensures { result.items ≡ plaintext_bytes day.now letters.now }

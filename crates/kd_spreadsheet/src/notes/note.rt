@@ -77,8 +77,7 @@ pub fn row_place(alloc: Global, number: u64, day: Option<u8>) -> Result<Vec<u8>,
     Ok(place)
 }
 
-/// The words for the place of `cell`: first `row`, the words for the row's place, and then the name of the cell's
-/// column.
+/// The words for the place of `cell`: the words `row` for the row's place, and then the name of the cell's column.
 pub fn cell_place(head: &Head<'_>, row: &[u8], cell: Cell) -> Result<Vec<u8>, AllocError>
     ensures { IfOk result (λ place. place.items
         ≡ cell_place head.now.columns head.now.names row.now cell) }

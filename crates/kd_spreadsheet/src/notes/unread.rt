@@ -11,7 +11,7 @@ use crate::row::is_column_read;
 use csv::ByteRecord;
 use std::alloc::{AllocError, Global};
 
-/// The notes on unread columns, among the first 64, of a table whose first row is `head`.
+/// The notes on a table's unread columns, among the first 64. `head` is the table's first row.
 pub fn unread_note(alloc: Global, head: &ByteRecord) -> Result<Vec<u8>, AllocError>
     ensures { IfOk result (λ note. note.items ≡ unread_note (fields_of head.now)) }
 {

@@ -128,7 +128,7 @@ fn seated_wheels(parts: &RotorParts) -> Option<ArrayVec<SheetWheel, 4>>
     Some(wheels)
 }
 
-/// The wheel in `seated` with its ring and its window letter. `None` if there is no wheel.
+/// The wheel `seated`, with its ring and its window letter. `None` if there is no wheel.
 fn seated_wheel(parts: &RotorParts, seated: Option<Wheel>) -> Option<SheetWheel>
     requires rings { length parts.now.rings ≡ length (box_of parts.now.model) }
     requires letters { length parts.now.letters ≡ length (box_of parts.now.model) }
