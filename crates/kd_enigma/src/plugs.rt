@@ -60,7 +60,7 @@ impl Plugs {
         Ok(Plugs { table })
     }
 
-    /// The letter that a cable exchanges `letter` for, or `letter` itself.
+    /// The letter that a cable exchanges with `letter`; if no cable has `letter`, then `letter` itself.
     pub fn swap(self, letter: Letter) -> Letter
         ensures value { result ≡ slice_index self letter }
         ensures within { result < 26 }

@@ -23,7 +23,7 @@ pub record Message : Type 1 where
   pub becomes : List ℕ → List ℕ → Type 0
   pub written_before : Option FormFault → List ℕ → List ℕ → Type 0
 
--- The bytes have no fault so far. A call must have written exactly `text` before the call reads the next byte.
+-- The bytes have no fault so far. Before a call reads the next byte, it must have written exactly `text`.
 pub record IsOpen (m : Message) (bytes text : List ℕ) : Type 0 where
   pub unrefused : (fault : FormFault) → ¬ (m.stands bytes fault)
   pub written : m.written_before None bytes text

@@ -11,7 +11,7 @@ pub struct Heading {
     pub parts: u8,
     /// The number of letters in the body.
     pub letters: usize,
-    /// The indicator of a rotor machine's part; `None` on the Converter M-209.
+    /// The indicator of a rotor machine's message part; `None` on the Converter M-209.
     pub indicator: Option<Indicator>,
 }
 

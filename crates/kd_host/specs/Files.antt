@@ -75,8 +75,9 @@ pub record MissesOne (names : List (List ℕ)) (old new : List AskedName) : Type
   pub names_are : names ≡ before ++ name ∷ after
   pub asked : new ≡ old ++ (map asked_and_had before ++ asked_and_missed name ∷ [])
 
--- The list `new` is the list `old`, followed by the file names that the program asked for. With the flag `true`, these
--- are all of `names`. With `false`, they end with the first name whose file couldn't be read or opened.
+-- The list `new` is the list `old`, followed by the file names that the program asked for. With the flag `true`, the
+-- program asked for all of `names`. With `false`, it asked for the names up to the first one whose file couldn't be
+-- read or opened.
 abbrev pub AreAskedFor : List (List ℕ) → List AskedName → List AskedName → Bool → Type 0
 AreAskedFor names old new true = new ≡ old ++ map asked_and_had names
 AreAskedFor names old new false = MissesOne names old new

@@ -74,7 +74,7 @@ signs_agree (sign ∷ one) (again ∷ other) = sign_agrees sign again && signs_a
 signs_agree [] other = true
 signs_agree (sign ∷ one) [] = true
 
--- whether the headings of two parts may have the same keys
+-- whether the keys in the headings of two parts agree at each sign; a lost sign agrees with any sign
 abbrev pub keys_agree : DamagedPart → DamagedPart → Bool
 keys_agree one other = signs_agree (key_signs one.heading.bytes) (key_signs other.heading.bytes)
 

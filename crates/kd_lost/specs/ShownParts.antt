@@ -81,8 +81,8 @@ abbrev pub text_in : Option DamagedPart → Option DamagedText
 text_in None = None
 text_in (Some part) = shown_text part
 
--- Whether the part that is shown under a heading's number has all letters of `text`. True if the heading is damaged, or
--- if there is no text.
+-- Whether a part has all letters of `text`: the part that is shown under the number in a heading. True if the heading
+-- is damaged, or if there is no text.
 abbrev pub is_covered_by : List DamagedPart → Option DamagedText → Option PartNumbers → Bool
 is_covered_by parts text None = true
 is_covered_by parts text (Some numbers) = text_within text (text_in (shown_under parts numbers.part))

@@ -228,7 +228,7 @@ fn are_right(least: usize, word: &[u8], bytes: &[u8]) -> bool
     right_signs(word, bytes) >= least
 }
 
-/// Whether the first line of `bytes` has the sign of `word`, or a lost sign, at `least` or more places of `word`.
+/// Whether `word` has at least `least` places at which the first line of `bytes` has the same sign or a lost sign.
 fn are_fitting(least: usize, word: &[u8], bytes: &[u8]) -> bool
     ensures { result ≡ nat_le least (fitting_signs word.now bytes.now) }
 {

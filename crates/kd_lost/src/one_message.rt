@@ -102,7 +102,7 @@ fn count_signs(heading: &[u8]) -> &[u8]
     first_word(later_words(later_words(heading)))
 }
 
-/// Whether the headings of two parts may have the same keys.
+/// Whether the keys in the headings of two parts agree at each sign; a lost sign agrees with any sign.
 fn keys_agree(one: &DamagedPart, other: &DamagedPart) -> bool
     ensures { result ≡ keys_agree one.now other.now }
 {

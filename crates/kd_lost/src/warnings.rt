@@ -14,7 +14,7 @@ use kd_form::day_machine::slots_of;
 use kd_state::SheetDay;
 use kd_tables::Letter;
 
-/// Tests whether `received`, the group of a rotor machine's part, is one of the day's groups.
+/// Tests whether `received`, the group of a rotor machine's message part, is one of the day's groups.
 pub(crate) fn test_group(day: &SheetDay, received: &[Option<Letter>]) -> GroupTest
     requires { length received.now ≡ 3 }
     ensures { IsGroupTest day.now received.now result }

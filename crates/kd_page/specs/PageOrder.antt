@@ -19,7 +19,7 @@ settings_at spot settings = filter (is_at spot) settings
 abbrev pub row_by_row : Step → List ℕ → List Setting → List Setting
 row_by_row step rows settings = flat_map (λ row. settings_at (row_spot step row) settings) rows
 
--- the pins' settings, wheel by wheel, and on each wheel letter by letter
+-- the settings of pins, ordered by wheel, and for each wheel by letter
 abbrev pub pin_by_pin : List Setting → List Setting
 pin_by_pin settings =
     flat_map (λ wheel. flat_map (λ letter. settings_at (pin_spot wheel letter) settings) alphabet) PIN_WHEELS

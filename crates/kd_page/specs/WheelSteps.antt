@@ -21,7 +21,7 @@ use Rattle.kd_page.specs.Page.{Page}
 use Rattle.kd_page.specs.Spots.{count_at, step_spot}
 use Rattle.kd_page.specs.Steps.{idle_text, list_text, step_text}
 
--- `wheel` if no slot holds the wheel, so that the second argument is `None`; otherwise `None`
+-- `wheel` if the second argument, the slot that holds the wheel, is `None`; otherwise `None`
 abbrev pub unless_held : Wheel → Option ℕ → Option Wheel
 unless_held wheel None = Some wheel
 unless_held wheel (Some slot) = None

@@ -100,7 +100,7 @@ abbrev pub cell_with : Results → Cell → Cell
 cell_with Shown cell = cell
 cell_with LeftOpen cell = open_cell cell
 
--- the cells, with their results or, if the results are left open, as a worksheet has them
+-- the cells with their results; if the results are left open, the cells are as on a worksheet
 abbrev pub cells_with : Results → List Cell → List Cell
 cells_with results cells = map (cell_with results) cells
 

@@ -197,7 +197,7 @@ fn mark_of(taken: u8, letter: Letter) -> Mark
     }
 }
 
-/// The last wheel that took a printed letter, after a letter with the mark `mark` is printed.
+/// The last wheel that has taken a letter, after one more letter is printed. `mark` is the mark of this letter.
 ///
 /// `taken` is the last wheel that took an earlier letter; 0 if none did.
 fn taken_after(taken: u8, mark: Mark) -> u8

@@ -105,7 +105,7 @@ pub struct Warnings {
     pub copies_lost: bool,
     /// The form's group or list letters don't belong to the day.
     pub wrong_day: bool,
-    /// A letter of the group is lost, or a list letter is lost in both copies.
+    /// The day can't be tested: a letter of the group is lost, or a list letter is lost in both copies.
     pub not_tested: bool,
 }
 

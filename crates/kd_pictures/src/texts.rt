@@ -493,8 +493,8 @@ pub const GOES_OUT: &str =
 pub const GOES_IN: &str =
     "<text class=\"bold\" x=\"~\" y=\"~\" font-size=\"22\">~</text>\n<circle class=\"in\" cx=\"~\" cy=\"~\" r=\"15\"/>\n<text class=\"on\" x=\"~\" y=\"~\" font-size=\"17\">~</text>\n";
 
-/// The captions, which say what a plugboard's marks mean. Two of the captions are followed by the head of a table of
-/// the plugs to move. Last, a row of this table, for one cable.
+/// The captions, which say what a plugboard's marks mean. `PLUGS_OUT` and `PLUGS_IN` also have the head of a table of
+/// the plugs to move. `PLUG_ROW` is a row of this table, for one cable.
 pub const CAPTION_SAME: Text = (
     "After. Circle: stays. Number: the cable’s.</figcaption></figure>\n",
     "Nachher. Kreis: bleibt. Zahl: Nummer der Schnur.</figcaption></figure>\n",
@@ -567,8 +567,8 @@ pub const BOXES: &str = "\n";
 
 pub const DRUM_END: &str = "</table>\n</section>\n";
 
-/// The test of the machine after the settings: the keys to press, and the letters that light up or are printed. Then
-/// the letters to set again, and the number of settings.
+/// The test of the machine after the settings: the keys to press, the letters that light up or are printed, the letters
+/// to set again, and the number of settings.
 pub const TEST_ROTOR: Text = (
     "<p>Type the alphabet. The lamps have to give the second line:</p>\n<pre>",
     "<p>Das Alphabet eintippen. Die Lampen müssen die zweite Zeile ergeben:</p>\n<pre>",
@@ -652,8 +652,8 @@ pub const MIDDLE: Text = ("middle", "Mitte");
 
 pub const RIGHT: Text = ("right", "rechts");
 
-/// The names of the two pictures. Then the classes of cables: with a plug to take out, with a plug to put in, or
-/// without a plug to move.
+/// The names of the two pictures. `OUT_CLASS`, `IN_CLASS` and `PLAIN` are the classes of cables: with a plug to take
+/// out, a plug to put in, or no plug to move.
 pub const BEFORE: Text = ("before", "vorher");
 
 pub const AFTER: Text = ("after", "nachher");

@@ -18,12 +18,14 @@ use Rattle.kd_sheet.specs.declared.key.Key.TheVariants as keys
 use Rattle.kd_slips.specs.declared.slip.Slip.{Slip}
 use Rattle.kd_slips.specs.declared.slip.Slip.TheVariants as slips
 
--- The slip has the fault `fault`, and its words are about item `item`; or the slip is `NoMemory`.
+-- If the slip has a fault, the fault is `fault`, and the slip's words are about item `item`. The slip `NoMemory` always
+-- satisfies this definition.
 abbrev pub HasFault : SheetFault → Option ℕ → Slip → Type 0
 HasFault fault item (slips.Fault found told words) = (found ≡ fault) × (told ≡ item)
 HasFault fault item slips.NoMemory = Unit {0}
 
--- The slip's words are about item `item`; or the slip is `NoMemory`.
+-- If the slip has a fault, the slip's words are about item `item`. The slip `NoMemory` always satisfies this
+-- definition.
 abbrev pub IsOfItem : Option ℕ → Slip → Type 0
 IsOfItem item (slips.Fault found told words) = told ≡ item
 IsOfItem item slips.NoMemory = Unit {0}
@@ -33,7 +35,8 @@ abbrev pub row_in : SheetFault → Option ℕ
 row_in (BadRow number) = Some number
 row_in fault = None
 
--- The slip's words are about the item whose number is in the slip's fault; or the slip is `NoMemory`.
+-- If the slip has a fault, the slip's words are about the item whose number the fault gives. The slip `NoMemory` always
+-- satisfies this definition.
 abbrev pub IsOfItsRow : Slip → Type 0
 IsOfItsRow (slips.Fault found told words) = told ≡ row_in found
 IsOfItsRow slips.NoMemory = Unit {0}

@@ -73,7 +73,8 @@ names_column cell text =
 
 -- ---- The columns of a table.
 
--- the first of `count` columns, from `place` on, with one of the three names of the cell's column
+-- the first column whose name is one of the three names for `cell`; only the `count` columns from `place` on are
+-- searched
 unfoldable pub column_from : Cell → List (List ℕ) → ℕ → ℕ → Option ℕ
 column_from cell head place count =
     find (λ at. names_column cell (cell_at (Some at) head)) (range_with_len place count)

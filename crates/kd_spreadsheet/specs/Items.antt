@@ -38,14 +38,15 @@ cell_words bytes cell =
     if nat_le (length cell) 192 && nat_le (length (words_of (item_text bytes cell))) 192
     then Some (words_of (item_text bytes cell)) else None
 
--- The values of all words that aren't empty. `None` if one of these words has no value.
+-- The values of all words that aren't empty. `None` if one of these words can't be read as a value.
 abbrev pub values_of_words : {A : Type 0} → (List ℕ → Option A) → List (List ℕ) → Option (List A)
 values_of_words parse [] = Some []
 values_of_words parse ([] ∷ rest) = values_of_words parse rest
 values_of_words parse ((byte ∷ word) ∷ rest) =
     option_and_then (λ value. option_map (λ values. value ∷ values) (values_of_words parse rest)) (parse (byte ∷ word))
 
--- The values of a cell's words, as `parse` reads them. `None` if a word has no value, or the cell is too long.
+-- The values of a cell's words, as `parse` reads them. `None` if a word can't be read as a value, or the cell is too
+-- long.
 abbrev pub values_in : {A : Type 0} → Bytes → (List ℕ → Option A) → List ℕ → Option (List A)
 values_in bytes parse cell = option_and_then (values_of_words parse) (cell_words bytes cell)
 

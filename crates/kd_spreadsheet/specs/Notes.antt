@@ -90,7 +90,7 @@ pub record IsTaken (options : OptionTexts) (table : List ℕ) (days : List Day) 
   pub has : HasHead table head
   pub is : note ≡ taken_note head days
 
--- The table means days, and the note on the table was written.
+-- The table means a list of days, and the note on the table was written.
 abbrev pub TellsTaken : OptionTexts → List ℕ → Port → Type 0
 TellsTaken options table notes =
     (days : List Day) × (note : List ℕ) × IsTaken options table days note × TellsText notes note

@@ -19,8 +19,8 @@ pins_at ring column row = do
   text ← joined (cell_at (Some place) row)
   pins_of_text ring text
 
--- The pins of all six wheels. Wheels 1 to 3 have the pins `one`, `two` and `three`. The pins of wheels 4 to 6 are in
--- the row.
+-- The pins of all six wheels. Wheels 1 to 3 have the pins `one`, `two` and `three`. The pins of wheels 4 to 6 come from
+-- the cells of `row`.
 abbrev pub pins_after : List (Option ℕ) → List (List ℕ) → List Bool → List Bool → List Bool → Option PinSet
 pins_after columns row one two three = do
   four ← pins_at (ring_of 4) (slice_index_or columns 3 None) row

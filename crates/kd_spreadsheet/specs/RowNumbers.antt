@@ -20,7 +20,8 @@ pub data RowPlace : Type 0 where
   AtStart : Bool → RowPlace
   Within : Quoting → RowPlace
 
--- The numbers of the rows, other than empty rows, that start in a table's bytes. The first byte is in row `number`.
+-- The numbers of the rows, except empty rows, that start in the given bytes of a table. The first byte is in row
+-- `number`.
 abbrev pub numbers_from : ℕ → RowPlace → ℕ → List ℕ → List ℕ
 numbers_from separator place number [] = []
 numbers_from separator (AtStart after_return) number (byte ∷ bytes) =

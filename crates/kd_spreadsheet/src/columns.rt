@@ -142,7 +142,8 @@ fn column_named(head: &ByteRecord, cell: Cell) -> Option<usize>
     column_from(head, cell, 0, COLUMNS)
 }
 
-/// The first of `count` columns, from `place` on, whose name is one of the three names for `cell`.
+/// The first column whose name is one of the three names for `cell`. Only the `count` columns from `place` on are
+/// searched.
 #[tactic(auto, unfolding(crate::specs::Columns::column_from))]
 fn column_from(head: &ByteRecord, cell: Cell, place: usize, count: usize) -> Option<usize>
     requires { place + count ≤ 64 }

@@ -14,7 +14,7 @@ use arrayvec::ArrayVec;
 use kd_sheet::reading_of_text;
 use kd_tables::{Letter, Reading, Wheel, split_words};
 
-/// The greatest number of bytes, words and values that a cell may have.
+/// At most this many bytes are allowed in a cell, and at most this many words, and this many values.
 pub const CELL_LIMIT: usize = 192;
 
 /// The values in a cell, at most 192.
@@ -60,7 +60,7 @@ pub trait FromWord {
     /// How a cell with values of this type is split into words.
     ghost rule: { WordRule };
 
-    /// The value of a word; `None` if the word has no value.
+    /// The value of a word; `None` if the word can't be read as a value.
     ghost parse: { List ℕ → Option Self };
 
     fn rule() -> WordRule
@@ -94,7 +94,7 @@ pub fn number_in(cell: &[u8]) -> Option<u8>
     }
 }
 
-/// The values of a cell's words. `None` if a word has no value, or the cell is too long.
+/// The values of a cell's words. `None` if a word can't be read as a value, or the cell is too long.
 pub fn values_in<T: FromWord + Copy + Default>(cell: &[u8]) -> Option<Values<T>>
     ensures { option_map (λ values. values.items) result ≡ values_in (bytes_of T.rule) T.parse cell.now }
 {
@@ -109,7 +109,7 @@ pub fn values_in<T: FromWord + Copy + Default>(cell: &[u8]) -> Option<Values<T>>
     Some(values)
 }
 
-/// Appends the bytes of `cell` in normal form. A space stands after each byte that is a word by itself by `rule`.
+/// Appends the bytes of `cell` in normal form. A space stands after each byte that is a word by itself, as `rule` says.
 pub fn push_item_text(text: &mut ArrayVec<u8, 384>, rule: WordRule, cell: &[u8])
     requires { length text.old.items + 2 * length cell.now ≤ 384 }
     ensures { text.new.items ≡ text.old.items ++ item_text (bytes_of rule) cell.now }
@@ -252,7 +252,7 @@ impl FromWord for Reading {
     }
 }
 
-/// Appends the values of all words that aren't empty. `None` if one of these words has no value.
+/// Appends the values of all words that aren't empty. `None` if one of these words can't be read as a value.
 fn push_values<T: FromWord + Copy + Default>(values: &mut Values<T>, words: &[&[u8]]) -> Option<()>
     requires { length values.old.items + length words.now ≤ 192 }
     ensures { option_map (λ _. values.new.items) result

@@ -70,7 +70,8 @@ fn pins_at<const N: usize>(
     pins_of_text(ring, text.as_slice())
 }
 
-/// The pins of all six wheels. Wheels 1 to 3 have the pins `w1`, `w2` and `w3`. The pins of wheels 4 to 6 are in `row`.
+/// The pins of all six wheels. Wheels 1 to 3 have the pins `w1`, `w2` and `w3`. The pins of wheels 4 to 6 come from the
+/// cells of `row`.
 fn pins_after(
     columns: &Columns,
     row: &ByteRecord,

@@ -62,8 +62,8 @@ is_in_row number wheel = (nat_le 1 wheel && nat_le wheel 6) && nat_eq (number / 
 abbrev pub bars_met_in_row : List (ℕ × ℕ) → ℕ → ℕ
 bars_met_in_row bars number = count_by (λ bar. is_in_row number bar.0 || is_in_row number bar.1) bars
 
--- The letters that are printed for A to Z while exactly the wheels of set `number` have an effective acting pin. The
--- set's number has six binary digits, for wheels 1 to 6; 1 means that the set has the wheel.
+-- The letters that are printed for A to Z while the wheels of set `number`, and no other wheels, have an effective
+-- acting pin. The set's number has six binary digits, for wheels 1 to 6; 1 means that the set has the wheel.
 unfoldable pub pin_row : PinKey → ℕ → List ℕ
 pin_row key number = map (λ letter. (25 + bars_met_in_row key.bars number - letter) % 26) alphabet
 

@@ -57,7 +57,7 @@ fn around_one(core: &[Letter; 26], seated: SheetWheel, letter: Letter) -> [Lette
     row
 }
 
-/// The place that the current from `letter` reaches through `wiring` turned by `by` places.
+/// The place that the current from `letter` reaches through `wiring`, if `wiring` is turned by `by` places.
 #[tactic(auto, using(crate::proofs::WaysAround::turned_at))]
 fn through(wiring: &[Letter; 26], by: Letter, letter: Letter) -> Letter
     ensures value { result ≡ slice_index (wiring_turned_by by wiring.now) letter }

@@ -36,7 +36,8 @@ impl PinRows {
         }
     }
 
-    /// The letters that are printed for A to Z while exactly the wheels of set `number` have an effective acting pin.
+    /// The letters that are printed for A to Z while the wheels of set `number`, and no other wheels, have an effective
+    /// acting pin.
     ///
     /// The set's number has six binary digits, for wheels 1 to 6; 1 means that the set has the wheel.
     pub fn row_at(&self, number: usize) -> [Letter; 26]

@@ -15,7 +15,7 @@ use arrayvec::ArrayVec;
 use kd_state::SheetDay;
 use kd_tables::Letter;
 
-/// Tests the group of a rotor machine's part, and deciphers the letters after the group.
+/// Tests the group of a rotor machine's message part, and deciphers the letters after the group.
 #[tactic(auto, using(crate::proofs::MadeParts::key_is_window))]
 fn decipher_rotor_body(
     day: &SheetDay,

@@ -102,7 +102,7 @@ pub fn indicator_of(machine: &mut DayMachine, keys: &RotorKeys) -> Indicator
     }
 }
 
-/// The body of a rotor machine's part: two fillers, the group, and `text` enciphered with the message key.
+/// The body of a rotor machine's message part: two fillers, the group, and `text` enciphered with the message key.
 pub fn rotor_letters(
     machine: &mut DayMachine,
     keys: &RotorKeys,

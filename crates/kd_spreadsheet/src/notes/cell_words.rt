@@ -39,8 +39,8 @@ pub fn cell_words(cell: Cell, model: Option<Model>, text: &[u8]) -> Words {
     words
 }
 
-/// Writes a line for each word of `text` that has no value: the word, then `what`, for example " isn't a wheel". If the
-/// cell is blank or too long, says so.
+/// Writes a line for each word of `text` that can't be read as a value: the word, then `what`, for example " isn't a
+/// wheel". If `text` is blank or too long, says so.
 pub fn item_words<T: FromWord + Copy>(lines: &mut Words, text: &[u8], what: &str) {
     if is_blank(text) {
         lines.tell(NOTHING);
@@ -49,8 +49,8 @@ pub fn item_words<T: FromWord + Copy>(lines: &mut Words, text: &[u8], what: &str
     }
 }
 
-/// Writes a line for each word of `text` that has no value: the word, then `what`. Returns false if the cell is too
-/// long.
+/// Writes a line for each word of `text` that can't be read as a value: the word, then `what`. Returns false if `text`
+/// is too long.
 fn has_told_words<T: FromWord + Copy>(lines: &mut Words, text: &[u8], what: &str) -> bool {
     if text.len() > CELL_LIMIT {
         return false;
@@ -66,7 +66,7 @@ fn has_told_words<T: FromWord + Copy>(lines: &mut Words, text: &[u8], what: &str
     }
 }
 
-/// Writes a line for each word in `words` that has no value: the word, then `what`.
+/// Writes a line for each word in `words` that can't be read as a value: the word, then `what`.
 fn tell_words<T: FromWord + Copy>(lines: &mut Words, words: &[&[u8]], what: &str) {
     for word in words {
         if !word.is_empty() && T::read_word(word).is_none() {
