@@ -35,7 +35,7 @@ pub record IsDayFault (model : Model) (month : List (Option Day)) (number : ℕ)
   pub day : fault.day ≡ number
   pub lacks : LacksDay model month number fault.why
 
--- Of the days in a list, `fault` names the first day that can't be planned, and says why.
+-- `fault` names the first of the listed days that can't be planned, and says why.
 abbrev pub IsFirstFault : Model → List (Option Day) → List ℕ → DayFault → Type 0
 IsFirstFault model month [] fault = ⊥
 IsFirstFault model month (number ∷ numbers) fault =

@@ -111,7 +111,7 @@ pub record IsOnlyKey {K X : Type 0} (format : KindFormat K X) (text : List ℕ) 
 
 -- ---- kinds of a card
 
--- If there is a kind `last`, the kind `next` comes after it in the order of a card's lines.
+-- The kind `next` comes after the kind `last` in the order of a card's lines, if there is a kind `last`.
 abbrev pub ComesAfter : {K X : Type 0} → KindFormat K X → Option K → K → Type 0
 ComesAfter format None next = Unit {0}
 ComesAfter format (Some last) next = KeyComesBefore format (format.kind last).key (format.kind next).key

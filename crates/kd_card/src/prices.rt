@@ -43,7 +43,7 @@ impl Version {
     }
 }
 
-/// The table of costs that a card's prices are for: of cables and columns, or of bars and rows.
+/// The table of costs that a card's prices are for: the table of cables and columns, or the table of bars and rows.
 #[derive(Clone, Copy)]
 pub(crate) enum CostTable {
     Cables,

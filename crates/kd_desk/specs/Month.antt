@@ -1,5 +1,5 @@
--- A month on one machine: its cards and machine files, and what they promise. Each day has a card, and a machine file
--- for the machine after the card's settings.
+-- A month on one machine: the cards and machine files of its days, and what these cards and files guarantee. Each day
+-- has a card, and a machine file for the machine after the card's settings.
 -- Test: tests/guide
 use Rattle.std.specs.Prelude.{◌≡◌, ◌⊎◌, ℕ, List, [], ◌∷◌, false, Option, Some, Result, Ok, IfOk}
 use Rattle.std.specs.List.{AllZip}
@@ -72,11 +72,11 @@ SetTheMachineInTurn file sheet (number ∷ numbers) (papers ∷ more) =
     SetTheMachine file sheet number papers × SetTheMachineInTurn papers.file sheet numbers more
 SetTheMachineInTurn file sheet numbers papers = ⊥
 
--- `days` has the month's day for each of `numbers`, in the same order.
+-- For each of `numbers`, in order, `days` has the month's day with this number.
 abbrev pub AreDaysOf : List (Option Day) → List ℕ → List Day → Type 0
 AreDaysOf month numbers days = AllZip (λ number s. day_of month number ≡ Some s) numbers days
 
--- `cards` has the settings of each card in `papers`, in the same order.
+-- For each card in `papers`, in order, `cards` has the settings of this card.
 abbrev pub AreCardsOf : List CardAndFile → List (List Setting) → Type 0
 AreCardsOf papers cards = AllZip (λ paper settings. AreSettings paper.card settings) papers cards
 

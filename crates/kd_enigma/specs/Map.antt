@@ -6,7 +6,7 @@ use Rattle.std.specs.List.{range_with_len}
 abbrev pub spare_lanes : List ℕ
 spare_lanes = range_with_len 26 6
 
--- The first 26 lanes hold letters, and the six spare lanes follow.
+-- The first 26 lanes hold letters. The six lanes after them are the spare lanes.
 pub record AreLanes (lanes : List ℕ) : Type 0 where
   pub size : length lanes ≡ 32
   pub letters : (place : ℕ) → place < 26 → slice_index lanes place < 26

@@ -70,7 +70,7 @@ impl Rotor {
     }
 }
 
-/// The permutation of a wheel with the wiring `map` and the ring `ring`, while letter `window` shows.
+/// The permutation of a wheel with the wiring `map` and the ring `ring`, while the window shows letter `window`.
 #[tactic(auto, unfolding(crate::specs::Rotor::wiring_turned_by))]
 fn turn_map(map: Map, ring: Letter, window: usize) -> Map
     requires { window < 26 }

@@ -71,8 +71,8 @@ pub record HoldsBody (s : Day) (b : PartBody) (part body : List ℕ) : Type 0 wh
   pub allowed : All (λ b. IsTrue (is_text_byte b)) body
   pub kept : b.letters.items ≡ take 525 (letters_from None body)
 
--- `b` holds the heading and the body of `part`. The heading has the part number `number` and the expected number of
--- parts.
+-- `b` holds the heading and the body of `part`. The heading has the part number `number` and, unless `expected` is
+-- `None`, the number of parts `expected`.
 pub record HoldsPart (s : Day) (b : PartBody) (number : ℕ) (expected : Option ℕ) (part : List ℕ) : Type 0 where
   pub body : List ℕ
   pub holds : HoldsBody s b part body

@@ -37,7 +37,7 @@ abbrev pub IsExpectedCount : Option ℕ → ℕ → Type 0
 IsExpectedCount None parts = Unit {0}
 IsExpectedCount (Some first) parts = first ≡ parts
 
--- The heading `h` has the part number `number`, and the expected number of parts.
+-- The heading `h` has the part number `number` and, unless `expected` is `None`, the number of parts `expected`.
 pub record HasDueNumbers (number : ℕ) (expected : Option ℕ) (h : Heading) : Type 0 where
   pub numbered : h.part ≡ number
   pub as_expected : IsExpectedCount expected h.parts

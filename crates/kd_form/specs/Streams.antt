@@ -15,8 +15,8 @@ use Rattle.kd_form.specs.OnTheKey.{IsReadyOnKey, IsKeyFault}
 -- - `stands`: the first bytes of a message have a fault that no further bytes can change.
 -- - `refused`: a whole message has a fault.
 -- - `becomes`: a whole message has a result.
--- - `written_before`: a call writes a text before it returns the fault. Without a fault, it writes the text before it
---   reads more bytes.
+-- - `written_before`: the text that a call must have written. If there is a fault, the call writes this text before
+-- returning the fault. Otherwise, the call writes this text before reading more bytes.
 pub record Message : Type 1 where
   pub stands : List ℕ → FormFault → Type 0
   pub refused : List ℕ → FormFault → Type 0

@@ -1,4 +1,4 @@
-//! The law of files in memory: no read of such a file fails.
+//! The law of files in memory: no read of a file in memory fails.
 ghost use Rattle.std.specs.Prelude.{◌≡◌, false};
 
 use crate::files::Files;

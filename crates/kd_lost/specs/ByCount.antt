@@ -95,9 +95,9 @@ numbers_by_count (Some given) counted found = Some given
 numbers_by_count None counted (Some shown) = counted
 numbers_by_count None counted None = None
 
--- Reading `part` by count gives the text `found` and the numbers `numbers`. If the first argument is true, the
--- heading's count may be wrong, and the part is read with `came` as its letter count. Otherwise `found` is `None`, and
--- `numbers` are `given`, the numbers in the received heading.
+-- Reading `part` by count gives the text `found` and the numbers `numbers`. The first argument says whether the
+-- heading's count may be wrong. If the count may be wrong, the part is read with `came` as its letter count. If not,
+-- `found` is `None`, and `numbers` are `given`, the numbers in the received heading.
 abbrev pub GivesByCount : Bool → Day → List ℕ → ℕ → Option PartNumbers → Option PartNumbers → Option DamagedText → Type 0
 GivesByCount false s part came given numbers found = (found ≡ None) × (numbers ≡ given)
 GivesByCount true s part came given numbers found =

@@ -35,8 +35,9 @@ chosen_copies start end =
     slice_index_or start 0 None ∷ slice_index_or start 1 None ∷ slice_index_or end 0 None ∷ slice_index_or end 1 None
     ∷ []
 
--- The answer for the keys of a Converter's part, from their copies `start` before the text and `end` after the text.
--- The chosen letter comes first, as number 0. The external letters follow, with the numbers of their wheels.
+-- The answer for the keys of a Converter's part. The keys have two copies: `start` stands before the text, and `end`
+-- stands after the text. The chosen letter comes first, as number 0. The external letters follow, with the numbers of
+-- their wheels.
 abbrev pub IsKeysAnswer : List (Option ℕ) → List (Option ℕ) → AnswerRule PartDamage PinKeys
 IsKeysAnswer start end = do
   chosen ← IsKeyLetterAnswer 0 (chosen_copies start end)

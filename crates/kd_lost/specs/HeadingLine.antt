@@ -115,7 +115,7 @@ begins_with_groups bytes =
 unfoldable pub may_be_part : List ℕ → Bool
 may_be_part bytes = is_part_line bytes || begins_with_groups bytes
 
--- `bytes`, from the blank or LF after their first word on
+-- the rest of `bytes` after the first word, which ends before the first blank or LF
 abbrev pub after_word : List ℕ → List ℕ
 after_word [] = []
 after_word (byte ∷ bytes) = if is_blank byte || byte == 10 then byte ∷ bytes else after_word bytes
@@ -160,7 +160,7 @@ heading_signs line = map heading_sign (take 64 line)
 
 -- ---- An order in place of a form.
 
--- whether the byte ends a line: an LF, a CR, or no byte at all
+-- whether a line ends at a byte: the byte is an LF or a CR, or there is no byte
 abbrev pub ends_line : Option ℕ → Bool
 ends_line None = true
 ends_line (Some byte) = byte == 10 || byte == 13

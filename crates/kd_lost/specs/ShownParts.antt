@@ -95,8 +95,9 @@ abbrev pub are_covered : List DamagedPart → List DamagedPart → Bool
 are_covered all [] = true
 are_covered all (part ∷ parts) = is_covered all part && are_covered all parts
 
--- Whether the parts are shown as one message. Every two of them can be of one message. The part that is shown under a
--- number has all letters of the other parts with this number.
+-- Whether the parts are shown as one message. Two conditions must hold:
+-- - Every two of the parts can be of one message.
+-- - The part that is shown under a number has all letters of the other parts with this number.
 abbrev pub is_one_message : List DamagedPart → Bool
 is_one_message parts = are_of_one_message parts && are_covered parts parts
 

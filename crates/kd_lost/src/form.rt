@@ -35,10 +35,11 @@ pub enum DamagedFormFault {
 
 /// Reads each part of `form`. A letter that is lost in one copy of a part is taken from another copy.
 ///
-/// A part begins at each line that is taken for a heading. Such a line begins like `PART`. It also has a digit or a
-/// slash, or a lost sign in place of the part's number. Lines before the first heading are passed over. But if one of
-/// these lines begins like `PART`, or with two groups of five letters, it may belong to a part. Then none of these
-/// lines is passed over. If `receive` reads a form, it cuts the form into the same parts as this function.
+/// A part begins at each line that is taken for a heading. Each of these lines begins like `PART`. It also has a digit
+/// or a slash, or a lost sign in place of the part's number. Lines before the first heading are passed over. But if one
+/// of these lines begins like `PART`, or with two groups of five letters, it may belong to a part. Then all lines
+/// before the first heading are kept. If `receive` reads a form, this function cuts the form into the same parts as
+/// `receive`.
 pub fn read_damaged_form(
     alloc: Global,
     day: &SheetDay,

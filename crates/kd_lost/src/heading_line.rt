@@ -58,7 +58,7 @@ fn begins_lost(bytes: &[u8]) -> bool
     }
 }
 
-/// The bytes of `bytes` from the end of the first word on. The word ends before the first blank or LF.
+/// The rest of `bytes` after the first word, which ends before the first blank or LF.
 fn after_word(bytes: &[u8]) -> &[u8]
     ensures { result.now ≡ after_word bytes.now }
 {
@@ -100,7 +100,7 @@ pub(crate) fn may_be_part(bytes: &[u8]) -> bool
     is_part_line(bytes) || begins_with_groups(bytes)
 }
 
-/// Whether the first line of `bytes` begins with two groups of five letters, some of them perhaps lost.
+/// Whether the first line of `bytes` begins with two groups of five letters. Some of these letters may be lost.
 fn begins_with_groups(bytes: &[u8]) -> bool
     ensures { result ≡ begins_with_groups bytes.now }
 {
@@ -348,7 +348,7 @@ fn is_text_line(bytes: &[u8]) -> bool
     are_right(4, b"TEXT", bytes) && ends_line(bytes.get(4).copied())
 }
 
-/// Whether the byte ends a line: an LF, a CR, or no byte at all.
+/// Whether a line ends at `byte`: the byte is an LF or a CR, or there is no byte.
 fn ends_line(byte: Option<u8>) -> bool
     ensures { result ≡ ends_line byte }
 {

@@ -63,7 +63,8 @@ pub struct DamagedPart {
     /// Whether needless blanks in the part's first line were dropped. They are dropped if the line, with its blanks,
     /// isn't a heading.
     pub respaced: bool,
-    /// Whether each byte of the part means itself: none is a small letter or a tab.
+    /// Whether the part has no small letter and no tab. Only these bytes mean another byte: a capital letter, or a
+    /// space.
     pub as_spelled: bool,
     /// Whether the part looks like an order to send instead of a received form.
     pub is_order: bool,

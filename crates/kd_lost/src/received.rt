@@ -1,4 +1,4 @@
-//! The bytes of a part as they were received: the letters for which they stand, and the lost letters among them.
+//! The received bytes of a part: which letters the bytes stand for, and which of these letters are lost.
 ghost use Rattle.std.specs.Prelude.{◌≡◌, ◌≤◌, ◌++◌, ◌↔◌, List, length, map, take, All, Any, Contains, None, IsTrue, IsFalse, is_some};
 ghost use Rattle.std.specs.List.{count_by};
 ghost use Rattle.std.specs.Option.{option_to_list};
@@ -68,7 +68,7 @@ pub(crate) fn has_lost_byte(line: &[u8]) -> bool
     false
 }
 
-/// Whether each byte of `part` means itself: none is a small letter or a tab.
+/// Whether `part` has no small letter and no tab. Only these bytes mean another byte: a capital letter, or a space.
 pub(crate) fn is_spelled(part: &[u8]) -> bool
     ensures { IsTrue result ↔ All (λ byte. meant_byte byte ≡ byte) part.now }
 {

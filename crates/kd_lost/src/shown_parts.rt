@@ -99,8 +99,9 @@ fn is_worse(one: &DamagedPart, other: &DamagedPart) -> bool
 
 /// Whether the parts are shown as one message.
 ///
-/// Every two of them can be of one message. The part that is shown under a number has all letters of the other parts
-/// with this number.
+/// Two conditions must hold:
+/// - Every two of the parts can be of one message.
+/// - The part that is shown under a number has all letters of the other parts with this number.
 pub fn is_one_message(parts: &[DamagedPart]) -> bool
     ensures { result ≡ is_one_message parts.now }
 {

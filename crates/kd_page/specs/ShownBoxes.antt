@@ -15,7 +15,7 @@ HasInTurn part [] text = Unit {0}
 HasInTurn part (x ∷ xs) text =
     (before : List ℕ) × (after : List ℕ) × (text ≡ before ++ part x ++ after) × HasInTurn part xs after
 
--- Suppose that the page's settings turn its machine `before` into its machine `after`. Then the page's text has the
+-- Suppose that the page's settings lead from the machine `before` to the machine `after`. Then the page's text has the
 -- checkbox of each setting, in the order of the settings.
 abbrev pub HasItsBoxes : Page → Type 0
 HasItsBoxes page =

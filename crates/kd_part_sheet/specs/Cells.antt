@@ -52,8 +52,8 @@ text_sign for_space None = signs.Lost
 text_sign None (Some letter) = signs.Letter letter
 text_sign (Some space) (Some letter) = if letter == space then signs.Nothing else signs.Letter letter
 
--- The cells of received letters that the operator presses. Below each received letter stands the letter at its place in
--- the text, or nothing for a space.
+-- The cells of received letters. The operator presses these letters. Below each received letter stands the letter at
+-- its place in the text, or nothing for a space.
 abbrev pub received_cells : Option ℕ → List (Option ℕ) → List (Option ℕ) → List Cell
 received_cells for_space (key ∷ keys) (letter ∷ text) =
     record { above = sign_of key; below = text_sign for_space letter; is_pressed = true; mark = marks.NoMark }

@@ -120,9 +120,9 @@ fn sign_of(letter: Option<Letter>) -> Sign
     }
 }
 
-/// Appends the cells of received letters that the operator presses.
+/// Appends the cells of received letters. The operator presses these letters.
 ///
-/// Below item `i` of `keys` stands item `i` of `text`, or nothing if this item is `for_space`.
+/// Below item `i` of `keys` stands item `i` of `text`. If the item of `text` is `for_space`, nothing stands below.
 pub fn push_received<const N: usize>(
     cells: &mut ArrayVec<Cell, N>,
     for_space: &Option<Letter>,
@@ -223,8 +223,8 @@ pub(crate) fn cells_with<const N: usize>(
     shown
 }
 
-/// `cell` with its result. If `results` are left open and the cell's letter is pressed, the sign below the line is left
-/// open, and the cell has no mark.
+/// `cell` with its result or, if `results` are left open, `cell` as a worksheet has it. If the cell's letter is
+/// pressed, a worksheet leaves the sign below the line open, and has no mark.
 fn cell_with(results: Results, cell: Cell) -> Cell
     ensures { result ≡ cell_with results cell }
 {

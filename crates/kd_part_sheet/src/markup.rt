@@ -13,7 +13,7 @@ pub const ROW_BOX: &str = "</div>\n<label><input type=checkbox><b>~</b>";
 
 pub const ROW_END: &str = "</label></div>\n";
 
-/// The windows after a row: the markup before their letters, and before their numbers.
+/// The markup before the windows that follow a row: before the windows' letters, and before the windows' numbers.
 pub const ROW_LETTERS: &str = "<br>";
 
 pub const ROW_NUMBERS: &str = "<br>";

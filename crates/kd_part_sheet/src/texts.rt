@@ -253,8 +253,8 @@ pub const COPIES_LOST: Text = (
     "<p>Die ersten und die letzten Kennbuchstaben ergänzen einander.</p>\n",
 );
 
-/// The key of the day, to which a rotor machine has to be set. The first text has the reflector, and the words before
-/// the wheels. The words before the rings and before the cables follow.
+/// The key of the day, to which a rotor machine has to be set. The first text has the reflector, and ends with the
+/// words before the wheels. The next texts are the words before the rings, and the words before the cables.
 pub const REFLECTOR: Text = (
     "<p>The machine has to be on the key of the day. Reflector: <b>~</b>. Wheels: <b>",
     "<p>Die Maschine muss auf dem Tagesschlüssel stehen. Umkehrwalze: <b>~</b>. Walzenlage: <b>",

@@ -38,7 +38,7 @@ fn windows_title(language: Language, is_converter: bool) -> &'static str
     }
 }
 
-/// Writes the words for windows, the first of which has number `number`. `first` stands before the first window, and a
+/// Writes the words for windows, which are numbered from `number` on. `first` stands before the first window, and a
 /// comma before each later window.
 fn draw_all_words<W: Sink>(
     sink: &mut W,

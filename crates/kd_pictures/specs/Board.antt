@@ -75,19 +75,19 @@ lane number = 139 + 9 * number
 abbrev pub bend : ℕ → ℕ → ℕ
 bend y lane = if nat_lt y lane then lane - 5 else lane + 5
 
--- the piece of a cable's line that leads from a socket into the lane
+-- the piece of a cable's line that leads from a socket into the cable's lane
 abbrev pub left_half : Class → ℕ → ℕ → List ℕ
 left_half class lane letter = filled texts.LEFT_HALF.now (
     class_text class ∷ decimal (line_x letter) ∷ decimal (socket_y letter) ∷ decimal (bend (socket_y letter) lane)
     ∷ decimal (line_x letter) ∷ decimal lane ∷ decimal (line_x letter + 5) ∷ decimal lane ∷ [])
 
--- the piece of a cable's line that leads along the lane to a socket
+-- the piece of a cable's line that leads along the cable's lane to a socket
 abbrev pub right_half : ℕ → ℕ → List ℕ
 right_half lane letter = filled texts.RIGHT_HALF.now (
     decimal (line_x letter - 5) ∷ decimal (line_x letter) ∷ decimal lane
     ∷ decimal (line_x letter) ∷ decimal (bend (socket_y letter) lane) ∷ decimal (socket_y letter) ∷ [])
 
--- the piece of a cable's line that leads along the lane to an open end
+-- the piece of a cable's line that leads along the cable's lane to an open end
 abbrev pub open_end : ℕ → List ℕ
 open_end letter = filled texts.OPEN_END.now (decimal (line_x letter + 20) ∷ [])
 

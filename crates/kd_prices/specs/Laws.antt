@@ -51,8 +51,8 @@ pub record AreEqualWhereAlike (machine : Parts) (day : Day) (prices : PriceParts
       (place other : ℕ) → place < table_size prices → other < table_size prices → ReadAlike day place other
       → price_at (day_prices prices) place ≡ price_at (day_prices prices) other
 
--- If a card with prices by number proves itself, equal cables, columns, bars or rows have equal prices. Prices are *by
--- number* if each cable and column, or each bar and row, has its own price.
+-- Prices are *by number* if each cable and column, or each bar and row, has its own price. If a card with prices by
+-- number proves itself, equal cables, columns, bars or rows have equal prices.
 abbrev pub AlikePricesAreEqual : Type 0
 AlikePricesAreEqual =
     (machine : Parts) (day : Day) (settings : List Setting) (prices : PriceParts) → IsMachine machine → IsLegalDay day

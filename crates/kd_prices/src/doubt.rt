@@ -10,7 +10,7 @@ use thiserror::Error;
 /// Why a card doesn't prove itself. In a doubt, line 1 is the card's first setting.
 #[derive(Clone, Copy, Debug, PartialEq, Eq, Error)]
 pub enum Doubt {
-    /// Machine and day are of different models, or the prices aren't for this machine.
+    /// The machine and the day are of different models, or the prices aren't for this machine.
     ///
     /// Cards for rotor machines have prices of cables, and cards for the Converter have prices of bars.
     OtherModel,

@@ -10,7 +10,7 @@ use Rattle.kd_printed_sheet.specs.declared.texts.TheConstants as texts
 abbrev pub WordsArePlain : Type 0
 WordsArePlain = (letters : List ℕ) → IsTrue (list_all is_plain (letters_text letters))
 
--- Each template takes as many values as tables fill into it.
+-- Each template has a gap for each value that the tables fill in.
 abbrev pub TemplatesTakeTheirValues : Type 0
 TemplatesTakeTheirValues =
     Takes texts.MONTH 1 × Takes texts.ONE_DAY 1 × Takes texts.FIRST_TO_LAST 2 × Takes texts.COLUMNS 4

@@ -21,7 +21,7 @@ use kd_sheet::Sheet;
 use kd_state::{Entry, PinEntry, SheetDay, own_engine};
 use kd_tables::{Letter, Model, Reading, Sink, ring1, ring2, ring3, ring4, ring5, ring6};
 
-/// Writes a key list for each of the days `numbers` that is a Converter's day.
+/// Writes a key list for each Converter's day among the days `numbers`.
 pub(crate) fn draw_key_lists<W: Sink>(
     sink: &mut W,
     language: Language,

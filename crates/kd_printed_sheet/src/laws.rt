@@ -13,7 +13,7 @@ pub fn words_are_plain()
     ensures { WordsArePlain }
 {}
 
-/// Each template takes the values that tables fill into it, in both languages.
+/// In both languages, each template has a gap for each value that the tables fill in.
 pub fn templates_take_their_values()
     ensures { TemplatesTakeTheirValues }
 {}

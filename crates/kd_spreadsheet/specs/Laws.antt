@@ -10,7 +10,7 @@ abbrev pub MeansOrIsRefused : Type 0
 MeansOrIsRefused = (options : OptionTexts) (table : List ℕ) (days : List Day) → TableMeans options table days
     → ¬ (IsRefusedTable options table)
 
--- A table means at most one list of days.
+-- No table means two different lists of days.
 abbrev pub MeansOneList : Type 0
 MeansOneList = (options : OptionTexts) (table : List ℕ) (one other : List Day) → TableMeans options table one
     → TableMeans options table other → one ≡ other

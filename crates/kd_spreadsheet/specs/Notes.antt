@@ -78,8 +78,9 @@ HasHead table head = (rows : List (List (List ℕ))) × AreRows table (head ∷ 
 
 -- ---- A table that means days.
 
--- The note on a table that isn't refused, with the first row `head` and the days `days`. It has the notes on unread
--- columns. It also warns about each day that has fewer pairs, or fewer groups, than another day of its model.
+-- The note on a table that isn't refused, with the first row `head` and the days `days`. This note has the notes on
+-- unread columns. It also has a warning about each day that has fewer pairs, or fewer groups, than another day of its
+-- model.
 unfoldable pub taken_note : List (List ℕ) → List Day → List ℕ
 taken_note head days = unread_note head ++ few_lines (codes "warning: ") (map counts_of days)
 

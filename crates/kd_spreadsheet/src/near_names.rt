@@ -90,8 +90,8 @@ fn lacks_near_any(columns: &Columns, head: &ByteRecord, cells: &[Cell]) -> bool
     }
 }
 
-/// Whether the column of `cell` is misnamed. The table then lacks this column, and an unread column's name is nearly
-/// one of the missing column's names.
+/// Whether the column of `cell` is misnamed: the table lacks this column, and an unread column's name is nearly one of
+/// the missing column's names.
 fn lacks_near(columns: &Columns, head: &ByteRecord, cell: Cell) -> bool
     ensures { result ≡ lacks_near columns.now (fields_of head.now) cell }
 {

@@ -15,7 +15,7 @@ pub enum Quoting {
     Quoted,
     /// After a quote in a quoted cell. The cell ends there, unless another quote follows.
     Closed,
-    /// After a closing quote, and then a byte that doesn't end the cell.
+    /// After a byte that follows a closing quote, but doesn't end the cell.
     Wrong,
 }
 

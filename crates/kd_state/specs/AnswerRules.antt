@@ -7,8 +7,8 @@ use Rattle.std.specs.Prelude.{◌≡◌, Result, Ok, Err}
 abbrev pub AnswerRule : Type 0 → Type 0 → Type 1
 AnswerRule F X = Result X F → Type 0
 
--- The rule for two successive steps. If the first step has a fault, the right result is this fault. If the first step
--- finds a value `x`, the result must be right by the rule `Next x`.
+-- The rule for two successive steps. If the first step has a fault, the result must be this fault. If the first step
+-- finds a value `x`, the result must satisfy the rule `Next x`.
 pub data ThenNext {F X Y : Type 0} (First : Result X F → Type 0) (Next : X → Result Y F → Type 0)
     (answer : Result Y F) : Type 0 where
   HasFault : (fault : F) → First (Err fault) → answer ≡ Err fault → ThenNext First Next answer

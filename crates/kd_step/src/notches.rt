@@ -4,7 +4,7 @@ ghost use Rattle.kd_step.specs.Notches.{IsNotchTable};
 
 use kd_tables::{Letter, Wheel, notched};
 
-/// Tabulates the notches of `wheel`: entry `i` is true if the wheel is at a notch while letter `i` shows.
+/// Tabulates the notches of `wheel`: entry `i` is true if the wheel is at a notch while its window shows letter `i`.
 pub(crate) fn notches(wheel: Wheel) -> [bool; 26]
     ensures { IsNotchTable wheel result }
 {

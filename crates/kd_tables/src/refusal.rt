@@ -20,8 +20,8 @@ pub enum Refusal {
     Illegal,
     /// A slot is empty, or a cable has exactly one letter.
     NotReady,
-    /// Machine and day have different models, or a card's prices are for the other sort of machine. Prices of cables
-    /// are for Enigmas, and prices of bars are for the Converter.
+    /// The machine and the day are of different models, or a card's prices are for the other sort of machine. Prices of
+    /// cables are for Enigmas, and prices of bars are for the Converter.
     OtherModel,
     /// A file, a source or a sink failed.
     Device,

@@ -48,7 +48,7 @@ window_by table window =
     with_last_moved (slice_index table.steps (26 * letter_in window 1 + letter_in window 0)) window
 
 -- The letter that lights up for `key` while the windows show `window`. The current of `key` leaves the core at some
--- place. The lit letter is the letter whose own key sends its current into the core at this place.
+-- place. The current of the lit letter's own key enters the core at this place.
 abbrev pub lamp_by : RotorTable → List ℕ → ℕ → ℕ
 lamp_by table window key =
     let into = slice_index_or table.into (letter_in window 0) [] in

@@ -25,7 +25,7 @@ page_head l model =
     file_head l ++ filled (text_in l texts.TITLE) (model_name model ∷ []) ++ texts.POLICY.now ++ STYLE.now
     ++ texts.BODY.now
 
--- the parts of the machine on the page: windows or pin wheels, keys and tape
+-- the parts of the machine that the page shows: its windows or pin wheels, its keys, and its tape
 abbrev pub desk_text : Language → Parts → List ℕ
 desk_text l m = if is_converter (model_of m) then pin_desk l (model_of m) else rotor_desk l m
 
@@ -33,7 +33,7 @@ desk_text l m = if is_converter (model_of m) then pin_desk l (model_of m) else r
 abbrev pub script_words : Language → Model → List ℕ
 script_words l model = if is_converter model then text_in l texts.PIN_WORDS else text_in l texts.ROTOR_WORDS
 
--- the data for the script, which stands before the table: the letters that the machine shows, and the script's words
+-- the data for the script: the letters that the machine shows, and the script's words. The data stand before the table.
 unfoldable pub data_text : Language → Model → List ℕ → List ℕ
 data_text l model letters = texts.START.now ++ letters_text letters ++ script_words l model
 

@@ -20,7 +20,7 @@ use kd_state::Machine;
 use kd_tables::{Letter, Sink, Standing, ring1, ring2, ring3, ring4, ring5, ring6};
 use kd_typing::MachineRows;
 
-/// Writes the setting of the machine. `rows` are the rows of its table.
+/// Writes the setting of `machine`. `rows` are the rows of the machine's table.
 pub(crate) fn draw_setting<W: Sink>(
     sink: &mut W,
     language: Language,
