@@ -1,5 +1,4 @@
-//! Tables, lines and ports: letters, wheels, reflectors, models, refusals, words of lines, and the traits for reading and
-//! writing bytes.
+//! Letters, wheels, reflectors, models, refusals, the words of lines, and the traits for reading and writing bytes.
 #![tactic(auto)]
 
 mod direction;
