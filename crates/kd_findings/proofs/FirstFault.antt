@@ -5,7 +5,6 @@ use Rattle.std.specs.Result.{result_err}
 use Rattle.toml.specs.Data.{Members}
 use Rattle.kd_tables.specs.declared.model.Model.{Model}
 use Rattle.kd_tables.specs.declared.model.Model.TheVariants.{EnigmaI, M3, M4, M209}
-use Rattle.kd_state.specs.declared.machine.parts.Parts.{Parts}
 use Rattle.kd_sheet.specs.Document.{◌>>=◌, ◌>>◌, demand}
 use Rattle.kd_sheet.specs.MachineText.{file_version}
 use Rattle.kd_sheet.specs.declared.key.Key.TheVariants as keys
@@ -13,6 +12,7 @@ use Rattle.kd_sheet.specs.declared.fault.SheetFault.{SheetFault}
 use Rattle.kd_sheet.specs.declared.fault.SheetFault.TheVariants.{UnknownModel}
 use Rattle.kd_findings.specs.declared.place.Place.{Place}
 use Rattle.kd_findings.specs.Faults.{after_model, fault_at, first_fault, in_file, model_file_faults, version_in}
+use Rattle.kd_sheet.specs.MachineFile.{machine_in}
 unfoldable use Rattle.kd_sheet.specs.MachineFile.{model_in, parts_in, pin_parts_in, rotor_parts_in}
 unfoldable use Rattle.kd_findings.specs.Faults.{file_model, machine_faults, pin_file_faults, rotor_file_faults}
 
@@ -76,11 +76,6 @@ unfolding file_model
 of_versioned table version is =
     rw is (rw (← two_steps (model_in table) (λ model. nat_le (file_version model) version) UnknownModel
     (λ model. parts_in model table)) (of_model _ _ _ _ (of_model_file table)))
-
--- the machine that a document describes, or the document's first fault as a machine file
-abbrev pub machine_in : Members → Result Parts SheetFault
-machine_in table = version_in table >>= (λ version. model_in table >>= (λ model.
-    demand (nat_le (file_version model) version) UnknownModel >> parts_in model table))
 
 pub of_machine : (table : Members) → AreOf (machine_faults table) (machine_in table)
 unfolding machine_faults

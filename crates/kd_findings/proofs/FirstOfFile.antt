@@ -5,10 +5,10 @@ use Rattle.std.specs.Option.{option_and_then}
 use Rattle.std.specs.Result.{result_err}
 use Rattle.toml.specs.Data.{Data, Members, get_member}
 use Rattle.kd_state.specs.SheetDay.{Day}
-use Rattle.kd_sheet.specs.Document.{◌>>=◌, as_items, document_of, read_at, read_items}
+use Rattle.kd_sheet.specs.Document.{◌>>=◌, as_items, read_at, read_items}
 use Rattle.kd_sheet.specs.Sheet.{month_of}
 use Rattle.kd_sheet.specs.Key.{key_name}
-use Rattle.kd_sheet.specs.SheetFile.{day_for, sheet_of}
+use Rattle.kd_sheet.specs.SheetFile.{day_for, sheet_in}
 use Rattle.kd_sheet.specs.declared.key.Key.{Key}
 use Rattle.kd_sheet.specs.declared.key.Key.TheVariants as keys
 use Rattle.kd_sheet.specs.declared.fault.SheetFault.{SheetFault}
@@ -40,22 +40,20 @@ no_array None next none = refl
 no_array (Some found) next none = rw none refl
 
 -- the first of the entries' faults, or the fault at `day`, is the fault of the reading of a key sheet
-first_of_entries : (bytes : List ℕ) (document : Members) (entries : Option (List Data)) (faults : List (Place × SheetFault))
-    → document_of bytes ≡ Ok document → entries_of document ≡ entries → AreFaultsOf false entries document faults
-    → first_fault faults ≡ result_err (sheet_of bytes)
-first_of_entries bytes document (Some items) faults parsed has are =
+first_of_entries : (document : Members) (entries : Option (List Data)) (faults : List (Place × SheetFault))
+    → entries_of document ≡ entries → AreFaultsOf false entries document faults
+    → first_fault faults ≡ result_err (sheet_in document)
+first_of_entries document (Some items) faults has are =
     let entries : read_at keys.Day as_items document ≡ Ok items = array_read keys.Day _ items has _ _ in
-    rw (parsed, entries) ((of_sheet items faults are).first ∙ sym (err-month (read_items day_for items)))
-first_of_entries bytes document None faults parsed has are =
+    rw entries ((of_sheet items faults are).first ∙ sym (err-month (read_items day_for items)))
+first_of_entries document None faults has are =
     let reading = no_array (get_member (key_name keys.Day) document) (read_items day_for) has in
-    rw (parsed, are) (sym (err-month (read_at keys.Day as_items document >>= read_items day_for) ∙ reading))
+    rw are (sym (err-month (read_at keys.Day as_items document >>= read_items day_for) ∙ reading))
 
-pub first_of_sheet : (bytes : List ℕ) (document : Members) (faults : List (Place × SheetFault))
-    → document_of bytes ≡ Ok document → is_machine_file document ≡ false
-    → AreFaultsOf false (entries_of document) document faults → first_fault faults ≡ file_fault bytes document
-first_of_sheet bytes document faults parsed other are =
-    rw other (first_of_entries bytes document (entries_of document) faults parsed refl are)
+pub first_of_sheet : (document : Members) (faults : List (Place × SheetFault)) → is_machine_file document ≡ false
+    → AreFaultsOf false (entries_of document) document faults → first_fault faults ≡ file_fault document
+first_of_sheet document faults other are = rw other (first_of_entries document (entries_of document) faults refl are)
 
-pub first_of_machine : (bytes : List ℕ) (document : Members) → document_of bytes ≡ Ok document
-    → is_machine_file document ≡ true → first_fault (machine_faults document) ≡ file_fault bytes document
-first_of_machine bytes document parsed is = rw (is, parsed) (of_machine document).first
+pub first_of_machine : (document : Members) → is_machine_file document ≡ true
+    → first_fault (machine_faults document) ≡ file_fault document
+first_of_machine document is = rw is (of_machine document).first

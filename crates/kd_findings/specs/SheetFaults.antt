@@ -14,10 +14,10 @@ use Rattle.kd_sheet.specs.Bars.{rows_in}
 use Rattle.kd_sheet.specs.Cables.{pairs_in}
 use Rattle.kd_sheet.specs.Document.{◌>>=◌, ◌>>◌, demand, read_at}
 use Rattle.kd_sheet.specs.Letters.{letters_at}
-use Rattle.kd_sheet.specs.MachineFile.{machine_of, model_in, reflector_in}
+use Rattle.kd_sheet.specs.MachineFile.{machine_in, model_in, reflector_in}
 use Rattle.kd_sheet.specs.Numbers.{number_up_to}
 use Rattle.kd_sheet.specs.PinWheels.{shown_letters_in, pins_in}
-use Rattle.kd_sheet.specs.SheetFile.{groups_in, rings_of, sheet_of}
+use Rattle.kd_sheet.specs.SheetFile.{groups_in, rings_of, sheet_in}
 use Rattle.kd_sheet.specs.Slots.{slots_in}
 use Rattle.kd_sheet.specs.declared.key.Key.{Key}
 use Rattle.kd_sheet.specs.declared.key.Key.TheVariants as keys
@@ -114,7 +114,7 @@ AreFaultsOf false None document faults = faults ≡ (in_file keys.Day, day_fault
 abbrev pub AreFaults : Members → List (Place × SheetFault) → Type 0
 AreFaults document faults = AreFaultsOf (is_machine_file document) (entries_of document) document faults
 
--- The first fault with which the desk refuses a file. A document that isn't a machine file is read as a key sheet.
-abbrev pub file_fault : List ℕ → Members → Option SheetFault
-file_fault bytes document =
-    if is_machine_file document then result_err (machine_of bytes) else result_err (sheet_of bytes)
+-- The first fault with which the desk refuses a document. A document that isn't a machine file is read as a key sheet.
+abbrev pub file_fault : Members → Option SheetFault
+file_fault document =
+    if is_machine_file document then result_err (machine_in document) else result_err (sheet_in document)

@@ -1,11 +1,11 @@
 //! Tells machine files from key sheets, and finds the faults of a file.
-ghost use Rattle.std.specs.Prelude.{◌≡◌, ◌∷◌, [], ℕ, List, Ok, IfOk, false, map, None, option_map};
+ghost use Rattle.std.specs.Prelude.{◌≡◌, ◌∷◌, [], IfOk, false, map, None, option_map};
 ghost use Rattle.std.specs.Option.{option_and_then};
 ghost use Rattle.toml.specs.Data.{get_member};
 ghost use Rattle.toml.specs.View.{view, table_view};
 ghost use Rattle.kd_findings.specs.Faults.{faults_of, first_fault, in_file};
 ghost use Rattle.kd_findings.specs.Kind.{entries_of, is_machine_file};
-ghost use Rattle.kd_sheet.specs.Document.{as_items, document_of};
+ghost use Rattle.kd_sheet.specs.Document.{as_items};
 ghost use Rattle.kd_sheet.specs.Key.{key_name};
 ghost use Rattle.kd_sheet.specs.declared.key.Key.TheVariants as keys;
 ghost use Rattle.kd_findings.specs.SheetFaults.{AreFaults, AreFaultsOf, day_fault, file_fault};
@@ -52,9 +52,8 @@ pub fn is_machine_file(document: &Table) -> bool
 /// Finds the faults of a document.
 pub fn find_faults(alloc: Global, document: &Table) -> Result<Vec<Finding>, AllocError>
     ensures faults { IfOk result (λ list. AreFaults (table_view document.now) (faults_of list.items)) }
-    ensures first { (bytes : List ℕ) → document_of bytes ≡ Ok (table_view document.now)
-        → IfOk result (λ list.
-        first_fault (faults_of list.items) ≡ file_fault bytes (table_view document.now)) }
+    ensures first { IfOk result (λ list.
+        first_fault (faults_of list.items) ≡ file_fault (table_view document.now)) }
 {
     if is_machine_file(document) {
         machine_faults(alloc, document)

@@ -6,9 +6,9 @@ use Rattle.std.specs.Result.{result_err}
 use Rattle.toml.specs.Data.{Members}
 use Rattle.kd_state.specs.SheetDay.{Day}
 use Rattle.kd_state.specs.declared.machine.parts.Parts.{Parts}
-use Rattle.kd_sheet.specs.Document.{◌>>=◌, document_of}
-use Rattle.kd_sheet.specs.MachineFile.{machine_of}
-use Rattle.kd_sheet.specs.SheetFile.{sheet_of}
+use Rattle.kd_sheet.specs.Document.{◌>>=◌}
+use Rattle.kd_sheet.specs.MachineFile.{machine_in}
+use Rattle.kd_sheet.specs.SheetFile.{sheet_in}
 use Rattle.kd_sheet.specs.declared.fault.SheetFault.{SheetFault}
 use Rattle.kd_findings.specs.Faults.{faults_of, first_fault}
 use Rattle.kd_findings.specs.Kind.{is_machine_file}
@@ -18,10 +18,9 @@ use Rattle.kd_findings.specs.declared.place.Place.{Place}
 use Rattle.kd_look.specs.FaultWords.{AreFaultLines, AreLinesFor, IsFaultLine, IsLineAt}
 use Rattle.kd_look.specs.Line.{line_of}
 use Rattle.kd_findings.specs.Texts.{AppendsText}
-use Rattle.kd_look.specs.declared.file.File.{File}
 use Rattle.kd_look.specs.declared.file.File.TheVariants as files
 use Rattle.kd_findings.proofs.Appending.{AppendsText-then}
-unfoldable use Rattle.kd_look.specs.File.{file_of}
+unfoldable use Rattle.kd_look.specs.File.{file_in}
 
 -- the line of the first finding is appended, and then the lines of the others
 pub AreFaultLines-then : (name : List ℕ) (findings : List Finding) (lines : List (Option ℕ)) (first : Finding)
@@ -49,8 +48,7 @@ AreFaultLines-then name (head ∷ rest) (line ∷ lines) first d old middle new 
 
 -- a choice of what a machine file and what a sheet says, in another form, has the same fault
 of_choice : (choice : Bool) (sheet : Result (List (Option Day)) SheetFault) (machine : Result Parts SheetFault)
-    (fault : SheetFault)
-    → (if choice then machine >>= (λ parts. Ok (files.Machine parts))
+    (fault : SheetFault) → (if choice then machine >>= (λ parts. Ok (files.Machine parts))
     else sheet >>= (λ month. Ok (files.Sheet month))) ≡ Err fault
     → (if choice then result_err machine else result_err sheet) ≡ Some fault
 of_choice true sheet (Ok machine) fault is = ap result_err is
@@ -58,28 +56,23 @@ of_choice true sheet (Err wrong) fault is = ap result_err is
 of_choice false (Ok sheet) machine fault is = ap result_err is
 of_choice false (Err wrong) machine fault is = ap result_err is
 
--- the fault of a file that is a document
-file_fault-is : (bytes : List ℕ) (document : Members) (fault : SheetFault) → document_of bytes ≡ Ok document
-    → file_of bytes ≡ Err fault → file_fault bytes document ≡ Some fault
-unfolding file_of
-file_fault-is bytes document fault parsed is =
-    let next : Members → Result File SheetFault = λ table. if is_machine_file table
-    then machine_of bytes >>= (λ parts. Ok (files.Machine parts))
-    else sheet_of bytes >>= (λ month. Ok (files.Sheet month)) in
-    of_choice (is_machine_file document) (sheet_of bytes) (machine_of bytes) fault
-    (subst (λ answer. (answer >>= next) ≡ Err fault) parsed is)
+-- the fault of a document
+file_fault-is : (document : Members) (fault : SheetFault) → file_in document ≡ Err fault
+    → file_fault document ≡ Some fault
+unfolding file_in
+file_fault-is document fault is =
+    of_choice (is_machine_file document) (sheet_in document) (machine_in document) fault is
 
--- the lines of all faults of a document are the lines for the file
+-- the lines of all faults of a document are the lines for the document
 pub AreLinesFor-document : (name bytes text empty : List ℕ) (document : Members) (fault : SheetFault)
-    (found : List (Place × SheetFault)) → document_of bytes ≡ Ok document → file_of bytes ≡ Err fault
-    → AreFaults document found → first_fault found ≡ file_fault bytes document → empty ≡ []
-    → AppendsText (AreFaultLines name bytes found) empty text
-    → AreLinesFor name bytes (document_of bytes) fault text
-AreLinesFor-document name bytes text empty document fault found parsed is are first none lines =
+    (found : List (Place × SheetFault)) → file_in document ≡ Err fault → AreFaults document found
+    → first_fault found ≡ file_fault document → empty ≡ [] → AppendsText (AreFaultLines name bytes found) empty text
+    → AreLinesFor name bytes document fault text
+AreLinesFor-document name bytes text empty document fault found is are first none lines =
     let whole : lines.text ≡ text = sym (lines.added ∙ ap (λ front. front ++ lines.text) none) in
-    rw parsed (record {
+    record {
       found = found;
       are = are;
-      first = first ∙ file_fault-is bytes document fault parsed is;
+      first = first ∙ file_fault-is document fault is;
       lines = subst (AreFaultLines name bytes found) whole lines.fits;
-    })
+    }

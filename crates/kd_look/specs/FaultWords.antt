@@ -1,10 +1,9 @@
 -- The lines that name a file's faults. A line has the file's name, the place, what is wrong, and the fault's number and
 -- name.
 -- Test: tests/cases/curator-look.toml
-use Rattle.std.specs.Prelude.{codes, ◌≡◌, ℕ, ◌++◌, List, [], ◌∷◌, Option, Some, Result, Ok, Err}
+use Rattle.std.specs.Prelude.{codes, ◌≡◌, ℕ, ◌++◌, List, [], ◌∷◌, Option, Some}
 use Rattle.std.specs.Option.{option_map_or}
 use Rattle.toml.specs.Data.{Members}
-use Rattle.kd_sheet.specs.Document.{document_of}
 use Rattle.kd_sheet.specs.FaultText.{sheet_fault_text}
 use Rattle.kd_sheet.specs.Key.{key_name}
 use Rattle.kd_sheet.specs.declared.fault.SheetFault.{SheetFault}
@@ -14,7 +13,7 @@ use Rattle.kd_findings.specs.SheetFaults.{AreFaults}
 use Rattle.kd_findings.specs.Texts.{BeginsWith, IsInOneLine, entry_words, titled}
 use Rattle.kd_findings.specs.declared.place.Place.{Place}
 use Rattle.kd_look.specs.Line.{line_of_fault}
-use Rattle.kd_look.specs.Warnings.{AreKeyWarnings}
+use Rattle.kd_look.specs.Warnings.{AreKeyWarnings, mark_words}
 
 -- the end of a fault's line: the fault's number and name in parentheses
 abbrev pub fault_end : SheetFault → List ℕ
@@ -49,7 +48,7 @@ AreFaultLines name bytes (found ∷ rest) text = BeginsWith (IsFaultLine name by
     (λ others. AreFaultLines name bytes rest others) text
 
 -- The text has a line for each of the document's faults. `fault` is the first of these faults.
-pub record NamesFaults (name bytes : List ℕ) (document : Members) (fault : SheetFault) (text : List ℕ) : Type 0 where
+pub record AreLinesFor (name bytes : List ℕ) (document : Members) (fault : SheetFault) (text : List ℕ) : Type 0 where
   pub found : List (Place × SheetFault)
   pub are : AreFaults document found
   pub first : first_fault found ≡ Some fault
@@ -62,17 +61,17 @@ pub record IsPlainLine (name bytes : List ℕ) (fault : SheetFault) (text : List
   pub place : SaysNotToml bytes words
   pub whole : text ≡ name ++ words ++ fault_end fault
 
--- The text has the lines about a file's faults: a line for each fault of a document, or a single line for a file that
--- isn't TOML.
-abbrev pub AreLinesFor : List ℕ → List ℕ → Result Members SheetFault → SheetFault → List ℕ → Type 0
-AreLinesFor name bytes (Ok document) fault text = NamesFaults name bytes document fault text
-AreLinesFor name bytes (Err _) fault text = IsPlainLine name bytes fault text
+-- The text has the line about a file that isn't TOML, and then the warning about a byte order mark.
+pub record SaysPlainly (name bytes : List ℕ) (fault : SheetFault) (text : List ℕ) : Type 0 where
+  pub line : List ℕ
+  pub is : IsPlainLine name bytes fault line
+  pub whole : text ≡ line ++ mark_words name bytes
 
--- The text has the lines about a file's faults, and then the warnings about the file's keys. `fault` is the first of
--- the faults.
-pub record NamesFault (name bytes : List ℕ) (fault : SheetFault) (text : List ℕ) : Type 0 where
+-- The text has the lines about a document's faults, and then the warnings about the document's keys. `fault` is the
+-- first of the faults.
+pub record NamesFault (name bytes : List ℕ) (document : Members) (fault : SheetFault) (text : List ℕ) : Type 0 where
   pub lines : List ℕ
   pub warnings : List ℕ
-  pub are : AreLinesFor name bytes (document_of bytes) fault lines
-  pub warn : AreKeyWarnings name bytes warnings
+  pub are : AreLinesFor name bytes document fault lines
+  pub warn : AreKeyWarnings name bytes document warnings
   pub whole : text ≡ lines ++ warnings

@@ -1,9 +1,11 @@
 -- The report on a file: its content in words, or its faults.
 -- Test: tests/cases/curator-look.toml
-use Rattle.std.specs.Prelude.{codes, ◌≡◌, ℕ, ◌++◌, List, Result, Ok, Err}
+use Rattle.std.specs.Prelude.{codes, ◌≡◌, ℕ, ◌++◌, List, MatchResult, Result, Ok, Err}
+use Rattle.toml.specs.Data.{Members}
+use Rattle.kd_sheet.specs.Document.{document_of}
 use Rattle.kd_sheet.specs.declared.fault.SheetFault.{SheetFault}
-use Rattle.kd_look.specs.FaultWords.{NamesFault}
-use Rattle.kd_look.specs.File.{file_of}
+use Rattle.kd_look.specs.FaultWords.{NamesFault, SaysPlainly}
+use Rattle.kd_look.specs.File.{file_in}
 use Rattle.kd_look.specs.MachineWords.{machine_words}
 use Rattle.kd_look.specs.SheetWords.{sheet_words}
 use Rattle.kd_look.specs.Warnings.{AreKeyWarnings, WarnsOfFile}
@@ -22,21 +24,22 @@ unfoldable pub file_words : List ℕ → File → List ℕ
 file_words name (files.Machine machine) = name ++ codes ": a machine file without a fault\n" ++ machine_words machine
 file_words name (files.Sheet month) = name ++ codes ": a key sheet without a fault\n" ++ sheet_words month
 
--- The text has the words for the file's content, the warnings about the file's keys, and then the warnings about its
--- days.
-pub record Describes (name bytes : List ℕ) (file : File) (text : List ℕ) : Type 0 where
+-- The text has the words for the file's content, the warnings about the document's keys, and then the warnings about
+-- the file's days.
+pub record Describes (name bytes : List ℕ) (document : Members) (file : File) (text : List ℕ) : Type 0 where
   pub keys : List ℕ
   pub days : List ℕ
-  pub warn : AreKeyWarnings name bytes keys
+  pub warn : AreKeyWarnings name bytes document keys
   pub of_days : WarnsOfFile name file days
   pub whole : text ≡ file_words name file ++ (keys ++ days)
 
--- If the file has no fault, the text has the words for the file's content. Otherwise the text has the lines that name
--- the faults.
-abbrev pub SaysOrNames : List ℕ → List ℕ → Result File SheetFault → List ℕ → Type 0
-SaysOrNames name bytes (Ok file) text = Describes name bytes file text
-SaysOrNames name bytes (Err fault) text = NamesFault name bytes fault text
+-- The text is the report on a file that is a document. If the document has no fault, the text has the words for the
+-- file's content. Otherwise the text has the lines that name the faults.
+abbrev pub IsDocumentReport : List ℕ → List ℕ → Members → List ℕ → Type 0
+IsDocumentReport name bytes document text = MatchResult (file_in document)
+    (λ file. Describes name bytes document file text) (λ fault. NamesFault name bytes document fault text)
 
 -- The text is the report on the file called `name`, with the content `bytes`.
 abbrev pub IsReport : List ℕ → List ℕ → List ℕ → Type 0
-IsReport name bytes text = SaysOrNames name bytes (file_of bytes) text
+IsReport name bytes text = MatchResult (document_of bytes)
+    (λ document. IsDocumentReport name bytes document text) (λ fault. SaysPlainly name bytes fault text)

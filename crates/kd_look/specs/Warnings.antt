@@ -1,10 +1,10 @@
 -- The warnings about a file: about a byte order mark, about the file's keys, and about a key sheet's days.
 -- Test: tests/cases/curator-look.toml
-use Rattle.std.specs.Prelude.{codes, ◌≡◌, ℕ, ◌++◌, ◌∷◌, ◌==◌, ◌&&◌, Bool, List, [], MatchResult, Option, flat_map, slice_index, if◌then◌else◌}
+use Rattle.std.specs.Prelude.{codes, ◌≡◌, ℕ, ◌++◌, ◌∷◌, ◌==◌, ◌&&◌, Bool, List, [], Option, flat_map, slice_index, if◌then◌else◌}
 use Rattle.std.specs.List.{range_with_len}
 use Rattle.std.specs.Option.{option_map_or}
+use Rattle.toml.specs.Data.{Members}
 use Rattle.kd_state.specs.SheetDay.{Day}
-use Rattle.kd_sheet.specs.Document.{document_of}
 use Rattle.kd_sheet.specs.Sheet.{day_of}
 use Rattle.kd_slips.specs.Counts.{counts_of, few_lines}
 use Rattle.kd_slips.specs.declared.counts.DayCounts.{DayCounts}
@@ -22,11 +22,11 @@ unfoldable pub mark_words : List ℕ → List ℕ → List ℕ
 mark_words name bytes = if has_mark bytes
     then name ++ codes ": warning: the file begins with a byte order mark, which the desk passes over\n" else []
 
--- The text has the warning about a byte order mark, if the file begins with one. If the file is a document, the text
--- also has the warnings about the document's keys.
-pub record AreKeyWarnings (name bytes text : List ℕ) : Type 0 where
+-- The text has the warning about a byte order mark, if the file begins with one. Then it has the warnings about the
+-- keys of the file's document.
+pub record AreKeyWarnings (name bytes : List ℕ) (document : Members) (text : List ℕ) : Type 0 where
   pub lines : List ℕ
-  pub told : MatchResult (document_of bytes) (λ document. AreWarnings name document lines) (λ fault. lines ≡ [])
+  pub told : AreWarnings name document lines
   pub whole : text ≡ mark_words name bytes ++ lines
 
 -- a warning about days: the file's name, `: warning: day`, and `words`

@@ -2,67 +2,80 @@
 ghost use Rattle.std.specs.Prelude.{◌≡◌, ◌++◌, ℕ, List, codes, decimal, map, IfOk, OnOk, Err};
 ghost use Rattle.std.specs.Result.{result_ok};
 ghost use Rattle.std.specs.String.{string_bytes};
+ghost use Rattle.toml.specs.View.{table_view};
 ghost use Rattle.kd_findings.specs.Faults.{faults_of};
 ghost use Rattle.kd_look.specs.FaultWords.{AreFaultLines, IsLineAt, NamesFault, fault_end, fault_line};
-ghost use Rattle.kd_look.specs.FaultWords.{AreLinesFor, IsPlainLine, line_words};
-ghost use Rattle.kd_look.specs.File.{file_of};
+ghost use Rattle.kd_look.specs.FaultWords.{AreLinesFor, IsPlainLine, SaysPlainly, line_words};
+ghost use Rattle.kd_look.specs.File.{file_in};
 ghost use Rattle.kd_look.specs.Line.{line_of};
 ghost use Rattle.kd_findings.specs.Texts.{AppendsText};
 ghost use Rattle.kd_sheet.specs.Document.{document_of};
 
 use crate::line::lines_of;
-use crate::warnings::key_warnings;
+use crate::warnings::{key_warnings, push_mark};
 use kd_findings::{
     Finding, Place, find_faults, first_line, push_entry, push_titled, toml_words, wrong_words,
 };
 use kd_sheet::SheetFault;
-use kd_sheet::by_key::parse_table;
 use std::alloc::{AllocError, Global};
+use toml::Table;
 
-/// The lines about the faults of a file, and then the warnings about the file's keys. `fault` is the first of the
-/// faults.
+/// The lines about the faults of a file's `document`, and then the warnings about the document's keys. `fault` is the
+/// first of the faults.
 pub fn refusal(
     alloc: Global,
     bytes: &[u8],
     name: &str,
+    document: &Table,
     fault: SheetFault,
 ) -> Result<String, AllocError>
-    requires { file_of bytes.now ≡ Err fault }
-    ensures { IfOk result (λ text. NamesFault name.now bytes.now fault (string_bytes text)) }
+    requires { file_in (table_view document.now) ≡ Err fault }
+    ensures { IfOk result (λ text.
+        NamesFault name.now bytes.now (table_view document.now) fault (string_bytes text)) }
 {
-    let mut text = fault_lines(alloc, bytes, name, fault)?;
-    text.push_str(key_warnings(alloc, bytes, name)?.as_str())?;
+    let mut text = fault_lines(alloc, bytes, name, document, fault)?;
+    text.push_str(key_warnings(alloc, bytes, name, document)?.as_str())?;
     Ok(text)
 }
 
-/// The lines about the faults of a file. `fault` is the first of these faults.
-fn fault_lines(
+/// The line about a file that isn't TOML, and then the warning about a byte order mark.
+pub fn plain_refusal(
     alloc: Global,
     bytes: &[u8],
     name: &str,
     fault: SheetFault,
 ) -> Result<String, AllocError>
-    requires { file_of bytes.now ≡ Err fault }
-    ensures { IfOk result (λ text.
-        AreLinesFor name.now bytes.now (document_of bytes.now) fault (string_bytes text)) }
+    requires { document_of bytes.now ≡ Err fault }
+    ensures { IfOk result (λ text. SaysPlainly name.now bytes.now fault (string_bytes text)) }
 {
-    match parse_table(alloc, bytes) {
-        Ok(document) => {
-            let findings = find_faults(alloc, &document)?;
-            let mut text = String::new(alloc);
-            let lines = lines_of(alloc, bytes, findings.as_slice())?;
-            push_findings(
-                &mut text,
-                alloc,
-                name,
-                findings.as_slice(),
-                lines.as_slice(),
-            )?;
-            Ok(text)
-        }
-        Err(SheetFault::NoMemory) => Err(AllocError),
-        Err(_) => plain_line(alloc, bytes, name, fault),
-    }
+    let mut text = plain_line(alloc, bytes, name, fault)?;
+    push_mark(&mut text, bytes, name)?;
+    Ok(text)
+}
+
+/// The lines about the faults of a file's `document`. `fault` is the first of these faults.
+fn fault_lines(
+    alloc: Global,
+    bytes: &[u8],
+    name: &str,
+    document: &Table,
+    fault: SheetFault,
+) -> Result<String, AllocError>
+    requires { file_in (table_view document.now) ≡ Err fault }
+    ensures { IfOk result (λ text.
+        AreLinesFor name.now bytes.now (table_view document.now) fault (string_bytes text)) }
+{
+    let findings = find_faults(alloc, document)?;
+    let mut text = String::new(alloc);
+    let lines = lines_of(alloc, bytes, findings.as_slice())?;
+    push_findings(
+        &mut text,
+        alloc,
+        name,
+        findings.as_slice(),
+        lines.as_slice(),
+    )?;
+    Ok(text)
 }
 
 /// Appends a line about each of `findings`. `lines` has, for each finding, its line in the file.

@@ -1,12 +1,13 @@
 //! `File`: the content of a file, which is a machine or a key sheet.
-ghost use Rattle.kd_tables.specs.Answers.{AgreesOrNoMemory};
-ghost use Rattle.kd_look.specs.File.{file_of};
+ghost use Rattle.std.specs.Prelude.{◌≡◌};
+ghost use Rattle.toml.specs.View.{table_view};
+ghost use Rattle.kd_look.specs.File.{file_in};
 
 use kd_findings::is_machine_file;
-use kd_sheet::by_key::parse_table;
-use kd_sheet::{Sheet, SheetFault, read_machine, read_sheet};
+use kd_sheet::by_key::{machine_in, sheet_in};
+use kd_sheet::{Sheet, SheetFault};
 use kd_state::Machine;
-use std::alloc::Global;
+use toml::Table;
 
 /// The content of a file.
 #[derive(Drop)]
@@ -15,15 +16,14 @@ pub enum File {
     Sheet(Sheet),
 }
 
-/// Reads a machine file or a key sheet.
-#[tactic(auto, unfolding(crate::specs::File::file_of))]
-pub fn read_file(alloc: Global, bytes: &[u8]) -> Result<File, SheetFault>
-    ensures { AgreesOrNoMemory SheetFault.NoMemory (file_of bytes.now) result }
+/// Reads a machine or a key sheet from the table of a file.
+#[tactic(auto, unfolding(crate::specs::File::file_in))]
+pub fn file_in(document: &Table) -> Result<File, SheetFault>
+    ensures { result ≡ file_in (table_view document.now) }
 {
-    let document = parse_table(alloc, bytes)?;
-    if is_machine_file(&document) {
-        Ok(File::Machine(read_machine(alloc, bytes)?))
+    if is_machine_file(document) {
+        Ok(File::Machine(machine_in(document)?))
     } else {
-        Ok(File::Sheet(read_sheet(alloc, bytes)?))
+        Ok(File::Sheet(sheet_in(document)?))
     }
 }

@@ -2,17 +2,20 @@
 ghost use Rattle.std.specs.Prelude.{◌≡◌, ◌++◌, IfOk, OnOk};
 ghost use Rattle.std.specs.Result.{result_ok};
 ghost use Rattle.std.specs.String.{string_bytes};
-ghost use Rattle.kd_look.specs.Report.{Describes, IsReport, file_words, outcome_of};
-ghost use Rattle.kd_look.specs.File.{file_of};
+ghost use Rattle.toml.specs.View.{table_view};
+ghost use Rattle.kd_look.specs.Report.{Describes, IsDocumentReport, IsReport, file_words, outcome_of};
+ghost use Rattle.kd_look.specs.File.{file_in, file_of};
 
-use crate::fault_words::refusal;
-use crate::file::{File, read_file};
+use crate::fault_words::{plain_refusal, refusal};
+use crate::file::{File, file_in};
 use crate::machine_words::push_machine;
 use crate::outcome::Outcome;
 use crate::sheet_words::push_sheet;
 use crate::warnings::{day_warnings, key_warnings};
 use kd_sheet::SheetFault;
+use kd_sheet::by_key::parse_table;
 use std::alloc::{AllocError, Global};
+use toml::Table;
 
 /// The report on a file.
 #[derive(Drop)]
@@ -30,15 +33,39 @@ pub fn make_report(alloc: Global, bytes: &[u8], name: &str) -> Result<Report, Al
     ensures found { IfOk result (λ made. made.outcome ≡ outcome_of (file_of bytes.now)) }
     ensures file { IfOk result (λ made. made.file ≡ result_ok (file_of bytes.now)) }
 {
-    match read_file(alloc, bytes) {
+    match parse_table(alloc, bytes) {
+        Ok(document) => document_report(alloc, bytes, name, &document),
+        Err(SheetFault::NoMemory) => Err(AllocError),
+        Err(fault) => Ok(Report {
+            text: plain_refusal(alloc, bytes, name, fault)?,
+            outcome: Outcome::Faulty(fault),
+            file: None,
+        }),
+    }
+}
+
+/// Makes the report on the file called `name`, whose table is `document`.
+fn document_report(
+    alloc: Global,
+    bytes: &[u8],
+    name: &str,
+    document: &Table,
+) -> Result<Report, AllocError>
+    ensures report { IfOk result (λ made.
+        IsDocumentReport name.now bytes.now (table_view document.now) (string_bytes made.text)) }
+    ensures found { IfOk result (λ made.
+        made.outcome ≡ outcome_of (file_in (table_view document.now))) }
+    ensures file { IfOk result (λ made.
+        made.file ≡ result_ok (file_in (table_view document.now))) }
+{
+    match file_in(document) {
         Ok(file) => Ok(Report {
-            text: description(alloc, bytes, name, &file)?,
+            text: description(alloc, bytes, name, document, &file)?,
             outcome: Outcome::Faultless,
             file: Some(file),
         }),
-        Err(SheetFault::NoMemory) => Err(AllocError),
         Err(fault) => Ok(Report {
-            text: refusal(alloc, bytes, name, fault)?,
+            text: refusal(alloc, bytes, name, document, fault)?,
             outcome: Outcome::Faulty(fault),
             file: None,
         }),
@@ -46,12 +73,19 @@ pub fn make_report(alloc: Global, bytes: &[u8], name: &str) -> Result<Report, Al
 }
 
 /// The words for the content of the file `name`, and then the file's warnings.
-fn description(alloc: Global, bytes: &[u8], name: &str, file: &File) -> Result<String, AllocError>
-    ensures { IfOk result (λ text. Describes name.now bytes.now file.now (string_bytes text)) }
+fn description(
+    alloc: Global,
+    bytes: &[u8],
+    name: &str,
+    document: &Table,
+    file: &File,
+) -> Result<String, AllocError>
+    ensures { IfOk result (λ text.
+        Describes name.now bytes.now (table_view document.now) file.now (string_bytes text)) }
 {
     let mut text = String::new(alloc);
     push_file(&mut text, name, file)?;
-    let keys = key_warnings(alloc, bytes, name)?;
+    let keys = key_warnings(alloc, bytes, name, document)?;
     text.push_str(keys.as_str())?;
     let days = day_warnings(alloc, name, file)?;
     text.push_str(days.as_str())?;

@@ -1,25 +1,30 @@
 //! Warnings about a file: about a byte order mark, about the file's keys, and about a key sheet's days.
-ghost use Rattle.std.specs.Prelude.{◌≡◌, ◌++◌, [], IfOk, MatchResult, OnOk};
+ghost use Rattle.std.specs.Prelude.{◌≡◌, ◌++◌, IfOk, OnOk};
 ghost use Rattle.std.specs.String.{string_bytes};
-ghost use Rattle.kd_sheet.specs.Document.{document_of};
-ghost use Rattle.kd_findings.specs.Warnings.{AreWarnings};
+ghost use Rattle.toml.specs.View.{table_view};
 ghost use Rattle.kd_look.specs.Warnings.{AreKeyWarnings, WarnsOfFile, WarnsOfMonth, has_mark, mark_words};
 
 use crate::alike::push_alike_days;
 use crate::few_days::push_few_days;
 use crate::file::File;
 use kd_findings::warning_lines;
-use kd_sheet::by_key::parse_table;
-use kd_sheet::{Sheet, SheetFault};
+use kd_sheet::Sheet;
 use std::alloc::{AllocError, Global};
+use toml::Table;
 
-/// The warnings about a byte order mark and the keys of a file. Each warning is a line.
-pub fn key_warnings(alloc: Global, bytes: &[u8], name: &str) -> Result<String, AllocError>
-    ensures { IfOk result (λ lines. AreKeyWarnings name.now bytes.now (string_bytes lines)) }
+/// The warnings about a byte order mark, and about the keys of a file's `document`. Each warning is a line.
+pub fn key_warnings(
+    alloc: Global,
+    bytes: &[u8],
+    name: &str,
+    document: &Table,
+) -> Result<String, AllocError>
+    ensures { IfOk result (λ lines.
+        AreKeyWarnings name.now bytes.now (table_view document.now) (string_bytes lines)) }
 {
     let mut lines = String::new(alloc);
     push_mark(&mut lines, bytes, name)?;
-    let of_document = document_warnings(alloc, bytes, name)?;
+    let of_document = warning_lines(alloc, name, document)?;
     lines.push_str(of_document.as_str())?;
     Ok(lines)
 }
@@ -36,7 +41,7 @@ pub fn day_warnings(alloc: Global, name: &str, file: &File) -> Result<String, Al
 
 /// Appends the warning about a byte order mark, if the file begins with one.
 #[tactic(auto, using(std::proofs::Common::append_assoc), unfolding(crate::specs::Warnings::mark_words))]
-fn push_mark(lines: &mut String, bytes: &[u8], name: &str) -> Result<(), AllocError>
+pub fn push_mark(lines: &mut String, bytes: &[u8], name: &str) -> Result<(), AllocError>
     ensures { OnOk result (string_bytes lines.new
         ≡ string_bytes lines.old ++ mark_words name.now bytes.now) }
 {
@@ -56,18 +61,6 @@ fn has_mark(bytes: &[u8]) -> bool
     ensures { result ≡ has_mark bytes.now }
 {
     bytes.len() > 2 && bytes[0] == 239 && bytes[1] == 187 && bytes[2] == 191
-}
-
-/// The warnings about the keys of a file; empty if the file isn't a document.
-fn document_warnings(alloc: Global, bytes: &[u8], name: &str) -> Result<String, AllocError>
-    ensures { IfOk result (λ lines. MatchResult (document_of bytes.now)
-        (λ document. AreWarnings name.now document (string_bytes lines)) (λ fault. string_bytes lines ≡ [])) }
-{
-    match parse_table(alloc, bytes) {
-        Ok(document) => warning_lines(alloc, name, &document),
-        Err(SheetFault::NoMemory) => Err(AllocError),
-        Err(_) => Ok(String::new(alloc)),
-    }
 }
 
 /// The warnings about the days of `sheet`. Each warning is a line.

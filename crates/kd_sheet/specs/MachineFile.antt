@@ -54,11 +54,14 @@ parts_in model table = by_family
     (rotor_parts_in model table >>= (λ parts. Ok (with_cables_in_order (Rotor parts))))
     (pin_parts_in table >>= (λ parts. Ok (Pin parts))) (family_of model)
 
--- the machine that a machine file's bytes describe, or the file's first fault
-abbrev pub machine_of : List ℕ → Result Parts SheetFault
-machine_of bytes = do
-  table ← document_of bytes
+-- the machine that a machine file's table describes, or the table's first fault
+abbrev pub machine_in : Members → Result Parts SheetFault
+machine_in table = do
   version ← read_at keys.Version (number_up_to 2) table
   model ← model_in table
   demand (nat_le (file_version model) version) UnknownModel
   parts_in model table
+
+-- the machine that a machine file's bytes describe, or the file's first fault
+abbrev pub machine_of : List ℕ → Result Parts SheetFault
+machine_of bytes = document_of bytes >>= machine_in

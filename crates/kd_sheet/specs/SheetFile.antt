@@ -75,6 +75,10 @@ day_for days item = do
   model ← model_in table
   day_in number model table
 
+-- the month that a key sheet's table describes, or the table's first fault
+abbrev pub sheet_in : Members → Result (List (Option Day)) SheetFault
+sheet_in table = read_at keys.Day as_items table >>= read_items day_for >>= (λ days. Ok (month_of days))
+
 -- the month that a key sheet's bytes describe, or the sheet's first fault
 abbrev pub sheet_of : List ℕ → Result (List (Option Day)) SheetFault
-sheet_of bytes = document_of bytes >>= read_at keys.Day as_items >>= read_items day_for >>= (λ days. Ok (month_of days))
+sheet_of bytes = document_of bytes >>= sheet_in

@@ -1,8 +1,9 @@
-//! Readers of single keys, for programs that test each key of a file on its own.
+//! Readers of parsed files, and of single keys, for programs that parse a file once, or test each key on its own.
 
 pub use crate::document::{find_at, parse_table};
-pub use crate::machine_reader::box_letters_in;
+pub use crate::machine_reader::{box_letters_in, machine_in};
 pub use crate::sheet_reader::day_entry::{rings_in, window_in};
+pub use crate::sheet_reader::sheet_in;
 pub use crate::values::bars::bars_in;
 pub use crate::values::cables::cables_in;
 pub use crate::values::groups::groups_in;

@@ -4,7 +4,7 @@ ghost use Rattle.std.specs.Prelude.{◌≡◌, ◌<◌, length};
 ghost use Rattle.toml.specs.View.{table_view};
 ghost use Rattle.kd_tables.specs.Tables.{box_of, slots_of};
 ghost use Rattle.kd_sheet.specs.Letters.{letters_at};
-ghost use Rattle.kd_sheet.specs.MachineFile.{rotor_parts_in, pin_parts_in, parts_in, machine_of};
+ghost use Rattle.kd_sheet.specs.MachineFile.{rotor_parts_in, pin_parts_in, parts_in, machine_in, machine_of};
 ghost use Rattle.kd_sheet.specs.MachineText.{file_version};
 
 use crate::document::{parse_table, value_at};
@@ -52,13 +52,20 @@ pub fn box_letters_in(table: &Table, key: Key, model: Model) -> Result<PerWheel<
 pub fn read_machine(alloc: Global, bytes: &[u8]) -> Result<Machine, SheetFault>
     ensures { AgreesOrNoMemory SheetFault.NoMemory (machine_of bytes.now) result }
 {
-    let table = parse_table(alloc, bytes)?;
-    let version = number_at(&table, Key::Version, LATEST_VERSION)?;
-    let model = model_in(&table)?;
+    machine_in(&parse_table(alloc, bytes)?)
+}
+
+/// Reads a machine from the table of a machine file of version 1 or 2, or returns the first fault. The M4 needs
+/// version 2.
+pub fn machine_in(table: &Table) -> Result<Machine, SheetFault>
+    ensures { result ≡ machine_in (table_view table.now) }
+{
+    let version = number_at(table, Key::Version, LATEST_VERSION)?;
+    let model = model_in(table)?;
     if version < file_version(model) {
         return Err(SheetFault::UnknownModel);
     }
-    parts_in(&table, model)
+    parts_in(table, model)
 }
 
 /// Reads a machine of `model` from the file's table, or returns the first fault.

@@ -1,10 +1,10 @@
 //! Reads a key sheet: a TOML document with an array of days.
 ghost use Rattle.kd_tables.specs.Answers.{AgreesOrNoMemory};
 ghost use Rattle.std.specs.Prelude.{◌≡◌, map, List};
-ghost use Rattle.toml.specs.View.{view};
+ghost use Rattle.toml.specs.View.{table_view, view};
 ghost use Rattle.kd_state.specs.SheetDay.{Day};
 ghost use Rattle.kd_sheet.specs.{Document.{read_items, result_map}, Sheet.{month_of}};
-ghost use Rattle.kd_sheet.specs.SheetFile.{day_for, sheet_of};
+ghost use Rattle.kd_sheet.specs.SheetFile.{day_for, sheet_in, sheet_of};
 
 pub(crate) mod day_entry;
 
@@ -16,7 +16,7 @@ use crate::{Key, SheetFault};
 use day_entry::day_in;
 use kd_state::SheetDay;
 use std::alloc::Global;
-use toml::Value;
+use toml::{Table, Value};
 
 /// Reads a key sheet, or returns its first fault.
 ///
@@ -24,8 +24,14 @@ use toml::Value;
 pub fn read_sheet(alloc: Global, bytes: &[u8]) -> Result<Sheet, SheetFault>
     ensures { AgreesOrNoMemory SheetFault.NoMemory (sheet_of bytes.now) result }
 {
-    let table = parse_table(alloc, bytes)?;
-    sheet_of_items(items_at(&table, Key::Day)?)
+    sheet_in(&parse_table(alloc, bytes)?)
+}
+
+/// Reads a key sheet from the sheet's table, or returns the first fault.
+pub fn sheet_in(table: &Table) -> Result<Sheet, SheetFault>
+    ensures { result ≡ sheet_in (table_view table.now) }
+{
+    sheet_of_items(items_at(table, Key::Day)?)
 }
 
 /// Reads `items` as the days of a sheet.

@@ -2,7 +2,7 @@
 -- a month, each at its number.
 pub mod KeyValues
 unfoldable pub use KeyValues.*
-use Rattle.kd_sheet.specs.{Document.document_of, MachineFile.machine_of, SheetFile.sheet_of}
+use Rattle.kd_sheet.specs.{Document.document_of, MachineFile.machine_of, SheetFile.{sheet_in, sheet_of}}
 use Rattle.kd_state.{proofs.Carrying.ordered_parts, specs.Machine.IsMachine}
 
 -- ---- reflectors
@@ -349,8 +349,9 @@ machine_of-IsMachine bytes =
 pub sheet_of-legal : (bytes : List ℕ) (month : List (Option Day)) (number : ℕ) (day : Day) → sheet_of bytes ≡ Ok month
     → day_of month number ≡ Some day → IsLegalDay day
 sheet_of-legal bytes month number day e found =
-    let days = bind-Ok (document_of bytes >>= read_at keys.Day as_items >>= read_items day_for) _ month e in
-    let items = bind-Ok (document_of bytes >>= read_at keys.Day as_items) (read_items day_for) days.0 days.1 in
+    let table = bind-Ok (document_of bytes) sheet_in month e in
+    let days = bind-Ok (read_at keys.Day as_items table.0 >>= read_items day_for) _ month table.2 in
+    let items = bind-Ok (read_at keys.Day as_items table.0) (read_items day_for) days.0 days.1 in
     let same : month_of days.0 ≡ month = Ok-injective _ _ days.2 in
     let entry = (days_are_the_entries items.0 days.0 number day items.2).0 (rw same found) in
     (IsDayFor-day_for [] entry.0 day entry.2).legal
