@@ -22,8 +22,8 @@ cable_for cables item = do
   demand (are_new_and_distinct letters (letters_in_cables cables)) LetterTwice
   Ok (slice_get letters 0, slice_get letters 1)
 
--- The 13 cables of a machine file. A cable without an item at the key `cables` is empty. Without this key, all cables
--- are empty.
+-- The 13 cables of a machine file: first the cables in the array `cables`, then empty cables. If the file has no array
+-- `cables`, all 13 cables are empty.
 unfoldable pub cables_in : Members → Result (List (Option ℕ × Option ℕ)) SheetFault
 cables_in table = do
   cables ← option_map_or (read_array keys.Cables (λ n. nat_le n 13) cable_for) (get_member (key_name keys.Cables) table)

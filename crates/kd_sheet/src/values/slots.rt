@@ -36,8 +36,7 @@ pub fn slots_in(table: &Table, key: Key, model: Model) -> Result<PerSlot<Option<
     Ok(PerSlot::new(slots.as_slice()).unwrap())
 }
 
-/// The wheel named `name`, if it may be in the next slot after `slots`. Otherwise the result is the fault that says why
-/// not.
+/// The wheel named `name`, if this wheel may be in the slot after `slots`. Otherwise, the fault that says why not.
 #[tactic(auto, using(crate::proofs::ReadBack::Described::KeyValues::seating), unfolding(crate::specs::Slots::wheel_for))]
 fn wheel_for(
     key: Key,
