@@ -1,7 +1,7 @@
 //! The line of a setting, as it stands in a card or in a list.
 ghost use Rattle.std.specs.Prelude.{◌≡◌, ◌≢◌, ◌<◌, ◌≤◌, [], ◌∷◌, ◌++◌, length, map, decimal, IfSome, MatchOption};
 ghost use Rattle.arrayvec.specs.ArrayString.{array_string_len};
-ghost use Rattle.kd_state.specs.declared.setting.Setting.TheVariants.{SeatReflector, RingTo, LugTo};
+ghost use Rattle.kd_state.specs.declared.setting.Setting.TheVariants.{Seat, SeatReflector, RingTo, PinTo, LugTo};
 ghost use Rattle.kd_tables.specs.Text.{letters_text};
 ghost use Rattle.kd_state.specs.Line.{setting_line, on_off_text, IsSettingInRange, IsSettingOfWords};
 
@@ -24,35 +24,16 @@ impl Setting {
         match *self {
             Setting::Pull { cable, letter } => letter_line("PULL", cable, letter),
             Setting::Put { cable, letter } => letter_line("PUT", cable, letter),
-            Setting::Seat { slot, wheel } => {
-                let mut line = line_prefix("SEAT", slot);
-                line.push_str(wheel.text().as_str());
-                line
-            }
-            Setting::SeatReflector { reflector } => {
-                let mut line = ArrayString::new();
-                line.push_str("REFLECTOR ");
-                line.push_str(reflector.text().as_str());
-                line
-            }
+            Setting::Seat { slot, wheel } => seat_line(slot, wheel),
+            Setting::SeatReflector { reflector } => reflector_line(reflector),
             Setting::RingTo { wheel, letter } => ring_setting_line(wheel, letter),
             Setting::Turn { slot, letter } => letter_line("TURN", slot, letter),
             Setting::PinTo {
                 wheel,
                 letter,
                 effective,
-            } => {
-                let mut line = letter_line("PIN", wheel, letter);
-                line.push_str(if effective { " ON" } else { " OFF" });
-                line
-            }
-            Setting::LugTo { bar, lug, place } => {
-                let mut line = line_prefix("LUG", bar);
-                line.push_str(lug.text().as_str());
-                line.push_str(" ");
-                line.push_str(place.text().as_str());
-                line
-            }
+            } => pin_line(wheel, letter, effective),
+            Setting::LugTo { bar, lug, place } => lug_line(bar, lug, place),
         }
     }
 
@@ -94,6 +75,27 @@ fn letter_line(word: &str, number: u8, letter: Letter) -> ArrayString<24>
     line
 }
 
+/// The line of the setting that puts `wheel` into slot `slot`.
+fn seat_line(slot: u8, wheel: Wheel) -> ArrayString<24>
+    ensures value { result.bytes ≡ setting_line (Seat slot wheel) }
+    ensures short { array_string_len result < 24 }
+{
+    let mut line = line_prefix("SEAT", slot);
+    line.push_str(wheel.text().as_str());
+    line
+}
+
+/// The line of the setting that puts `reflector` into the machine.
+fn reflector_line(reflector: Reflector) -> ArrayString<24>
+    ensures value { result.bytes ≡ setting_line (SeatReflector reflector) }
+    ensures short { array_string_len result < 24 }
+{
+    let mut line = ArrayString::new();
+    line.push_str("REFLECTOR ");
+    line.push_str(reflector.text().as_str());
+    line
+}
+
 /// The line of the setting that sets the ring of `wheel` to `letter`.
 fn ring_setting_line(wheel: Wheel, letter: Letter) -> ArrayString<24>
     ensures value { result.bytes ≡ setting_line (RingTo wheel letter) }
@@ -104,6 +106,28 @@ fn ring_setting_line(wheel: Wheel, letter: Letter) -> ArrayString<24>
     line.push_str(wheel.text().as_str());
     line.push_str(" ");
     push_letter(&mut line, letter);
+    line
+}
+
+/// The line of the setting that makes the pin at `letter` of pin wheel `wheel` effective, or not effective.
+fn pin_line(wheel: u8, letter: Letter, effective: bool) -> ArrayString<24>
+    ensures value { result.bytes ≡ setting_line (PinTo wheel letter effective) }
+    ensures short { array_string_len result < 24 }
+{
+    let mut line = letter_line("PIN", wheel, letter);
+    line.push_str(if effective { " ON" } else { " OFF" });
+    line
+}
+
+/// The line of the setting that moves the lug `lug` of bar `bar` to `place`.
+fn lug_line(bar: u8, lug: Lug, place: Place) -> ArrayString<24>
+    ensures value { result.bytes ≡ setting_line (LugTo bar lug place) }
+    ensures short { array_string_len result < 24 }
+{
+    let mut line = line_prefix("LUG", bar);
+    line.push_str(lug.text().as_str());
+    line.push_str(" ");
+    line.push_str(place.text().as_str());
     line
 }
 

@@ -1,3 +1,5 @@
+use Rattle.kd_state.proofs.WheelsInSlots.{not_ready}
+use Rattle.std.proofs.lemmas.Grind.{common_steps}
 use Rattle.kd_state.proofs.{Prelude.{arith, refl}, WheelsInSlots.of_seated}
 use Rattle.kd_state.proofs.engine.ready.ready_wheels.Goals as goal
 
@@ -8,3 +10,9 @@ returns-clause-ready c =
 
 pub returns-clause-key : goal.returns-clause-key
 returns-clause-key c = grind (arith, of_seated)
+
+pub returns-clause-slots : goal.returns-clause-slots
+returns-clause-slots c = grind (arith, common_steps)
+
+pub returns-in_err-wheels-clause-ready : goal.returns-in_err-wheels-clause-ready
+returns-in_err-wheels-clause-ready c = grind (arith, not_ready)

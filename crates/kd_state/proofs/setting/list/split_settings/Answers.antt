@@ -1,3 +1,4 @@
+use Rattle.std.proofs.lemmas.Grind.{common_steps}
 use Rattle.kd_state.proofs.{Prelude.{eqb-true, length_push, [], arith, sym, ◌++◌, ◌∙◌, ◌∷◌}, Lines.one_more}
 use Rattle.kd_state.proofs.setting.list.split_settings.Goals as goal
 
@@ -11,3 +12,9 @@ returns-then-is_full c =
           c.loop-setting.invariant.begins c.in-Some.ensures,
       omega (arith, full, length_push settings c.in-Some.setting),
     )
+
+pub loop-setting-preserved : goal.loop-setting-preserved
+loop-setting-preserved c = grind (arith, common_steps)
+
+pub loop-setting-smaller : goal.loop-setting-smaller
+loop-setting-smaller c = grind (arith, common_steps)
