@@ -19,7 +19,7 @@ mod warnings;
 pub use explanation_words::wrong_words;
 pub use findings::{Explanation, Finding};
 pub use judging::{entries_of, find_faults, is_machine_file};
-pub use not_toml::toml_words;
+pub use not_toml::{TextPlace, place_after, push_place, toml_words};
 pub use place::Place;
 pub use texts::{first_line, push_entry, push_titled};
 pub use warnings::warning_lines;

@@ -1,11 +1,11 @@
 //! The words for a file that isn't TOML: the place of the fault, the parser's message, and the likely mistake.
-ghost use Rattle.std.specs.Prelude.{◌≡◌, ◌+◌, ◌==◌, count_by, reverse, IfOk, None};
+ghost use Rattle.std.specs.Prelude.{◌≡◌, ◌+◌, ◌++◌, ◌==◌, count_by, reverse, take, IfOk, OnOk, None};
 ghost use Rattle.std.specs.Result.{result_ok};
 ghost use Rattle.std.specs.String.{string_bytes};
 ghost use Rattle.toml.specs.Errors.{IsWithin, span_start};
 ghost use Rattle.kd_sheet.specs.Document.{document_of};
 ghost use Rattle.kd_findings.specs.NotToml.{NamesPlace, SaysNotToml, begins_character, characters_to_feed};
-ghost use Rattle.kd_findings.specs.NotToml.{place_words};
+ghost use Rattle.kd_findings.specs.NotToml.{column_at, line_at, place_words};
 
 use crate::texts::{first_line, push_titled};
 use std::alloc::{AllocError, Global};
@@ -13,9 +13,9 @@ use toml::de::Error;
 
 /// A place in a text. Lines and columns are counted from 1, columns in characters.
 #[derive(Clone, Copy)]
-struct TextPlace {
-    line: usize,
-    column: usize,
+pub struct TextPlace {
+    pub line: usize,
+    pub column: usize,
 }
 
 /// The words for the place at which `bytes` stop being TOML: its line, its column, and what is wrong there.
@@ -27,6 +27,19 @@ pub fn toml_words(alloc: Global, bytes: &[u8]) -> Result<String, AllocError>
         Ok(_) => Err(AllocError),
         Err(error) => words_at(alloc, bytes, &error),
     }
+}
+
+/// Appends the place of the byte at `index`: its line, its column, and what is wrong there.
+pub fn push_place(
+    words: &mut String,
+    bytes: &[u8],
+    index: usize,
+    reason: &str,
+) -> Result<(), AllocError>
+    ensures { OnOk result (string_bytes words.new ≡ string_bytes words.old
+        ++ place_words (line_at bytes.now index) (column_at bytes.now index) reason.now) }
+{
+    push_place_words(words, place_after(bytes_before(bytes, index)), reason)
 }
 
 /// The words for the place of the parser's fault: its line, its column, and what is wrong there.
@@ -43,7 +56,7 @@ fn words_at(alloc: Global, bytes: &[u8], error: &Error) -> Result<String, AllocE
 }
 
 /// The place after the bytes `before`.
-fn place_after(before: &[u8]) -> TextPlace
+pub fn place_after(before: &[u8]) -> TextPlace
     ensures line { result.line ≡ count_by (λ byte. byte == 10) before.now + 1 }
     ensures column { result.column ≡ characters_to_feed (reverse before.now) + 1 }
 {
@@ -74,23 +87,8 @@ fn reason_for(
     line: usize,
     message: &str,
 ) -> Result<String, AllocError> {
-    if let Some(words) = message_words(bytes) {
-        return String::from_str(alloc, words);
-    }
     let advice = hint(numbered_line(bytes, line), message);
     format!(in alloc; "this isn't TOML: {message}; {advice}")
-}
-
-/// The words for a file that is an order or a form. `None` for any other file.
-fn message_words(bytes: &[u8]) -> Option<&'static str> {
-    match bytes.strip_prefix(b"PART ")? {
-        [b'0'..=b'9', ..] => Some(
-            "this is a form, for `desk receive` or `curator receive`, and no machine file or key sheet",
-        ),
-        _ => Some(
-            "this is an order, for `desk send` or `curator send`, and no machine file or key sheet",
-        ),
-    }
 }
 
 /// The likely mistake in `line`, in which the parser found a fault. `message` is the parser's message.
@@ -137,15 +135,34 @@ fn numbered_line(bytes: &[u8], line: usize) -> &[u8] {
 }
 
 /// The words for a place: its line, its column, and what is wrong there.
-#[tactic(auto, using(std::proofs::Common::append_assoc), unfolding(crate::specs::NotToml::place_words))]
 fn place_words(alloc: Global, place: TextPlace, reason: &str) -> Result<String, AllocError>
     ensures { IfOk result (λ words. string_bytes words
         ≡ place_words place.line place.column reason.now) }
 {
     let mut words = String::new(alloc);
-    push_titled(&mut words, ", line ", place.line)?;
-    push_titled(&mut words, ", column ", place.column)?;
-    words.push_str(": ")?;
-    words.push_str(reason)?;
+    push_place_words(&mut words, place, reason)?;
     Ok(words)
+}
+
+/// Appends the words for a place: its line, its column, and what is wrong there.
+#[tactic(auto, using(std::proofs::Common::append_assoc), unfolding(crate::specs::NotToml::place_words))]
+fn push_place_words(words: &mut String, place: TextPlace, reason: &str) -> Result<(), AllocError>
+    ensures { OnOk result (string_bytes words.new
+        ≡ string_bytes words.old ++ place_words place.line place.column reason.now) }
+{
+    push_titled(words, ", line ", place.line)?;
+    push_titled(words, ", column ", place.column)?;
+    words.push_str(": ")?;
+    words.push_str(reason)
+}
+
+/// The bytes before the byte at `index`, or all of `bytes` if there is no such byte.
+fn bytes_before(bytes: &[u8], index: usize) -> &[u8]
+    ensures { result.now ≡ take index bytes.now }
+{
+    if index < bytes.len() {
+        &bytes[..index]
+    } else {
+        bytes
+    }
 }
