@@ -8,7 +8,7 @@ use crate::slip::{Slip, refuse};
 use crate::values::{check_at_most, item_text, items_at, items_of, shown};
 use kd_sheet::by_key::find_at;
 use kd_sheet::{Key, SheetFault};
-use std::alloc::Global;
+use std::alloc::{AllocError, Global};
 use toml::{Table, Value};
 
 /// Checks the cables of a machine file, at the key `cables`.
@@ -131,13 +131,15 @@ fn check_ends(
     if text.len() <= 2 {
         return Ok(());
     }
+    refuse(fault, many_ends_words(alloc, text))
+}
+
+/// Why the cable `text`, which has more than two letters, is refused.
+fn many_ends_words(alloc: Global, text: &str) -> Result<String, AllocError> {
     let text_shown = shown(alloc, text)?;
-    refuse(
-        fault,
-        format!(in alloc;
-            "{} has {} letters, and a cable has two ends",
-            text_shown.as_str(),
-            text.len()
-        ),
+    format!(in alloc;
+        "{} has {} letters, and a cable has two ends",
+        text_shown.as_str(),
+        text.len()
     )
 }

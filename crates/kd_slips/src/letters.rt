@@ -31,29 +31,37 @@ pub fn check_capitals(alloc: Global, text: &str, fault: SheetFault) -> Result<()
     ensures other { OnErr result (list_all is_ascii_uppercase text.now ≡ false) }
     ensures slip { IfErr result (HasFault fault None) }
 {
-    let bytes = text.as_bytes();
-    if bytes.iter().all(|byte| byte.is_ascii_uppercase()) {
+    if are_capitals(text.as_bytes()) {
         return Ok(());
     }
+    refuse(fault, no_capitals_words(alloc, text))
+}
+
+fn are_capitals(bytes: &[u8]) -> bool
+    ensures { result ≡ list_all is_ascii_uppercase bytes.now }
+{
+    bytes.iter().all(|byte| byte.is_ascii_uppercase())
+}
+
+/// Why `text`, which has another byte than a capital letter, is refused.
+fn no_capitals_words(alloc: Global, text: &str) -> Result<String, AllocError> {
     let text_shown = shown(alloc, text)?;
-    if text.len() <= 40 && bytes.iter().all(|byte| byte.is_ascii_alphabetic()) {
+    if text.len() <= 40 && are_letters(text.as_bytes()) {
         let capitals = in_capitals(alloc, text)?;
-        return refuse(
-            fault,
-            format!(in alloc;
-                "small letters: write `{}` for {}",
-                capitals.as_str(),
-                text_shown.as_str()
-            ),
+        return format!(in alloc;
+            "small letters: write `{}` for {}",
+            capitals.as_str(),
+            text_shown.as_str()
         );
     }
-    refuse(
-        fault,
-        format!(in alloc;
-            "{} has a character that is no capital letter from A to Z",
-            text_shown.as_str()
-        ),
+    format!(in alloc;
+        "{} has a character that is no capital letter from A to Z",
+        text_shown.as_str()
     )
+}
+
+fn are_letters(bytes: &[u8]) -> bool {
+    bytes.iter().all(|byte| byte.is_ascii_alphabetic())
 }
 
 /// Checks that the text at `key` has exactly `count` capital letters. The words `of` say what the letters stand for.
@@ -89,15 +97,22 @@ pub fn check_text(
     if text.len() == count {
         return Ok(());
     }
+    refuse(fault, other_count_words(alloc, text, count, of))
+}
+
+/// Why `text`, which doesn't have `count` letters, is refused. `of` says what the letters stand for.
+fn other_count_words(
+    alloc: Global,
+    text: &str,
+    count: usize,
+    of: &str,
+) -> Result<String, AllocError> {
     let text_shown = shown(alloc, text)?;
     let noun = if text.len() == 1 { "letter" } else { "letters" };
-    refuse(
-        fault,
-        format!(in alloc;
-            "{} has {} {noun}, and {count} are needed{of}",
-            text_shown.as_str(),
-            text.len()
-        ),
+    format!(in alloc;
+        "{} has {} {noun}, and {count} are needed{of}",
+        text_shown.as_str(),
+        text.len()
     )
 }
 
@@ -127,14 +142,16 @@ pub fn check_on_wheel(
     if place_on_wheel(wheel, letter).is_some() {
         return Ok(());
     }
+    refuse(fault, no_letter_words(alloc, wheel, letter))
+}
+
+/// Why `letter`, which isn't on pin wheel `wheel`, is refused.
+fn no_letter_words(alloc: Global, wheel: u8, letter: Letter) -> Result<String, AllocError> {
     let letters = wheel_letters(alloc, wheel)?;
-    refuse(
-        fault,
-        format!(in alloc;
-            "wheel {wheel} has no {}; it has {}",
-            char::from(letter.byte()),
-            letters.as_str()
-        ),
+    format!(in alloc;
+        "wheel {wheel} has no {}; it has {}",
+        char::from(letter.byte()),
+        letters.as_str()
     )
 }
 

@@ -57,15 +57,17 @@ pub fn check_reflector(alloc: Global, table: &Table, model: Model) -> Result<(),
     if let Some(reflector) = near_reflector(model, name) {
         return refuse_case(alloc, fault, name, reflector.text().as_str());
     }
+    refuse(fault, no_reflector_words(alloc, model, name))
+}
+
+/// Why `name`, which names none of the model's reflectors, is refused.
+fn no_reflector_words(alloc: Global, model: Model, name: &str) -> Result<String, AllocError> {
     let name_shown = shown(alloc, name)?;
-    refuse(
-        fault,
-        format!(in alloc;
-            "{} is no reflector of {}, which has {}",
-            name_shown.as_str(),
-            model_name(model),
-            reflector_words(model)
-        ),
+    format!(in alloc;
+        "{} is no reflector of {}, which has {}",
+        name_shown.as_str(),
+        model_name(model),
+        reflector_words(model)
     )
 }
 
@@ -113,13 +115,15 @@ fn unknown_model(alloc: Global, name: &str) -> Result<Model, Slip>
     if let Some(model) = near_model(name) {
         return refuse_case(alloc, fault, name, model.text().as_str());
     }
+    refuse(fault, no_model_words(alloc, name))
+}
+
+/// Why `name`, which names no model, is refused.
+fn no_model_words(alloc: Global, name: &str) -> Result<String, AllocError> {
     let name_shown = shown(alloc, name)?;
-    refuse(
-        fault,
-        format!(in alloc;
-            "{} is no model: write `Enigma I`, `M3`, `M4` or `M-209`",
-            name_shown.as_str()
-        ),
+    format!(in alloc;
+        "{} is no model: write `Enigma I`, `M3`, `M4` or `M-209`",
+        name_shown.as_str()
     )
 }
 
@@ -169,15 +173,17 @@ fn unknown_wheel(alloc: Global, name: &str, key: Key, model: Model) -> Result<Wh
     if let Some(wheel) = near_wheel(name) {
         return refuse_case(alloc, fault, name, wheel.text().as_str());
     }
+    refuse(fault, no_wheel_words(alloc, name, model))
+}
+
+/// Why `name`, which names no wheel, is refused.
+fn no_wheel_words(alloc: Global, name: &str, model: Model) -> Result<String, AllocError> {
     let name_shown = shown(alloc, name)?;
-    refuse(
-        fault,
-        format!(in alloc;
-            "{} is no wheel; {} has {}",
-            name_shown.as_str(),
-            model_name(model),
-            box_words(model)
-        ),
+    format!(in alloc;
+        "{} is no wheel; {} has {}",
+        name_shown.as_str(),
+        model_name(model),
+        box_words(model)
     )
 }
 
@@ -209,26 +215,33 @@ fn check_allowed(alloc: Global, model: Model, slot: u8, wheel: Wheel) -> Result<
     if allowed(model, slot, wheel) {
         return Ok(());
     }
-    let name = wheel.text();
-    if in_box(model, wheel) {
-        return refuse(
-            SheetFault::WheelNotAllowed,
-            format!(in alloc;
-                "wheel {} doesn't go into slot {slot} of {}, which takes {}",
-                name.as_str(),
-                model_name(model),
-                slot_words(model, slot)
-            ),
-        );
-    }
     refuse(
         SheetFault::WheelNotAllowed,
-        format!(in alloc;
-            "wheel {} isn't in the box of {}, which has {}",
+        not_allowed_words(alloc, model, slot, wheel),
+    )
+}
+
+/// Why `wheel`, which `model` doesn't allow in slot `slot`, is refused.
+fn not_allowed_words(
+    alloc: Global,
+    model: Model,
+    slot: u8,
+    wheel: Wheel,
+) -> Result<String, AllocError> {
+    let name = wheel.text();
+    if in_box(model, wheel) {
+        return format!(in alloc;
+            "wheel {} doesn't go into slot {slot} of {}, which takes {}",
             name.as_str(),
             model_name(model),
-            box_words(model)
-        ),
+            slot_words(model, slot)
+        );
+    }
+    format!(in alloc;
+        "wheel {} isn't in the box of {}, which has {}",
+        name.as_str(),
+        model_name(model),
+        box_words(model)
     )
 }
 

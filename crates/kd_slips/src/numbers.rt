@@ -7,7 +7,7 @@ ghost use Rattle.kd_slips.specs.Items.{HasFault};
 use crate::slip::{Slip, refuse};
 use crate::values::{kind_of, shown, value_at};
 use kd_sheet::{Key, SheetFault};
-use std::alloc::Global;
+use std::alloc::{AllocError, Global};
 use toml::{Table, Value};
 
 /// The whole number from 1 to `last` at `key`, or the reason why there is none.
@@ -27,28 +27,34 @@ pub fn number_of(alloc: Global, value: &Value, fault: SheetFault, last: u8) -> R
     ensures slip { IfErr result (HasFault fault None) }
 {
     if let Some(text) = value.as_str() {
-        let text_shown = shown(alloc, text)?;
-        return refuse(
-            fault,
-            format!(in alloc;
-                "{} stands in quotes: write a number, without quotes",
-                text_shown.as_str()
-            ),
-        );
+        return refuse(fault, quoted_words(alloc, text));
     }
     let Some(number) = value.as_integer() else {
-        return refuse(
-            fault,
-            format!(in alloc; "{} stands where a number is needed", kind_of(value)),
-        );
+        return refuse(fault, no_number_words(alloc, value));
     };
     match u8::try_from(number) {
         Ok(small) if 1 <= small && small <= last => Ok(small),
-        _ => refuse(
-            fault,
-            format!(in alloc; "{number} is no number from 1 to {last}"),
-        ),
+        _ => refuse(fault, out_of_range_words(alloc, number, last)),
     }
+}
+
+/// Why a text in place of a number is refused.
+fn quoted_words(alloc: Global, text: &str) -> Result<String, AllocError> {
+    let text_shown = shown(alloc, text)?;
+    format!(in alloc;
+        "{} stands in quotes: write a number, without quotes",
+        text_shown.as_str()
+    )
+}
+
+/// Why a value of another type in place of a number is refused.
+fn no_number_words(alloc: Global, value: &Value) -> Result<String, AllocError> {
+    format!(in alloc; "{} stands where a number is needed", kind_of(value))
+}
+
+/// Why `number`, which isn't from 1 to `last`, is refused.
+fn out_of_range_words(alloc: Global, number: i64, last: u8) -> Result<String, AllocError> {
+    format!(in alloc; "{number} is no number from 1 to {last}")
 }
 
 /// Checks that the value at `key` is a whole number from 1 to `last`.

@@ -12,7 +12,7 @@ use crate::values::{check_count, item_text, items_at, shown};
 use kd_sheet::by_key::{bars_in, find_at, rows_in};
 use kd_sheet::{BARS, Key, SheetFault, pins_of_text};
 use kd_tables::{Letter, ring1, ring2, ring3, ring4, ring5, ring6};
-use std::alloc::Global;
+use std::alloc::{AllocError, Global};
 use toml::{Table, Value};
 
 /// Checks the pins at the key `pins`. A slip's words are about the first wheel whose pins the desk refuses.
@@ -163,12 +163,13 @@ fn refuse_row(alloc: Global, table: &Table, key: Key, number: u8, advice: &str) 
         return refuse_item(fault, place, String::from_str(alloc, "the item is missing"));
     };
     let text = item_text(alloc, item, place, fault)?;
+    refuse_item(fault, place, row_words(alloc, text, advice))
+}
+
+/// The text of a row, then `advice`.
+fn row_words(alloc: Global, text: &str, advice: &str) -> Result<String, AllocError> {
     let text_shown = shown(alloc, text)?;
-    refuse_item(
-        fault,
-        place,
-        format!(in alloc; "{} {advice}", text_shown.as_str()),
-    )
+    format!(in alloc; "{} {advice}", text_shown.as_str())
 }
 
 /// Item number `number` of the list at `key`, counted from 1.

@@ -62,13 +62,7 @@ pub fn text_at(alloc: Global, table: &Table, key: Key) -> Result<&str, Slip>
     let value = value_at(alloc, table, key)?;
     match value.as_str() {
         Some(text) => Ok(text),
-        None => refuse(
-            SheetFault::BadValue(key),
-            format!(in alloc;
-                "{} stands where a text is needed, in double quotes",
-                kind_of(value)
-            ),
-        ),
+        None => refuse(SheetFault::BadValue(key), no_text_words(alloc, value)),
     }
 }
 
@@ -86,15 +80,16 @@ pub fn item_text(
 {
     match item.as_str() {
         Some(text) => Ok(text),
-        None => refuse_item(
-            fault,
-            number,
-            format!(in alloc;
-                "{} stands where a text is needed, in double quotes",
-                kind_of(item)
-            ),
-        ),
+        None => refuse_item(fault, number, no_text_words(alloc, item)),
     }
+}
+
+/// Why `value`, which isn't a text, is refused where a text is needed.
+fn no_text_words(alloc: Global, value: &Value) -> Result<String, AllocError> {
+    format!(in alloc;
+        "{} stands where a text is needed, in double quotes",
+        kind_of(value)
+    )
 }
 
 /// The items of `value`, or a slip if `value` isn't a list. `value` stands at `key`.
@@ -139,10 +134,7 @@ pub fn check_count(alloc: Global, key: Key, len: usize, count: usize, of: &str) 
     }
     refuse(
         SheetFault::BadValue(key),
-        format!(in alloc;
-            "{} there, and there are {count} {of}",
-            items_words(alloc, len)?.as_str()
-        ),
+        other_len_words(alloc, len, "", count, of),
     )
 }
 
@@ -157,10 +149,22 @@ pub fn check_at_most(alloc: Global, key: Key, len: usize, most: usize, of: &str)
     }
     refuse(
         SheetFault::BadValue(key),
-        format!(in alloc;
-            "{} there, and there are at most {most} {of}",
-            items_words(alloc, len)?.as_str()
-        ),
+        other_len_words(alloc, len, "at most ", most, of),
+    )
+}
+
+/// Why a list of `len` items is refused: `bound` and `count` say how many items it may have.
+fn other_len_words(
+    alloc: Global,
+    len: usize,
+    bound: &str,
+    count: usize,
+    of: &str,
+) -> Result<String, AllocError> {
+    let items = items_words(alloc, len)?;
+    format!(in alloc;
+        "{} there, and there are {bound}{count} {of}",
+        items.as_str()
     )
 }
 
