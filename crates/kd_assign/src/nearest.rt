@@ -30,9 +30,9 @@ impl<const N: usize> Nearest<N> {
         }
     }
 
-    /// Adds `row` to the tree, and compares its offer with the ceiling of each column outside the tree.
+    /// Adds `row` to the tree, and compares the row's offer with the ceiling of each column outside the tree.
     ///
-    /// A column's ceiling is the lowest price that a row of the tree has offered for it so far.
+    /// A column's ceiling is the lowest price that a row of the tree has offered for the column so far.
     pub fn join(
         &mut self,
         reached: &[bool; N],

@@ -34,8 +34,8 @@ AsFewAreNeeded =
     → LeadsToTheDay machine day settings
     → length settings ≤ loose_count machine day + priced_count settings → AreSettingsNeeded machine day settings
 
--- If a card with prices by number proves itself, the number of its settings is the prices' sum plus the number of loose
--- things.
+-- If a card with prices by number proves itself, the number of settings is the sum of the prices plus the number of
+-- loose things.
 abbrev pub ProvingCardsAreAsLong : Type 0
 ProvingCardsAreAsLong =
     (machine : Parts) (day : Day) (settings : List Setting) (prices : PriceParts)

@@ -32,8 +32,8 @@ pub record EndsKindsAt {K X : Type 0} (format : KindFormat K X) (last : Option K
   pub ends : EndsGroup format.word bytes
   pub none_more : HasNoNext format last bytes
 
--- At the start of `bytes`, a group of kinds goes on, but with a bad line. A bad line has no LF, isn't the line of a
--- valid kind, or has a kind that doesn't come after `last`.
+-- The group of kinds doesn't end before `bytes`, and the first line of `bytes` is bad. A bad line has no LF, isn't the
+-- line of a valid kind, or has a kind that doesn't come after `last`.
 pub record IsBadKindAt {K X : Type 0} (format : KindFormat K X) (last : Option K) (bytes : List ℕ) : Type 0 where
   pub goes_on : ¬ (EndsGroup format.word bytes)
   pub none_more : HasNoNext format last bytes

@@ -46,8 +46,8 @@ abbrev pub Sends : Parts → Day → Port → Port → Result (Unit {0}) DeskFau
 Sends m s order sink answer = IsStreamedOn m s (order_message s) order sink answer
 
 -- How the forms and the orders of day `s` agree. If a form is made from an order, the form's text is the text that the
--- receiver must get. No order becomes a form with a fault. If no further bytes can change a form's fault, no order
--- becomes a form that begins with this form.
+-- receiver must get. No form made from an order has a fault. If no further bytes can change a form's fault, no form
+-- made from an order begins with this form.
 pub record FormsAgreeWithOrders (s : Day) : Type 0 where
   pub back : (form text order given : List ℕ) → IsTextOf s form text → IsFormOf s order form
       → IsPlaintextOf s order given → text ≡ given

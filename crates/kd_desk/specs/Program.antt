@@ -89,7 +89,7 @@ DoesTask (tasks.Check card) number sink answer m s = Checks m s number card sink
 DoesTask (tasks.Message Send order) number sink answer m s = Sends m s order sink answer
 DoesTask (tasks.Message Receive form) number sink answer m s = Receives m s form sink answer
 
--- An action was carried out with the machine of the machine file `machine`. Only `Type` reads `source`.
+-- An action was carried out with the machine of the machine file `machine`. Only the action `Type` reads `source`.
 abbrev pub DoesAction : List ℕ → Action (List ℕ) Port → Port → Port → Result (Unit {0}) DeskFault → Type 0
 DoesAction machine actions.Type source sink answer = TypesOn machine source sink answer
 DoesAction machine (actions.Apply list) source sink answer = AppliesTo machine list sink answer × IsUntouched source

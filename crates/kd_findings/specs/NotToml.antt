@@ -33,7 +33,8 @@ pub record NamesPlace (text : List ℕ) (start : ℕ) (words : List ℕ) : Type 
   pub plain : IsInOneLine reason
   pub whole : words ≡ place_words (line_at text start) (column_at text start) reason
 
--- `words` have the line and the column of a byte of `text`, or of the text's end. Then they have a reason in one line.
+-- `words` tell the line and the column of a byte of `text`, or of the text's end. Then `words` tell a reason in one
+-- line.
 pub record SaysNotToml (text words : List ℕ) : Type 0 where
   pub start : ℕ
   pub within : start ≤ length text

@@ -18,7 +18,7 @@ use Rattle.kd_findings.specs.SheetFaults.{number_in}
 use Rattle.kd_findings.specs.declared.unread.Unread.{Unread}
 
 -- An unread key. `name` is the key's name. `entry` is the number of the key sheet's entry that has the key, counted
--- from 1. It is `None` for a key at the top of the file. `day` is the entry's day, if it is known.
+-- from 1. For a key at the top of the file, `entry` is `None`. `day` is the entry's day, if it is known.
 pub record UnreadKey : Type 0 where
   pub entry : Option ℕ
   pub day : Option ℕ
@@ -77,9 +77,9 @@ abbrev pub unread_in_entries : List Data → List UnreadKey
 unread_in_entries items = flat_map (λ number. option_map_or (unread_in_entry number) (numbered_item items number) [])
     (range_with_len 1 (length items))
 
--- The known keys of a document without the array `day`. A machine file has the keys of its model. In any other
--- document, the keys of all machine files and of all days are known. A key sheet without its first line `[[day]]` has a
--- day's keys at the top.
+-- The known keys of a document without the array `day`. In a machine file, the keys of the file's model are known. In
+-- any other document, the keys of all machine files and of all days are known. A key sheet without its first line
+-- `[[day]]` has a day's keys at the top.
 abbrev pub top_keys : Members → List Key
 top_keys document = if is_machine_file document then file_keys (result_ok (model_in document))
     else rotor_file_keys ++ pin_file_keys ++ rotor_day_keys ++ pin_day_keys

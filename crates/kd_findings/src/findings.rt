@@ -25,7 +25,8 @@ pub struct Explanation {
     pub words: String,
 }
 
-/// Appends the fault of the value at `place`, if there is one. The words that explain the fault come from `checked`.
+/// Appends `fault`, the fault of the value at `place`, if there is a fault. The words that explain the fault come from
+/// `checked`.
 pub fn note(
     list: &mut Vec<Finding>,
     alloc: Global,
@@ -42,7 +43,7 @@ pub fn note(
     }
 }
 
-/// Appends `fault` to `list`, with the words that `checked` has for this fault.
+/// Appends `fault` to `list`, with the words in `checked` that explain `fault`.
 fn push_fault(
     list: &mut Vec<Finding>,
     alloc: Global,

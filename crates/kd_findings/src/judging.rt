@@ -21,7 +21,7 @@ use kd_slips::values::kind_of;
 use std::alloc::{AllocError, Global};
 use toml::{Table, Value};
 
-/// The items of the array at `key`. `None` if the table has no such array.
+/// The items of the array at `key`. `None` if the table has no array at `key`.
 #[tactic(auto, using(kd_sheet::proofs::ReadBack::Described::KeyValues::Steps::items_found))]
 pub fn items_at(table: &Table, key: Key) -> Option<&[Value]>
     ensures { option_map (λ items. map view items.now) result
@@ -32,7 +32,7 @@ pub fn items_at(table: &Table, key: Key) -> Option<&[Value]>
     Some(items.as_slice())
 }
 
-/// The entries of a key sheet: the items of the array `day`. `None` if the document has no such array.
+/// The entries of a key sheet: the items of the array `day`. `None` if the document has no array `day`.
 pub fn entries_of(document: &Table) -> Option<&[Value]>
     ensures { option_map (λ items. map view items.now) result ≡ entries_of (table_view document.now) }
 {

@@ -5,8 +5,8 @@ ghost use Rattle.kd_findings.specs.Unread.{is_name_of};
 use kd_sheet::Key;
 use kd_slips::near_names::is_near;
 
-/// Names that a person may wrongly write for a key, each with the right key. Some are names of keys in other files,
-/// others are common words, such as `stecker`.
+/// Names that a person may wrongly write for a key, each with the right key. Some of these names are keys of other
+/// files. Others are common words, such as `stecker`.
 const OTHER_NAMES: [(&str, Key); 12] = [
     ("plugs", Key::Cables),
     ("plugboard", Key::Cables),

@@ -116,7 +116,7 @@ fn judge_rotors(
     note(list, alloc, Place::in_file(Key::Cables), cables, checked)
 }
 
-/// Appends the fault at `key`, if there is one. The key's value needs a letter for each wheel of the box.
+/// Appends the fault at `key`, if there is one. The value of `key` must have a letter for each wheel of the box.
 fn judge_box_letters(
     list: &mut Vec<Finding>,
     alloc: Global,

@@ -42,7 +42,7 @@ pub fn push_place(
     push_place_words(words, place_after(bytes_before(bytes, index)), reason)
 }
 
-/// The words for the place of the parser's fault: its line, its column, and what is wrong there.
+/// The words for the parser's fault: its line, its column, and what is wrong there.
 fn words_at(alloc: Global, bytes: &[u8], error: &Error) -> Result<String, AllocError>
     requires { IsWithin bytes.now error.now }
     ensures { IfOk result (λ words. NamesPlace bytes.now (span_start error.now) (string_bytes words)) }

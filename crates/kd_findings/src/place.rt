@@ -38,7 +38,7 @@ impl Place {
         }
     }
 
-    /// The place of `key` in this place's entry. If this place has no entry, `key` is at the top of the file.
+    /// The place of `key` in the entry of `self`. If `self` has no entry, `key` is at the top of the file.
     pub fn at(self, key: Key) -> Self
         ensures { result ≡ at_key self key }
     {

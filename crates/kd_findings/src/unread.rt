@@ -111,7 +111,7 @@ static ANY_DAY: [Key; 14] = [
     Key::List,
 ];
 
-/// A key of a file that the desk doesn't know, and so doesn't read.
+/// A file's key that the desk doesn't know, and so doesn't read.
 #[derive(Clone, Copy)]
 pub struct Unread<'t> {
     /// The number of the entry of a key sheet in which the key stands, counted from 1. `None` for a key at the top of
@@ -130,7 +130,7 @@ pub enum Meant {
     Key(Key),
     /// The array `day`, which has the entries of a key sheet.
     Entries,
-    /// Nothing that this crate can guess.
+    /// This crate can't guess what was meant.
     Unknown,
 }
 
@@ -187,7 +187,7 @@ fn push_entries<'t>(list: &mut Vec<Unread<'t>>, items: &'t [Value]) -> Result<()
     Ok(())
 }
 
-/// Appends the unread keys of the entry `entry`, if it is a table.
+/// Appends the unread keys of the entry number `entry`, if this entry is a table.
 #[tactic(auto, unfolding(crate::specs::Unread::unread_in_entry))]
 fn push_entry_keys<'t>(
     list: &mut Vec<Unread<'t>>,

@@ -137,7 +137,7 @@ fn push_file_cables(lines: &mut String, name: &str, document: &Table) -> Result<
     }
 }
 
-/// Appends a warning about each cable in `items` that is two capital letters in falling order, such as `BA`.
+/// Appends a warning about each cable in `items` with two capital letters in falling order, such as `BA`.
 fn push_cables(lines: &mut String, name: &str, items: &[Value]) -> Result<(), AllocError>
     ensures { OnOk result (string_bytes lines.new
         ≡ string_bytes lines.old ++ flat_map (cable_line name.now) (map view items.now)) }

@@ -93,9 +93,8 @@ IsReceiveFault s form fault = IsFormAnswer s form (Err fault)
 -- ---- Which faults no further bytes can change, and what is written before a fault.
 -- Test: tests/cases/desk-messages.toml, tests/refusals
 
--- The first unread part begins at `p` and has the fault `fault`. No further bytes can change this fault. Suppose that
--- the part is the form's last part. Then its heading line is complete, and the fault is in the heading line or in a
--- byte of the body.
+-- The first unread part begins at `p`, and has the fault `fault`, which no further bytes can change. If this part is
+-- the form's last part, its heading line is complete. The fault is then in this line or in a byte of the body.
 abbrev pub IsPartFaultForGood : Day → FormFault → PartsProperty
 IsPartFaultForGood s fault p [] = ⊥
 IsPartFaultForGood s fault p (part ∷ []) =

@@ -56,7 +56,8 @@ is_device_interruption _ = false
 
 -- ---- bytes, one after another
 
--- A call that has read the prefix `front` of `bytes` must have written `due`. `text` is only a proper prefix of `due`.
+-- `text` is a proper prefix of `due`, the text that a call must have written after it has read the prefix `front` of
+-- `bytes`.
 pub record IsPrefixOfDue (m : Message) (bytes text : List ℕ) : Type 0 where
   pub front : List ℕ
   pub due : List ℕ
@@ -170,6 +171,6 @@ IsWriteMessageAnswer m bytes sink (Ok _) = (text : List ℕ) × m.becomes bytes 
 IsWriteMessageAnswer m bytes sink (Err (Refused fault)) = m.refused bytes fault
 IsWriteMessageAnswer m bytes sink (Err Device) = Unit {0}
 
--- There is a text that the whole message `bytes` becomes.
+-- The whole message `bytes` has a result.
 abbrev pub HasResult : Message → List ℕ → Type 0
 HasResult m bytes = (text : List ℕ) × m.becomes bytes text

@@ -40,7 +40,7 @@ IsMessageAnswer m bytes text answer =
 -- Test: tests/cases/desk-messages.toml
 
 -- `text` is all that the call must have written at a certain moment:
--- - `ByThen`: when the call has read `front`. This prefix of `read` has no fault.
+-- - `ByThen`: when the call has read `front`. `front` is a prefix of `read`, and has no fault.
 -- - `ByTheEnd`: when the call has read the whole message, because the source ends after `read`.
 pub data IsDue (m : Message) (source : Port) (read text : List ℕ) : Type 0 where
   ByThen : (front : List ℕ) → StartsWith read front → IsOpen m front text → IsDue m source read text

@@ -1,6 +1,6 @@
 -- The line of a value in a file: the first line such that the file, cut off after this line, is a document with the
--- value. If the array `day` is missing, the line is the line of the file's first key.
--- Code: the document is parsed up to the end of each line in turn, once for all faults.
+-- value. A missing array `day` gets the line of the file's first key. Code: the document is parsed up to the end of
+-- each line in turn, once for all faults.
 -- Test: tests/cases/curator-look.toml
 use Rattle.std.specs.Prelude.{ℕ, ◌+◌, ◌==◌, ◌||◌, ◌&&◌, nat_lt, Bool, true, false, List, find, length, take, count_by}
 use Rattle.std.specs.Prelude.{slice_index, Option, Some, None, is_some, option_map, if◌then◌else◌}
@@ -42,7 +42,7 @@ has_value (soughts.Entry entry) document = is_some (table_at document (Some entr
 has_value (soughts.Key entry key) document = option_map_or (is_given key) (table_at document entry) false
 has_value soughts.AnyKey document = has_any_key document
 
--- whether the text is a document with the entry or key to look for
+-- whether the text is a document with the entry or key `sought`
 abbrev pub reads_value : Sought → List ℕ → Bool
 reads_value sought text = option_map_or (has_value sought) (result_ok (document_of text)) false
 
@@ -50,8 +50,8 @@ reads_value sought text = option_map_or (has_value sought) (result_ok (document_
 abbrev pub ends_line : List ℕ → ℕ → Bool
 ends_line text index = slice_index text index == 10 || index + 1 == length text
 
--- Whether a line ends after the byte at `index`, and the text up to this byte is a document with the entry or key to
--- look for.
+-- Whether a line ends after the byte at `index`, and the text up to this byte is a document with the entry or key
+-- `sought`.
 unfoldable pub has_value_at : List ℕ → Sought → ℕ → Bool
 has_value_at text sought index = ends_line text index && reads_value sought (take (index + 1) text)
 
@@ -70,21 +70,21 @@ is_too_long text = nat_lt 65536 (length text) || nat_lt 2048 (count_by (λ byte.
 abbrev pub line_number : List ℕ → Sought → Option ℕ
 line_number text sought = if is_too_long text then None else line_before text (length text) sought
 
--- The entry or key to look for if a key is missing:
+-- What to look for if a key is missing:
 -- - in an entry: the entry itself
--- - in the document, and the key is `day`: any key of the document
--- - in the document, and the key isn't `day`: `None`
+-- - in the document, if the key is `day`: any key of the document
+-- - in the document, if the key isn't `day`: nothing (`None`)
 abbrev pub sought_without : Option ℕ → Key → Option Sought
 sought_without (Some entry) key = Some (soughts.Entry entry)
 sought_without None keys.Day = Some soughts.AnyKey
 sought_without None key = None
 
--- the entry or key to look for, to find the line of a fault
+-- what to look for to find the line of a fault: an entry or a key
 abbrev pub sought_for : Place → SheetFault → Option Sought
 sought_for place (Missing key) = sought_without place.entry key
 sought_for place fault = Some (soughts.Key place.entry place.key)
 
--- the line of a fault in the file
+-- the number of a fault's line in the file
 unfoldable pub line_of_fault : List ℕ → Place → SheetFault → Option ℕ
 line_of_fault text place fault = option_and_then (line_number text) (sought_for place fault)
 
@@ -98,7 +98,7 @@ line_of text finding = line_of_fault text finding.place finding.fault
 unfoldable pub line_so_far : List ℕ → ℕ → Finding → Option ℕ
 line_so_far text end finding = option_and_then (line_before text end) (sought_for finding.place finding.fault)
 
--- the first line or, if it is `None`, `later`
+-- the first argument if it has a line, otherwise the second argument, `later`
 abbrev pub or_line : Option ℕ → Option ℕ → Option ℕ
 or_line (Some line) later = Some line
 or_line None later = later

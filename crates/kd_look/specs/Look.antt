@@ -24,7 +24,7 @@ pub record NamedText : Type 0 where
 abbrev pub named_text : NamedFile → NamedText
 named_text file = record { name = file.name.now; bytes = file.bytes.now }
 
--- the first outcome or, if it is `Faultless`, `later`
+-- the earlier of two outcomes if it is `Faulty`, otherwise `later`
 abbrev pub or_later : Outcome → Outcome → Outcome
 or_later outcomes.Faultless later = later
 or_later (outcomes.Faulty fault) later = outcomes.Faulty fault

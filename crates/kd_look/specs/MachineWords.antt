@@ -14,7 +14,7 @@ use Rattle.kd_look.specs.Texts.{two_digits}
 use Rattle.kd_look.specs.declared.machine_words.Thing.{Thing}
 use Rattle.kd_look.specs.declared.machine_words.Thing.TheVariants as things
 
--- the start of a line: the thing's name and its number
+-- the start of a line: `name` and `number`, such as `cable 1: `
 unfoldable pub label : List ℕ → ℕ → List ℕ
 label name number = name ++ codes " " ++ decimal number ++ codes ": "
 

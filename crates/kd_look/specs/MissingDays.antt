@@ -11,7 +11,7 @@ use Rattle.kd_look.specs.declared.file.File.{File}
 use Rattle.kd_look.specs.declared.file.File.TheVariants as files
 use Rattle.kd_look.specs.declared.missing_days.ReadFile.{ReadFile}
 
--- A file's name, and the file's content, if the file has no fault.
+-- A file's name and, if the file has no fault, the file's content.
 pub record KnownFile : Type 0 where
   pub name : List ℕ
   pub file : Option File
@@ -44,7 +44,7 @@ words_for None words = []
 unfoldable pub no_day_start : List ℕ → List ℕ → List ℕ
 no_day_start name sheet = name ++ codes ": warning: " ++ sheet
 
--- the end of a warning: the key sheet has no day for the machine; `model` is the machine's model in words
+-- the end of the warning that the key sheet has no day for the machine; `model` is the machine's model in words
 unfoldable pub no_day_end : List ℕ → List ℕ
 no_day_end model = codes " has no day for " ++ model ++ codes "\n"
 

@@ -21,16 +21,17 @@ unfoldable pub has_day : List (Option Day) → Sort → ℕ → Bool
 has_day month (sorts.Of model) number = has_day_of model month number
 has_day month sorts.WithoutGroups number = option_map_or lacks_groups (day_of month number) false
 
--- What the day `number` adds to the lines for its sort, such as `M3: days 4 to 9`. A line's first day adds the line's
--- beginning, with `title`. Its last day adds the line's end, and days between add nothing. `before` and `after` say
--- whether the previous day and the next day are of this sort.
+-- The words that day `number` adds to the lines for the days of a sort, such as `M3: days 4 to 9`. The day is of this
+-- sort. The first day of a line adds the line's beginning, with `title`. The last day of a line adds the line's end.
+-- Days between them add nothing. `before` and `after` say whether the previous day and the next day are of this sort.
 unfoldable pub day_words : List ℕ → Bool → Bool → ℕ → List ℕ
 day_words title before after number =
     if before then (if after then [] else decimal number ++ codes "\n")
     else (if after then title ++ codes ": days " ++ decimal number ++ codes " to "
     else title ++ codes ": day " ++ decimal number ++ codes "\n")
 
--- the words that the day `number` of the sheet adds to the lines of a sort; empty if the day isn't of this sort
+-- the words that day `number` of the sheet adds to the lines for the days of a sort; empty if the day isn't of this
+-- sort
 unfoldable pub numbered_day_words : List (Option Day) → List ℕ → Sort → ℕ → List ℕ
 numbered_day_words month title sort number =
     if has_day month sort number

@@ -17,7 +17,7 @@ use Rattle.kd_look.specs.declared.file.File.TheVariants as files
 unfoldable pub has_mark : List ℕ → Bool
 has_mark bytes = slice_index bytes 0 == 239 && slice_index bytes 1 == 187 && slice_index bytes 2 == 191
 
--- the warning about a byte order mark; empty if the file has no such mark
+-- the warning about a file's byte order mark; empty if the file has none
 unfoldable pub mark_words : List ℕ → List ℕ → List ℕ
 mark_words name bytes = if has_mark bytes
     then name ++ codes ": warning: the file begins with a byte order mark, which the desk passes over\n" else []
@@ -63,7 +63,7 @@ pub record WarnsOfMonth (name : List ℕ) (month : List (Option Day)) (text : Li
   pub of_alike : WarnsOfDays name alike
   pub whole : text ≡ alike ++ few_day_words name month
 
--- The text has the warnings about the days of a file. It is empty if the file isn't a key sheet.
+-- The text has the warnings about the days of a file. If the file isn't a key sheet, the text is empty.
 abbrev pub WarnsOfFile : List ℕ → File → List ℕ → Type 0
 WarnsOfFile name (files.Machine machine) text = text ≡ []
 WarnsOfFile name (files.Sheet month) text = WarnsOfMonth name month text

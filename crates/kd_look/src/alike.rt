@@ -42,7 +42,7 @@ fn push_alike(
     push_day_line(lines, name, words.as_str())
 }
 
-/// Finds the first day before the day `number` that differs from it only in the number.
+/// Finds the first earlier day that equals day `number` in everything but the number.
 fn first_alike(sheet: &Sheet, number: u8) -> Option<u8> {
     let day = sheet.day(number)?;
     for earlier in 1..number {

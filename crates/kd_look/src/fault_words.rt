@@ -78,7 +78,7 @@ fn fault_lines(
     Ok(text)
 }
 
-/// Appends a line about each of `findings`. `lines` has, for each finding, its line in the file.
+/// Appends a line about each of `findings`. For each finding, `lines` has the number of the finding's line in the file.
 fn push_findings(
     text: &mut String,
     alloc: Global,

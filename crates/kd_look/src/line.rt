@@ -14,10 +14,11 @@ use kd_sheet::{Key, SheetFault};
 use std::alloc::{AllocError, Global};
 use toml::{Table, Value};
 
-/// The greatest number of bytes for which a file's faults get line numbers.
+/// The greatest size, in bytes, of a file whose faults get line numbers.
 const MOST_BYTES: usize = 65_536;
 
-/// The greatest number of line ends for which a file's faults get line numbers. The file is parsed up to each line end.
+/// The greatest number of line ends for which a file's faults get line numbers. To find line numbers, the file is
+/// parsed up to each line end.
 const MOST_LINES: usize = 2_048;
 
 /// The entry or key to look for in a document, to find the line of a fault.
@@ -33,8 +34,8 @@ enum Sought {
 
 /// The line of each of `findings`, found by cutting off `text` after each line in turn.
 ///
-/// A finding's line is the first line such that the cut text is a document with the entry or key to look for. `None` if
-/// there is no such line, or `text` is too long.
+/// For each finding, there is an entry or key to look for. The finding's line is the first line after which the cut
+/// text is a document with this entry or key. `None` if there is no such line, or `text` is too long.
 pub fn lines_of(
     alloc: Global,
     text: &[u8],
@@ -87,8 +88,8 @@ fn no_lines(alloc: Global, findings: &[Finding]) -> Result<Vec<Option<usize>>, A
     Ok(lines)
 }
 
-/// The lines of `findings`, with `None` for each line that ends after the byte at `index`. `lines` has the lines that
-/// end before this byte.
+/// For each of `findings`, the number of its line; `None` if this line ends after the byte at `index`. `lines` has the
+/// numbers of the lines that end before this byte.
 fn lines_after(
     alloc: Global,
     text: &[u8],
@@ -117,8 +118,8 @@ fn ends_line(text: &[u8], index: usize) -> bool
     text[index] == b'\n' || index + 1 == text.len()
 }
 
-/// Returns `lines`, the lines of `findings`. A finding without a line gets `line`, if `text` is a document with the
-/// entry or key to look for.
+/// Returns the line numbers `lines`, one for each of `findings`. A number that is missing becomes `line`, if `text` is
+/// a document with the entry or key sought for the finding.
 fn lines_with(
     alloc: Global,
     text: &[u8],
@@ -138,8 +139,8 @@ fn lines_with(
     }
 }
 
-/// Returns `lines`, the lines of `findings`. A finding without a line gets `line`, if `document` has the entry or key
-/// to look for.
+/// Returns the line numbers `lines`, one for each of `findings`. A number that is missing becomes `line`, if `document`
+/// has the entry or key sought for the finding.
 fn next_lines(
     alloc: Global,
     document: &Table,
@@ -159,7 +160,7 @@ fn next_lines(
     Ok(next)
 }
 
-/// The line `known`, if there is one. Otherwise `line`, if `document` has the entry or key to look for.
+/// `known`, if it isn't `None`. Otherwise `line`, if `document` has the entry or key to look for.
 fn known_line(
     known: Option<usize>,
     document: &Table,
@@ -187,7 +188,7 @@ fn line_in(document: &Table, line: usize, finding: &Finding) -> Option<usize>
     }
 }
 
-/// The entry or key to look for, to find the line of `finding`.
+/// What to look for to find the line of `finding`: an entry or a key.
 fn sought_for(finding: &Finding) -> Option<Sought>
     ensures { result ≡ sought_for finding.now.place finding.now.fault }
 {
@@ -198,10 +199,10 @@ fn sought_for(finding: &Finding) -> Option<Sought>
     }
 }
 
-/// The entry or key to look for if `key` is missing:
+/// What to look for if `key` is missing:
 /// - in an entry: the entry itself
-/// - in the document, and `key` is `day`: any key of the document
-/// - in the document, and `key` isn't `day`: `None`
+/// - in the document, if `key` is `day`: any key of the document
+/// - in the document, if `key` isn't `day`: nothing (`None`)
 fn sought_without(entry: Option<usize>, key: Key) -> Option<Sought>
     ensures { result ≡ sought_without entry key }
 {
@@ -234,8 +235,8 @@ fn has_key(document: &Table, entry: Option<usize>, key: Key) -> bool
     }
 }
 
-/// The table that has a value: `document` itself or, if `entry` is a number, item `entry` of the document's array
-/// `day`.
+/// The table in which to look for a value: `document` itself or, if `entry` is a number, item `entry` of the document's
+/// array `day`.
 #[tactic(auto, unfolding(crate::specs::Line::table_at))]
 fn table_at(document: &Table, entry: Option<usize>) -> Option<&Table>
     ensures { option_map (λ table. table_view table.now) result
@@ -247,7 +248,7 @@ fn table_at(document: &Table, entry: Option<usize>) -> Option<&Table>
     }
 }
 
-/// The item of `items` with the number `entry`, counted from 1, if it is a table.
+/// Item number `entry` of `items`, counted from 1, if this item is a table.
 fn entry_of(items: &[Value], entry: usize) -> Option<&Table>
     ensures { option_map (λ table. table_view table.now) result ≡ entry_of (map view items.now) entry }
 {

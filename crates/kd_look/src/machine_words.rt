@@ -126,7 +126,8 @@ fn push_optional_letter(text: &mut String, letter: Option<Letter>) -> Result<(),
     }
 }
 
-/// Appends the line of cable `cable`, if the machine has this cable, and the cable has a letter.
+/// Appends the line of cable `cable`. Appends nothing if the machine doesn't have this cable, or if neither end of the
+/// cable has a letter.
 #[tactic(auto, unfolding(crate::specs::MachineWords::cable_words))]
 fn push_cable(text: &mut String, machine: &Machine, cable: u8) -> Result<(), AllocError>
     ensures { OnOk result
@@ -252,7 +253,7 @@ fn push_bar(text: &mut String, machine: &Machine, bar: u8) -> Result<(), AllocEr
     text.push_str("\n")
 }
 
-/// Appends the start of a line: the thing's name and its number.
+/// Appends the start of a line: the name and the number of a slot, cable, wheel or bar.
 #[tactic(auto, using(std::proofs::Common::append_assoc), unfolding(crate::specs::MachineWords::label))]
 fn push_label(text: &mut String, name: &str, number: u8) -> Result<(), AllocError>
     ensures { OnOk result (string_bytes text.new ≡ string_bytes text.old ++ label name.now number) }

@@ -73,7 +73,8 @@ fn serves(model: Model, file: &ReadFile<'_>) -> bool
     }
 }
 
-/// Appends a warning for each key sheet of `files`: the sheet has no day for the machine in the file `name`.
+/// Appends a warning for each key sheet of `files`. The warning says that the sheet has no day for the machine in the
+/// file `name`.
 #[tactic(auto, using(std::proofs::Common::append_assoc))]
 fn push_no_days(
     lines: &mut String,
@@ -135,7 +136,8 @@ fn push_no_day_start(lines: &mut String, name: &str, sheet: &str) -> Result<(), 
     push_three(lines, name, ": warning: ", sheet)
 }
 
-/// Appends the end of a warning: the key sheet has no day for the machine. `model` is the machine's model in words.
+/// Appends the end of the warning that the key sheet has no day for the machine. `model` is the machine's model in
+/// words.
 #[tactic(auto, unfolding(crate::specs::MissingDays::no_day_end))]
 fn push_no_day_end(lines: &mut String, model: &str) -> Result<(), AllocError>
     ensures { OnOk result (string_bytes lines.new ≡ string_bytes lines.old ++ no_day_end model.now) }

@@ -61,7 +61,8 @@ fn push_sort(text: &mut String, sheet: &Sheet, title: &str, sort: Sort) -> Resul
     Ok(())
 }
 
-/// Appends the words for the day `number` to the lines of the sort `sort`, if the day is of this sort.
+/// Appends the words that the day `number` adds to the lines for the days of the sort `sort`. If the day isn't of this
+/// sort, appends nothing.
 #[tactic(auto, unfolding(crate::specs::SheetWords::numbered_day_words))]
 fn push_day(
     text: &mut String,

@@ -104,7 +104,7 @@ GivesByCount true s part came given numbers found =
     (counted : Option PartNumbers) × IsFoundIn s (counted_part came part) counted found
     × (numbers ≡ numbers_by_count given counted found)
 
--- `read` has the text and the numbers that come from reading `part` by count.
+-- `read` has the text and the numbers that reading `part` by count gives, as `GivesByCount` says.
 abbrev pub IsByCount : Day → List ℕ → Option PartNumbers → DamagedPart → Type 0
 IsByCount s part given read =
     GivesByCount (is_count_doubted read.text (telling_line (heading_count given) read.came read.short_line)) s part

@@ -69,8 +69,8 @@ pub data IsMeant (s : Day) (part meant : List ℕ) : Type 0 where
   Respaced : ((h : Heading) → ¬ (IsDamagedHeading s (first_line part) h)) → meant ≡ respaced part
       → IsMeant s part meant
 
--- `read` has what can be read of `part` as it stands: the fields that `read_damaged_part` reads, and the text by count.
--- `given` are the numbers in the received heading.
+-- `read` has what can be read of `part` as it stands: the fields that `read_damaged_part` reads, and the text by count,
+-- as `IsByCount` says. `given` are the numbers in the received heading.
 pub record IsReadAs (s : Day) (part : List ℕ) (read : DamagedPart) : Type 0 where
   pub given : Option PartNumbers
   pub given_there : AreNumbersRead s (first_line part) given

@@ -81,8 +81,8 @@ pub record AreLostCopies (received : List (Option ℕ)) (lost : LostCopies) : Ty
   pub at_start : IsTrue lost.at_start ↔ Any (λ got. got ≡ None) (take 10 received)
   pub at_end : IsTrue lost.at_end ↔ Any (λ got. got ≡ None) (drop (length received - 10) received)
 
--- The warnings in `shown` are right for the body `received`: the result of testing the group or the list letters, and
--- the copies of the indicators that lost letters.
+-- The warnings in `shown` are right for the body `received`. They say what testing the group or the list letters gave,
+-- and which copies of the indicators have lost letters.
 abbrev pub AreWarnings : Day → Option Indicator → List (Option ℕ) → DamagedText → Type 0
 AreWarnings s (Some i) received shown = IsGroupTest s (slice_range received 2 5) shown.group × (shown.copies ≡ None)
 AreWarnings s None received shown =

@@ -36,7 +36,7 @@ pub record IsShownWhole (text : List ℕ) (shown : DamagedText) : Type 0 where
   pub group : shown.group ≡ tests.Right
   pub copies : AreWholeCopies shown.copies
 
--- If `receive` reads a part, this crate shows its text whole.
+-- If `receive` reads a part, this crate shows the part's whole text, without a warning.
 abbrev pub PartsReadAreShownWhole : Type 0
 PartsReadAreShownWhole =
     (s : Day) (p : PartStart) (part : List ℕ) (read : ReadPart) (answer : Result DamagedText PartDamage)

@@ -18,7 +18,7 @@ abbrev pub meant_byte : ℕ → ℕ
 meant_byte byte = if nat_le 97 byte && nat_le byte 122 then byte - 32 else if byte == 9 then 32 else byte
 
 -- The byte `sent` may have been sent where `byte` was received. For a lost letter, `sent` is any capital letter;
--- otherwise it is the byte that `byte` means.
+-- otherwise `sent` is `meant_byte byte`.
 pub data MayHaveBeen (byte sent : ℕ) : Type 0 where
   AnyLetter : IsTrue (is_lost byte) → IsTrue (is_capital sent) → MayHaveBeen byte sent
   AsReceived : IsFalse (is_lost byte) → sent ≡ meant_byte byte → MayHaveBeen byte sent

@@ -57,8 +57,8 @@ is_text_worse counted None (Some other) = true
 is_text_worse counted one None = false
 
 -- Whether the text of `other` is better than the text of `one`, or only `other` has a text. A text is better if it has
--- fewer lost letters. With equally many lost letters, a text read with its heading's letter count is better than a text
--- by count.
+-- fewer lost letters. With equally many lost letters, a text read with the heading's letter count is better than a text
+-- read with the number of received letters.
 abbrev pub is_worse : DamagedPart → DamagedPart → Bool
 is_worse one other = is_text_worse (is_err one.text && is_ok other.text) (shown_text one) (shown_text other)
 
@@ -69,8 +69,8 @@ better part (Some later) =
     if is_worse part later then Some later else Some part
 
 -- The part that is shown under `number`: of the parts with this number, the first with the best text. A text is better
--- if it has fewer lost letters. With equally many lost letters, a text read with the heading's count is better than a
--- text by count.
+-- if it has fewer lost letters. With equally many lost letters, a text read with the heading's letter count is better
+-- than a text read with the number of received letters.
 abbrev pub shown_under : List DamagedPart → ℕ → Option DamagedPart
 shown_under [] number = None
 shown_under (part ∷ parts) number =
@@ -81,8 +81,8 @@ abbrev pub text_in : Option DamagedPart → Option DamagedText
 text_in None = None
 text_in (Some part) = shown_text part
 
--- Whether a part has all letters of `text`: the part that is shown under the number in a heading. True if the heading
--- is damaged, or if there is no text.
+-- Whether the part that is shown under the number in a heading has all letters of `text`. True if the heading is
+-- damaged, or if there is no text.
 abbrev pub is_covered_by : List DamagedPart → Option DamagedText → Option PartNumbers → Bool
 is_covered_by parts text None = true
 is_covered_by parts text (Some numbers) = text_within text (text_in (shown_under parts numbers.part))

@@ -10,7 +10,8 @@ use arrayvec::ArrayVec;
 use kd_form::keys::PinKeys;
 use kd_tables::Letter;
 
-/// Puts the keys together from their two copies: `start` stands before the text, `end` stands after the text.
+/// Puts the keys together from their two copies. The copy `start` stands before the text, and the copy `end` stands
+/// after the text.
 pub(crate) fn keys_of_copies(
     start: &[Option<Letter>],
     end: &[Option<Letter>],

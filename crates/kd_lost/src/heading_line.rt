@@ -175,7 +175,7 @@ fn begins_exchanged(bytes: &[u8]) -> bool
         || begins_with_word(b"PATR", bytes)
 }
 
-/// Whether `bytes` begin with `PART`, split by one blank, and no letter follows.
+/// Whether `bytes` begin with `PART` with a blank between two of its letters, and no letter follows.
 fn begins_with_blank(bytes: &[u8]) -> bool
     ensures { result ≡ begins_with_blank bytes.now }
 {

@@ -11,7 +11,7 @@ pub fn ciphers_agree_where_texts_do()
     ensures { CiphersAgreeWhereTextsDo }
 {}
 
-/// If `receive` reads a part, this crate reads the same text, without a warning.
+/// If `receive` reads a part, this crate shows the part's whole text, without a warning.
 pub fn parts_read_are_shown_whole()
     ensures shown { PartsReadAreShownWhole }
     ensures numbers { PartsReadHaveNumbers }

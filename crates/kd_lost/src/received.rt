@@ -31,7 +31,8 @@ pub(crate) fn meant_byte(byte: u8) -> u8
     }
 }
 
-/// B if `byte` is a lost letter, otherwise the byte that `byte` means.
+/// The byte that is read in place of `byte`. B for a lost letter, the capital letter for a small letter, a space for a
+/// tab; otherwise `byte` itself.
 fn filled_byte(byte: u8) -> u8
     ensures { result ≡ filled_byte byte }
 {

@@ -61,7 +61,7 @@ fn push_completed(
     Ok(())
 }
 
-/// A copy's letter, if `byte` stands for a lost letter, and a copy didn't lose this letter; otherwise `byte`.
+/// The copy's letter, if `byte` stands for a lost letter that a copy has; otherwise `byte`.
 fn completed_byte(
     copies: &[DamagedPart],
     read: &DamagedPart,

@@ -61,7 +61,7 @@ pub fn times_of(parts: &[DamagedPart], number: u16) -> usize
 /// The part that is shown under `number`: of the parts with this number, the first with the best text.
 ///
 /// A text is better if it has fewer lost letters. With equally many lost letters, a text read with the heading's letter
-/// count is better than a text read by the count of received letters.
+/// count is better than a text read with the number of received letters.
 pub fn shown_under(parts: &[DamagedPart], number: u16) -> Option<&DamagedPart>
     ensures { MatchOption result
         (shown_under parts.now number ≡ None)
@@ -108,7 +108,7 @@ pub fn is_one_message(parts: &[DamagedPart]) -> bool
     are_of_one_message(parts) && are_covered(parts, parts)
 }
 
-/// Whether each of `parts` has all its letters in the part of `all` that is shown under its number.
+/// Whether the letters of each part in `parts` are in the part of `all` that is shown under the same number.
 fn are_covered(all: &[DamagedPart], parts: &[DamagedPart]) -> bool
     ensures { result ≡ are_covered all.now parts.now }
 {

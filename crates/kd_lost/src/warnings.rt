@@ -1,5 +1,5 @@
 //! The warnings of a part: whether its group or its list letters are the day's letters, and which copies of the
-//! indicators lost letters.
+//! indicators have lost letters.
 ghost use Rattle.std.specs.Prelude.{◌≡◌, ◌≢◌, ◌≤◌, ◌↔◌, length, map, take, All, Any, None, Some, IsTrue, MatchOption};
 ghost use Rattle.std.specs.Bool.{OnTrue, OnFalse};
 ghost use Rattle.kd_form.specs.PartMaking.{list_letters};

@@ -27,7 +27,8 @@ abbrev pub part_name : List ℕ → ℕ → List ℕ
 part_name name number = name ++ (codes ".part" ++ decimal number)
 
 -- Why no file could be begun under any of the 100 names that `part_name` gives for `name`. The reason is never `Taken`,
--- since further names are tried. If the files are known, the reason is `Device` only if all these names are taken.
+-- since after a taken name, the next name is tried. If the files are known, the reason is `Device` only if all these
+-- names are taken.
 pub record IsWhyNotBegun (files : Option FilesByName) (name : List ℕ) (fault : NewFileFault) : Type 0 where
   pub other : fault ≢ Taken
   pub device : IfSome files (λ known. fault ≡ Device → (number : ℕ) → 1 ≤ number → number ≤ 100

@@ -194,7 +194,8 @@ fn pin_word(effective: bool) -> Word
     if effective { Word::On } else { Word::Off }
 }
 
-/// Writes the checkbox to move a lug to a place of its bar. The checkbox also has the lug's place before the settings.
+/// Writes the checkbox to move a lug to a place of its bar. The checkbox also has the place that the lug has before the
+/// settings are carried out.
 fn draw_lug<W: Sink>(sink: &mut W, page: &Page<'_>, bar: u8, lug: Lug, place: Place)
     ensures { Draws W.taken W.has_failed sink.old sink.new
         (lug_text page.now.language (LugTo bar lug place) lug

@@ -71,8 +71,8 @@ mark_of taken letter =
     if taken == 6 then marks.NotNeeded
     else if is_some (place_on (ring_of (taken + 1)) letter) then marks.Taken (taken + 1) else marks.StruckOut
 
--- The last wheel that took a printed letter. The latest printed letter has the given mark. `taken` is the last wheel
--- that took an earlier letter; 0 if none did.
+-- The last wheel that has taken a letter, after one more letter is printed with the given mark. `taken` is the last
+-- wheel that took an earlier letter; 0 if none did.
 abbrev pub taken_after : ℕ → Mark → ℕ
 taken_after taken marks.NoMark = taken
 taken_after taken marks.NotNeeded = taken

@@ -81,7 +81,7 @@ text_rows l sheet s name start body =
     rows_after name.results s start beginning (pieces 50 first)
     ++ next_sheet l sheet s name start (progress_after beginning first) (drop (first_sheet name.model) body)
 
--- the warnings that copies of the indicators lost letters, and that the day is wrong or can't be tested
+-- the warnings that copies of the indicators have lost letters, and that the day is wrong or can't be tested
 abbrev pub warnings_text : Language → Sheet → Warnings → List ℕ
 warnings_text l sheet warnings =
     text_if warnings.copies_lost (text_in l texts.COPIES_LOST)

@@ -12,7 +12,7 @@ use kd_pictures::template::draw_letter;
 use kd_pictures::{Results, draw};
 use kd_tables::{Letter, Sink, place_on_wheel};
 
-/// What stands above or below the line for a letter.
+/// What stands above the line to write on, or below this line, in a letter's cell.
 #[derive(Clone, Copy)]
 pub enum Sign {
     Nothing,
@@ -34,7 +34,7 @@ pub struct Cell {
     pub mark: Mark,
 }
 
-/// The mark of a letter that a Converter prints when its internal key is looked for.
+/// The mark of a letter that a Converter prints while the operator finds the internal key.
 #[derive(Clone, Copy)]
 pub enum Mark {
     /// No mark: the cell isn't for the internal key.
@@ -182,8 +182,8 @@ pub fn push_choice<const N: usize>(
     }
 }
 
-/// The mark of `letter`, a letter that a Converter prints when its internal key is looked for. `taken` is the last
-/// wheel that took a letter; 0 if no wheel took one.
+/// The mark of `letter`, which a Converter prints while the operator finds the internal key. `taken` is the last wheel
+/// that took a letter; 0 if no wheel took one.
 fn mark_of(taken: u8, letter: Letter) -> Mark
     requires { taken ≤ 6 }
     ensures { result ≡ mark_of taken letter }

@@ -48,7 +48,7 @@ pub const WHEEL_WORDS: &str = "~: ~";
 pub const WHEEL: &str =
     "<text x=\"~\" y=\"16\" font-size=\"18\">~</text>\n<rect class=\"set\" x=\"~\" y=\"24\" width=\"40\" height=\"40\"/>\n<text class=\"bold\" x=\"~\" y=\"53\" font-size=\"26\">~</text>\n";
 
-/// The end of the picture's title, and the end of the picture.
+/// The end of the picture's title. The next text is the end of the picture.
 pub const WINDOWS_TITLE_END: &str = ".</title>\n";
 
 pub const WINDOWS_END: &str = "</svg>\n</figure>\n";
@@ -68,7 +68,7 @@ pub const RING: &str = "~\u{a0}~";
 /// The end of the sentence with a rotor machine's key of the day.
 pub const KEY_END: &str = "</b>.";
 
-/// The end of a section, and the end of a part's sheet.
+/// The end of a section. The next text is the end of a part's sheet.
 pub const SECTION_END: &str = "</section>\n";
 
 pub const SHEET_END: &str = "</section>\n</article>\n";

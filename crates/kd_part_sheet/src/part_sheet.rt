@@ -109,7 +109,7 @@ pub struct Warnings {
     pub not_tested: bool,
 }
 
-/// Writes the warnings that copies of the indicators lost letters, and that the day is wrong or can't be tested.
+/// Writes the warnings that copies of the indicators have lost letters, and that the day is wrong or can't be tested.
 pub fn draw_warnings<W: Sink>(sink: &mut W, language: Language, sheet: Sheet, warnings: Warnings)
     ensures { Draws W.taken W.has_failed sink.old sink.new
         (warnings_text language sheet warnings) }

@@ -151,7 +151,7 @@ pub const TEXT_STEP: SheetText = (
     ),
 );
 
-/// The start of the second sheet of paper, on which the second step goes on. The values are the model, the day, the
+/// The start of the second sheet of paper, on which the second step continues. The values are the model, the day, the
 /// part, and the number of parts.
 pub const NEXT_STEP: SheetText = (
     (

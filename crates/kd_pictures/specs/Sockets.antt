@@ -1,5 +1,5 @@
--- The places of the plugboard's sockets in its picture: three rows, in the order of the keyboard.
--- Code: one table has the row of each letter, another table has its place in the row.
+-- The places of the plugboard's sockets in its picture: three rows, in the order of the keyboard. Code: one table has
+-- the row of each letter, another table has the letter's place in the row.
 use Rattle.std.specs.Prelude.{codes, ℕ, ◌+◌, ◌*◌, ◌<◌, ◌==◌, ◌≢◌, nat_eq, nat_le, Bool, ◌||◌, if◌then◌else◌, IsTrue}
 use Rattle.std.specs.Prelude.{List, ◌++◌}
 use Rattle.std.specs.List.{position_or_len}

@@ -280,7 +280,8 @@ pub const LIST: &str = "<ul>\n";
 
 pub const LIST_END: &str = "</ul>\n</section>\n";
 
-/// The paragraph about the wheels and the reflector to take out, into the box, before others go into the machine.
+/// The paragraph that lists the wheels and the reflector to take out. They go into the box before others go into the
+/// machine.
 pub const BOXED: Text = (
     "<p>Take out, into the box:",
     "<p>Herausnehmen, in den Kasten:",

@@ -1,5 +1,5 @@
-//! Laws of checked cards: the doubts about a card, the lines left while the card is carried out, and the prices of
-//! equal cables or bars.
+//! Laws of checked cards: the doubts about a card, the settings that remain while the card is carried out, and the
+//! prices of equal cables or bars.
 ghost use Rattle.kd_prices.specs.Laws.{ProvingCardsAreInNoDoubt, OneDoubt, RestIsShortest, AlikePricesAreEqual};
 
 /// If a card proves itself, there is no doubt about the card. No card has two different first doubts.

@@ -125,7 +125,7 @@ is_read model cells.Pins5 text = are_pins 5 text
 is_read model cells.Pins6 text = are_pins 6 text
 is_read model cells.Bars text = is_some (readings_in text >>= exactly 27)
 
--- whether the cell's text can't be read, although the table has the cell's column, or the cell's option isn't blank
+-- whether the cell's text can't be read; false unless the table has the cell's column, or the cell's option isn't blank
 abbrev pub is_faulty : OptionTexts → Columns → List (List ℕ) → Cell → Bool
 is_faulty options columns row cell =
     has_text options columns cell

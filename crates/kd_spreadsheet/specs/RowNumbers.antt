@@ -20,7 +20,7 @@ pub data RowPlace : Type 0 where
   AtStart : Bool → RowPlace
   Within : Quoting → RowPlace
 
--- The numbers of the rows, except empty rows, that start in the given bytes of a table. The first byte is in row
+-- The numbers of the rows that start in the given bytes of a table. Empty rows are left out. The first byte is in row
 -- `number`.
 abbrev pub numbers_from : ℕ → RowPlace → ℕ → List ℕ → List ℕ
 numbers_from separator place number [] = []

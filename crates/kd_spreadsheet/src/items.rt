@@ -32,7 +32,7 @@ pub enum WordRule {
 }
 
 impl WordRule {
-    /// Whether `byte` stays as it is, even if it is a gap.
+    /// Whether `byte` stays unchanged instead of getting its normal form, even if it is a gap.
     fn is_kept(self, byte: u8) -> bool
         ensures { result ≡ (bytes_of self).keeps byte }
     {

@@ -22,8 +22,8 @@ TypingOnPinTable =
 
 -- ---- The laws of tables as text.
 
--- A table that is written as text is read back as the same table. So typing on the text gives what typing on the table
--- gives.
+-- A table that is written as text is read back as the same table. So typing on a table's text gives the same letters as
+-- typing on the table itself.
 abbrev pub RotorTablesAreRead : Type 0
 RotorTablesAreRead = (key : RotorKey) → rotor_table_in (lines_text (rotor_lines (rotor_table key))) ≡ rotor_table key
 

@@ -4,7 +4,7 @@ use Rattle.kd_state.specs.EngineKey.{EngineKey}
 use Rattle.kd_typing.specs.declared.machine_rows.MachineRows.{MachineRows}
 use Rattle.kd_typing.specs.declared.machine_rows.MachineRows.TheVariants.{Rotor, Pin}
 
--- the key of the machine whose table has the rows
+-- the key of a machine, taken from the rows of the machine's table
 abbrev pub rows_key : MachineRows → EngineKey
 rows_key (Rotor key) = keys.Rotor key
 rows_key (Pin key) = keys.Pin key

@@ -13,7 +13,7 @@ use kd_state::SheetDay;
 use kd_tables::Sink;
 use std::alloc::Global;
 
-/// The form or text that `message` becomes, or the message's fault.
+/// The result of reading `message`: a form or a text, or the message's fault.
 ///
 /// `NoMemory` is returned only for a message without a fault.
 pub(crate) fn message_result<M: MessageReader + Drop>(

@@ -13,8 +13,8 @@ use toml::{Table, Value};
 ///
 /// `Given` is what a reader needs besides the items, such as the key and the model for wheels in slots.
 pub trait FromItem<Given> {
-    /// The rule for reading an item. From `Given`, the earlier items' values, and the item, the rule gives a value or a
-    /// fault.
+    /// The rule for reading an item. The rule gives a value or a fault from three arguments: `Given`, the values of the
+    /// earlier items, and the item.
     ghost parse: { Given → List Self → Data → Result Self SheetFault };
 
     /// Reads `item`. The slice `earlier` has the values of the earlier items.

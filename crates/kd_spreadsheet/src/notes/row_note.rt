@@ -114,7 +114,8 @@ fn push_cell(
     push_due_words(note, place.as_slice(), words, is_due, "this can't be read")
 }
 
-/// Whether the text of `cell` can't be read, though there is a column or an option for the cell.
+/// Whether the text of `cell` can't be read. False unless the table has the column of `cell`, or the option of `cell`
+/// isn't blank.
 fn is_faulty(head: &Head<'_>, row: &PlacedRow<'_>, cell: Cell) -> bool
     ensures { result ≡ is_faulty head.now.options head.now.columns row.now.cells cell }
 {
