@@ -10,31 +10,31 @@ use Rattle.kd_sheet.specs.MachineText.{file_version}
 use Rattle.kd_sheet.specs.declared.key.Key.TheVariants as keys
 use Rattle.kd_sheet.specs.declared.fault.SheetFault.{SheetFault}
 use Rattle.kd_sheet.specs.declared.fault.SheetFault.TheVariants.{UnknownModel}
-use Rattle.kd_findings.specs.declared.place.Place.{Place}
+use Rattle.kd_findings.specs.declared.key_place.KeyPlace.{KeyPlace}
 use Rattle.kd_findings.specs.Faults.{after_model, fault_at, first_fault, in_file, model_file_faults, version_in}
 use Rattle.kd_sheet.specs.MachineFile.{machine_in}
 unfoldable use Rattle.kd_sheet.specs.MachineFile.{model_in, parts_in, pin_parts_in, rotor_parts_in}
 unfoldable use Rattle.kd_findings.specs.Faults.{file_model, machine_faults, pin_file_faults, rotor_file_faults}
 
 -- The first of the faults is the fault of the reading; without a fault of the reading there are none.
-pub record AreOf {A : Type 0} (faults : List (Place × SheetFault)) (reading : Result A SheetFault) : Type 0 where
+pub record AreOf {A : Type 0} (faults : List (KeyPlace × SheetFault)) (reading : Result A SheetFault) : Type 0 where
   pub first : first_fault faults ≡ result_err reading
 
 -- a reading, and then another
-pub of_two : {A B : Type 0} (place : Place) (reading : Result A SheetFault) (next : A → Result B SheetFault)
-    (rest : List (Place × SheetFault)) → ((x : A) → reading ≡ Ok x → AreOf rest (next x))
+pub of_two : {A B : Type 0} (place : KeyPlace) (reading : Result A SheetFault) (next : A → Result B SheetFault)
+    (rest : List (KeyPlace × SheetFault)) → ((x : A) → reading ≡ Ok x → AreOf rest (next x))
     → AreOf (fault_at place reading ++ rest) (reading >>= next)
 of_two place (Ok x) next rest follows = follows x refl
 of_two place (Err fault) next rest follows = record { first = refl }
 
 -- one reading, whose value is given another form
-pub of_one : {A B : Type 0} (place : Place) (reading : Result A SheetFault) (form : A → B)
+pub of_one : {A B : Type 0} (place : KeyPlace) (reading : Result A SheetFault) (form : A → B)
     → AreOf (fault_at place reading) (reading >>= (λ x. Ok (form x)))
 of_one place (Ok x) form = record { first = refl }
 of_one place (Err fault) form = record { first = refl }
 
 -- the reading of a model, and then what the model needs
-pub of_model : {B : Type 0} (place : Place) (faults : Model → List (Place × SheetFault)) (reading : Result Model SheetFault)
+pub of_model : {B : Type 0} (place : KeyPlace) (faults : Model → List (KeyPlace × SheetFault)) (reading : Result Model SheetFault)
     (next : Model → Result B SheetFault) → ((model : Model) → AreOf (faults model) (next model))
     → AreOf (after_model place faults reading) (reading >>= next)
 of_model place faults (Ok model) next follows = follows model
@@ -56,7 +56,7 @@ unfolding pin_file_faults pin_parts_in
 of_pin_file table = search (of_one, of_two)
 
 -- a value that is given another form has the same fault
-pub of_form : {A B : Type 0} (faults : List (Place × SheetFault)) (reading : Result A SheetFault) (form : A → B)
+pub of_form : {A B : Type 0} (faults : List (KeyPlace × SheetFault)) (reading : Result A SheetFault) (form : A → B)
     → AreOf faults reading → AreOf faults (reading >>= (λ x. Ok (form x)))
 of_form faults (Ok x) form is = record { first = is.first }
 of_form faults (Err fault) form is = record { first = is.first }

@@ -13,7 +13,7 @@ use Rattle.kd_sheet.specs.declared.key.Key.{Key}
 use Rattle.kd_sheet.specs.declared.key.Key.TheVariants as keys
 use Rattle.kd_sheet.specs.declared.fault.SheetFault.{SheetFault}
 use Rattle.kd_sheet.specs.declared.fault.SheetFault.TheVariants.{BadValue, Missing}
-use Rattle.kd_findings.specs.declared.place.Place.{Place}
+use Rattle.kd_findings.specs.declared.key_place.KeyPlace.{KeyPlace}
 use Rattle.kd_findings.specs.Faults.{first_fault, machine_faults}
 use Rattle.kd_findings.specs.Kind.{entries_of, is_machine_file}
 use Rattle.kd_findings.specs.SheetFaults.{AreFaultsOf, file_fault}
@@ -40,7 +40,7 @@ no_array None next none = refl
 no_array (Some found) next none = rw none refl
 
 -- the first of the entries' faults, or the fault at `day`, is the fault of the reading of a key sheet
-first_of_entries : (document : Members) (entries : Option (List Data)) (faults : List (Place × SheetFault))
+first_of_entries : (document : Members) (entries : Option (List Data)) (faults : List (KeyPlace × SheetFault))
     → entries_of document ≡ entries → AreFaultsOf false entries document faults
     → first_fault faults ≡ result_err (sheet_in document)
 first_of_entries document (Some items) faults has are =
@@ -50,7 +50,7 @@ first_of_entries document None faults has are =
     let reading = no_array (get_member (key_name keys.Day) document) (read_items day_for) has in
     rw are (sym (err-month (read_at keys.Day as_items document >>= read_items day_for) ∙ reading))
 
-pub first_of_sheet : (document : Members) (faults : List (Place × SheetFault)) → is_machine_file document ≡ false
+pub first_of_sheet : (document : Members) (faults : List (KeyPlace × SheetFault)) → is_machine_file document ≡ false
     → AreFaultsOf false (entries_of document) document faults → first_fault faults ≡ file_fault document
 first_of_sheet document faults other are = rw other (first_of_entries document (entries_of document) faults refl are)
 

@@ -15,7 +15,7 @@ use Rattle.kd_sheet.specs.Document.{◌>>=◌, ◌>>◌, demand, read_items}
 use Rattle.kd_sheet.specs.declared.key.Key.TheVariants as keys
 use Rattle.kd_sheet.specs.declared.fault.SheetFault.{SheetFault}
 use Rattle.kd_sheet.specs.declared.fault.SheetFault.TheVariants.{BadValue, DayTwice}
-use Rattle.kd_findings.specs.declared.place.Place.{Place}
+use Rattle.kd_findings.specs.declared.key_place.KeyPlace.{KeyPlace}
 use Rattle.kd_findings.specs.Faults.{after_model, at_key, first_fault}
 use Rattle.kd_findings.specs.SheetFaults.{AreSheetFaults, day_place, entry_faults, faults_after}
 use Rattle.kd_findings.specs.SheetFaults.{has_number, in_entry, model_day_faults, number_in}
@@ -27,16 +27,16 @@ unfoldable use Rattle.kd_sheet.specs.MachineFile.{model_in}
 unfoldable use Rattle.kd_sheet.specs.SheetFile.{day_for, day_in, pin_day_in, rotor_day_in}
 unfoldable use Rattle.kd_findings.specs.SheetFaults.{new_day, pin_day_faults, rotor_day_faults, table_faults}
 
-of_rotor_day : (place : Place) (number : ℕ) (model : Model) (table : Members)
+of_rotor_day : (place : KeyPlace) (number : ℕ) (model : Model) (table : Members)
     → AreOf (rotor_day_faults place model table) (rotor_day_in number model table)
 unfolding rotor_day_faults rotor_day_in
 of_rotor_day place number model table = record { first = grind arith }
 
-of_pin_day : (place : Place) (number : ℕ) (table : Members) → AreOf (pin_day_faults place table) (pin_day_in number table)
+of_pin_day : (place : KeyPlace) (number : ℕ) (table : Members) → AreOf (pin_day_faults place table) (pin_day_in number table)
 unfolding pin_day_faults pin_day_in
 of_pin_day place number table = search (of_one, of_two)
 
-of_model_day : (place : Place) (number : ℕ) (table : Members) (model : Model)
+of_model_day : (place : KeyPlace) (number : ℕ) (table : Members) (model : Model)
     → AreOf (model_day_faults place table model) (day_in number model table)
 unfolding day_in
 of_model_day place number table EnigmaI = of_rotor_day place number EnigmaI table
@@ -99,7 +99,7 @@ unfolding day_for
 of_entry earlier days item have = of_option earlier days (as_table item) have
 
 -- a list of faults, and then another
-of_both : {A B : Type 0} (faults rest : List (Place × SheetFault)) (reading : Result A SheetFault)
+of_both : {A B : Type 0} (faults rest : List (KeyPlace × SheetFault)) (reading : Result A SheetFault)
     (next : A → Result B SheetFault) → AreOf faults reading
     → ((x : A) → reading ≡ Ok x → AreOf rest (next x)) → AreOf (faults ++ rest) (reading >>= next)
 of_both [] rest (Ok x) next are follows = follows x refl
@@ -166,13 +166,13 @@ pub faults-one_more : (first : List Data) (item : Data)
 faults-one_more first item = rw (faults-append [] first (item ∷ [])) (rw (append-nil (entry_faults first item)) refl)
 
 -- a list of faults that goes on has the same first fault
-first-append : (faults rest : List (Place × SheetFault)) → 1 ≤ length faults
+first-append : (faults rest : List (KeyPlace × SheetFault)) → 1 ≤ length faults
     → first_fault (faults ++ rest) ≡ first_fault faults
 first-append [] rest some = absurd (omega (arith, some))
 first-append (first ∷ faults) rest some = refl
 
 -- the first of the faults that are listed is the first of all
-first_listed : (items : List Data) (faults : List (Place × SheetFault)) → AreSheetFaults items faults
+first_listed : (items : List Data) (faults : List (KeyPlace × SheetFault)) → AreSheetFaults items faults
     → first_fault faults ≡ first_fault (faults_after [] items)
 first_listed items faults listed = elim listed.many [
   | inl all ↦ grind (arith, listed.are, all, take_all)
@@ -184,7 +184,7 @@ first_listed items faults listed = elim listed.many [
 ]
 
 -- the first of a sheet's faults is the fault of its reading
-pub of_sheet : (items : List Data) (faults : List (Place × SheetFault)) → AreSheetFaults items faults
+pub of_sheet : (items : List Data) (faults : List (KeyPlace × SheetFault)) → AreSheetFaults items faults
     → AreOf faults (read_items day_for items)
 of_sheet items faults listed =
     record { first = first_listed items faults listed ∙ (of_entries [] [] items (λ number. refl)).first }

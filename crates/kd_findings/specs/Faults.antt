@@ -25,31 +25,31 @@ use Rattle.kd_sheet.specs.contracts.fault.SheetFaultPartialEq.TheImpl as fault_e
 use Rattle.kd_slips.specs.declared.slip.Slip.{Slip}
 use Rattle.kd_slips.specs.declared.slip.Slip.TheVariants as slips
 use Rattle.kd_findings.specs.declared.findings.Finding.{Finding}
-use Rattle.kd_findings.specs.declared.place.Place.{Place}
+use Rattle.kd_findings.specs.declared.key_place.KeyPlace.{KeyPlace}
 
 -- the place of a key in a machine file
-abbrev pub in_file : Key → Place
+abbrev pub in_file : Key → KeyPlace
 in_file key = record { entry = None; day = None; key = key }
 
 -- The place of `key` in the entry of `place`. If `place` has no entry, `key` is at the top of the file.
-abbrev pub at_key : Place → Key → Place
+abbrev pub at_key : KeyPlace → Key → KeyPlace
 at_key place key = record place { key = key }
 
 -- a list with only `fault` and its place `place`; empty if there is no fault
-abbrev pub at_place : Place → Option SheetFault → List (Place × SheetFault)
+abbrev pub at_place : KeyPlace → Option SheetFault → List (KeyPlace × SheetFault)
 at_place place fault = option_to_list (option_map (λ one. (place, one)) fault)
 
 -- the fault with which the desk refuses the value at `place`, as a list; empty if the desk reads the value
-abbrev pub fault_at : {A : Type 0} → Place → Result A SheetFault → List (Place × SheetFault)
+abbrev pub fault_at : {A : Type 0} → KeyPlace → Result A SheetFault → List (KeyPlace × SheetFault)
 fault_at place reading = at_place place (result_err reading)
 
 -- the fault at the key `model`; if the model can be read, the faults at the keys that this model needs
-abbrev pub after_model : Place → (Model → List (Place × SheetFault)) → Result Model SheetFault → List (Place × SheetFault)
+abbrev pub after_model : KeyPlace → (Model → List (KeyPlace × SheetFault)) → Result Model SheetFault → List (KeyPlace × SheetFault)
 after_model place faults (Ok model) = faults model
 after_model place faults (Err fault) = (place, fault) ∷ []
 
 -- the faults of a rotor machine's file, at the keys that are tested after `model`
-unfoldable pub rotor_file_faults : Model → Members → List (Place × SheetFault)
+unfoldable pub rotor_file_faults : Model → Members → List (KeyPlace × SheetFault)
 rotor_file_faults model table =
     fault_at (in_file keys.Reflector) (reflector_in model table)
     ++ (fault_at (in_file keys.Slots) (slots_in keys.Slots model table)
@@ -58,12 +58,12 @@ rotor_file_faults model table =
     ++ fault_at (in_file keys.Cables) (cables_in table))))
 
 -- the faults of a Converter's file, at the keys that are tested after `model`
-unfoldable pub pin_file_faults : Members → List (Place × SheetFault)
+unfoldable pub pin_file_faults : Members → List (KeyPlace × SheetFault)
 pin_file_faults table =
     fault_at (in_file keys.Letters) (shown_letters_in keys.Letters table)
     ++ (fault_at (in_file keys.Pins) (pins_in table) ++ fault_at (in_file keys.Bars) (bars_in table))
 
-abbrev pub model_file_faults : Members → Model → List (Place × SheetFault)
+abbrev pub model_file_faults : Members → Model → List (KeyPlace × SheetFault)
 model_file_faults table model = by_family (rotor_file_faults model table) (pin_file_faults table) (family_of model)
 
 abbrev pub version_in : Members → Result ℕ SheetFault
@@ -78,17 +78,17 @@ file_model table = do
   Ok model
 
 -- the faults of a machine file
-unfoldable pub machine_faults : Members → List (Place × SheetFault)
+unfoldable pub machine_faults : Members → List (KeyPlace × SheetFault)
 machine_faults table =
     fault_at (in_file keys.Version) (version_in table)
     ++ after_model (in_file keys.Model) (model_file_faults table) (file_model table)
 
 -- the faults in findings, each with its place
-abbrev pub faults_of : List Finding → List (Place × SheetFault)
+abbrev pub faults_of : List Finding → List (KeyPlace × SheetFault)
 faults_of findings = map (λ finding. (finding.place, finding.fault)) findings
 
 -- the first fault of the list, without its place
-abbrev pub first_fault : List (Place × SheetFault) → Option SheetFault
+abbrev pub first_fault : List (KeyPlace × SheetFault) → Option SheetFault
 first_fault faults = option_map (λ fault. fault.1) (slice_get faults 0)
 
 -- ---- What inner functions answer. No public contract cites this definition.

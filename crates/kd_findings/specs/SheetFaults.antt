@@ -25,11 +25,11 @@ use Rattle.kd_sheet.specs.declared.fault.SheetFault.{SheetFault}
 use Rattle.kd_sheet.specs.declared.fault.SheetFault.TheVariants.{BadValue, DayTwice, Missing}
 use Rattle.kd_findings.specs.Faults.{after_model, at_key, fault_at, in_file, machine_faults}
 use Rattle.kd_findings.specs.Kind.{entries_of, is_given, is_machine_file}
-use Rattle.kd_findings.specs.declared.place.Place.{Place}
+use Rattle.kd_findings.specs.declared.key_place.KeyPlace.{KeyPlace}
 
 -- The place of `key` in entry `entry` of a key sheet. Entries are counted from 1. `day` is the entry's day, if it can
 -- be read.
-abbrev pub in_entry : ℕ → Option ℕ → Key → Place
+abbrev pub in_entry : ℕ → Option ℕ → Key → KeyPlace
 in_entry entry day key = record { entry = Some entry; day = day; key = key }
 
 -- the day of an entry, or the fault of the key `day`
@@ -49,7 +49,7 @@ new_day earlier table = do
   Ok number
 
 -- the faults of a rotor machine's day, at the keys that are tested after `model`
-unfoldable pub rotor_day_faults : Place → Model → Members → List (Place × SheetFault)
+unfoldable pub rotor_day_faults : KeyPlace → Model → Members → List (KeyPlace × SheetFault)
 rotor_day_faults place model table =
     fault_at (at_key place keys.Reflector) (reflector_in model table)
     ++ (fault_at (at_key place keys.Wheels) (slots_in keys.Wheels model table)
@@ -58,41 +58,41 @@ rotor_day_faults place model table =
     ++ (fault_at (at_key place keys.Plugs) (pairs_in table) ++ fault_at (at_key place keys.Groups) (groups_in table)))))
 
 -- the faults of a Converter's day, at the keys that are tested after `model`
-unfoldable pub pin_day_faults : Place → Members → List (Place × SheetFault)
+unfoldable pub pin_day_faults : KeyPlace → Members → List (KeyPlace × SheetFault)
 pin_day_faults place table =
     fault_at (at_key place keys.Rows) (rows_in table)
     ++ (fault_at (at_key place keys.Pins) (pins_in table)
     ++ (fault_at (at_key place keys.Window) (shown_letters_in keys.Window table)
     ++ fault_at (at_key place keys.List) (letters_at keys.List 2 table)))
 
-abbrev pub model_day_faults : Place → Members → Model → List (Place × SheetFault)
+abbrev pub model_day_faults : KeyPlace → Members → Model → List (KeyPlace × SheetFault)
 model_day_faults place table model =
     by_family (rotor_day_faults place model table) (pin_day_faults place table) (family_of model)
 
 -- the place of the key `day` in an entry; `earlier` has all items of the array `day` before this entry
-abbrev pub day_place : List Data → Members → Place
+abbrev pub day_place : List Data → Members → KeyPlace
 day_place earlier table = in_entry (length earlier + 1) (result_ok (number_in table)) keys.Day
 
 -- the faults of an entry that is a table
-unfoldable pub table_faults : List Data → Members → List (Place × SheetFault)
+unfoldable pub table_faults : List Data → Members → List (KeyPlace × SheetFault)
 table_faults earlier table =
     fault_at (day_place earlier table) (new_day earlier table)
     ++ after_model (at_key (day_place earlier table) keys.Model) (model_day_faults (day_place earlier table) table)
     (model_in table)
 
 -- the faults of an entry; `earlier` has all items of the array `day` before this entry
-abbrev pub entry_faults : List Data → Data → List (Place × SheetFault)
+abbrev pub entry_faults : List Data → Data → List (KeyPlace × SheetFault)
 entry_faults earlier item = option_map_or (table_faults earlier) (as_table item)
     ((in_entry (length earlier + 1) None keys.Day, BadValue keys.Day) ∷ [])
 
 -- the faults of the entries in a list; `earlier` has the items before these entries
-abbrev pub faults_after : List Data → List Data → List (Place × SheetFault)
+abbrev pub faults_after : List Data → List Data → List (KeyPlace × SheetFault)
 faults_after earlier [] = []
 faults_after earlier (item ∷ rest) = entry_faults earlier item ++ faults_after (earlier ++ item ∷ []) rest
 
 -- `faults` are the faults of the entries in `items`. After 300 faults, later entries may be left out. A month of 31
 -- days, with at most 8 keys for each day, has fewer than 300 faults.
-pub record AreSheetFaults (items : List Data) (faults : List (Place × SheetFault)) : Type 0 where
+pub record AreSheetFaults (items : List Data) (faults : List (KeyPlace × SheetFault)) : Type 0 where
   pub count : ℕ
   pub within : count ≤ length items
   pub are : faults ≡ faults_after [] (take count items)
@@ -104,14 +104,14 @@ day_fault document = if is_given keys.Day document then BadValue keys.Day else M
 
 -- `faults` are the faults of `document`. The truth value says whether the document is a machine file. `items` are the
 -- items of the document's array `day`, if there is one.
-abbrev pub AreFaultsOf : Bool → Option (List Data) → Members → List (Place × SheetFault) → Type 0
+abbrev pub AreFaultsOf : Bool → Option (List Data) → Members → List (KeyPlace × SheetFault) → Type 0
 AreFaultsOf true entries document faults = faults ≡ machine_faults document
 AreFaultsOf false (Some items) document faults = AreSheetFaults items faults
 AreFaultsOf false None document faults = faults ≡ (in_file keys.Day, day_fault document) ∷ []
 
 -- `faults` are the faults of `document`: a machine file, a key sheet with entries, or another document without the
 -- array `day`.
-abbrev pub AreFaults : Members → List (Place × SheetFault) → Type 0
+abbrev pub AreFaults : Members → List (KeyPlace × SheetFault) → Type 0
 AreFaults document faults = AreFaultsOf (is_machine_file document) (entries_of document) document faults
 
 -- The first fault with which the desk refuses a document. A document that isn't a machine file is read as a key sheet.

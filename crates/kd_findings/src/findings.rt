@@ -2,7 +2,7 @@
 ghost use Rattle.std.specs.Prelude.{◌≡◌, ◌++◌, IfOk, OnOk, Some};
 ghost use Rattle.kd_findings.specs.Faults.{at_place, faults_of, told_item};
 
-use crate::place::Place;
+use crate::key_place::KeyPlace;
 use kd_sheet::SheetFault;
 use kd_slips::slip::Slip;
 use std::alloc::{AllocError, Global};
@@ -11,7 +11,7 @@ use std::alloc::{AllocError, Global};
 #[derive(Drop)]
 pub struct Finding {
     pub fault: SheetFault,
-    pub place: Place,
+    pub place: KeyPlace,
     /// What is wrong, in words.
     pub explanation: Explanation,
 }
@@ -30,7 +30,7 @@ pub struct Explanation {
 pub fn note(
     list: &mut Vec<Finding>,
     alloc: Global,
-    place: Place,
+    place: KeyPlace,
     fault: Option<SheetFault>,
     checked: Result<(), Slip>,
 ) -> Result<(), AllocError>
@@ -47,7 +47,7 @@ pub fn note(
 fn push_fault(
     list: &mut Vec<Finding>,
     alloc: Global,
-    place: Place,
+    place: KeyPlace,
     fault: SheetFault,
     checked: Result<(), Slip>,
 ) -> Result<(), AllocError>

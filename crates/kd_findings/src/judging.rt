@@ -11,8 +11,8 @@ ghost use Rattle.kd_sheet.specs.declared.key.Key.TheVariants as keys;
 ghost use Rattle.kd_findings.specs.SheetFaults.{AreFaults, AreFaultsOf, day_fault, file_fault};
 
 use crate::findings::{Finding, note};
+use crate::key_place::KeyPlace;
 use crate::machine::machine_faults;
-use crate::place::Place;
 use crate::sheet::sheet_faults;
 use kd_sheet::by_key::find_at;
 use kd_sheet::{Key, SheetFault};
@@ -79,7 +79,7 @@ fn find_day_fault(alloc: Global, document: &Table) -> Result<Vec<Finding>, Alloc
         ≡ (in_file keys.Day, day_fault (table_view document.now)) ∷ []) }
 {
     let mut list = Vec::new(alloc);
-    let place = Place::in_file(Key::Day);
+    let place = KeyPlace::in_file(Key::Day);
     let fault = Some(day_fault(document));
     note(&mut list, alloc, place, fault, check_day(alloc, document))?;
     Ok(list)

@@ -10,7 +10,7 @@ ghost use Rattle.kd_findings.specs.Faults.{after_model, fault_at, in_file, model
 ghost use Rattle.kd_findings.specs.Faults.{faults_of, file_model, machine_faults, pin_file_faults, rotor_file_faults};
 
 use crate::findings::{Finding, note};
-use crate::place::Place;
+use crate::key_place::KeyPlace;
 use kd_sheet::by_key::{
     bars_in, box_letters_in, cables_in, model_in, number_at, pins_in, reflector_in,
     shown_letters_in, slots_in,
@@ -37,7 +37,7 @@ pub fn machine_faults(alloc: Global, table: &Table) -> Result<Vec<Finding>, Allo
     note(
         &mut list,
         alloc,
-        Place::in_file(Key::Version),
+        KeyPlace::in_file(Key::Version),
         version,
         checked,
     )?;
@@ -58,7 +58,7 @@ fn judge_model(list: &mut Vec<Finding>, alloc: Global, table: &Table) -> Result<
             Family::Pin => judge_converter(list, alloc, table),
         },
         Err(fault) => {
-            let place = Place::in_file(Key::Model);
+            let place = KeyPlace::in_file(Key::Model);
             note(list, alloc, place, Some(fault), check_model(alloc, table))
         }
     }
@@ -102,18 +102,18 @@ fn judge_rotors(
     note(
         list,
         alloc,
-        Place::in_file(Key::Reflector),
+        KeyPlace::in_file(Key::Reflector),
         reflector,
         checked,
     )?;
     let slots = slots_in(table, Key::Slots, model).err();
     let checked = check_wheels(alloc, table, Key::Slots, model);
-    note(list, alloc, Place::in_file(Key::Slots), slots, checked)?;
+    note(list, alloc, KeyPlace::in_file(Key::Slots), slots, checked)?;
     judge_box_letters(list, alloc, table, Key::Rings, model)?;
     judge_box_letters(list, alloc, table, Key::Letters, model)?;
     let cables = cables_in(table).err();
     let checked = check_machine_cables(alloc, table);
-    note(list, alloc, Place::in_file(Key::Cables), cables, checked)
+    note(list, alloc, KeyPlace::in_file(Key::Cables), cables, checked)
 }
 
 /// Appends the fault at `key`, if there is one. The value of `key` must have a letter for each wheel of the box.
@@ -130,7 +130,7 @@ fn judge_box_letters(
 {
     let fault = box_letters_in(table, key, model).err();
     let checked = check_box_letters(alloc, table, key, model);
-    note(list, alloc, Place::in_file(key), fault, checked)
+    note(list, alloc, KeyPlace::in_file(key), fault, checked)
 }
 
 /// Appends the faults at the keys of a Converter's file, except `version` and `model`.
@@ -141,12 +141,18 @@ fn judge_converter(list: &mut Vec<Finding>, alloc: Global, table: &Table) -> Res
 {
     let letters = shown_letters_in(table, Key::Letters).err();
     let checked = check_shown(alloc, table, Key::Letters);
-    note(list, alloc, Place::in_file(Key::Letters), letters, checked)?;
+    note(
+        list,
+        alloc,
+        KeyPlace::in_file(Key::Letters),
+        letters,
+        checked,
+    )?;
     let pins = pins_in(table).err();
     note(
         list,
         alloc,
-        Place::in_file(Key::Pins),
+        KeyPlace::in_file(Key::Pins),
         pins,
         check_pins(alloc, table),
     )?;
@@ -154,7 +160,7 @@ fn judge_converter(list: &mut Vec<Finding>, alloc: Global, table: &Table) -> Res
     note(
         list,
         alloc,
-        Place::in_file(Key::Bars),
+        KeyPlace::in_file(Key::Bars),
         bars,
         check_bars(alloc, table),
     )

@@ -10,7 +10,7 @@ ghost use Rattle.kd_findings.specs.SheetFaults.{AreSheetFaults, entry_faults, ha
 ghost use Rattle.kd_findings.specs.SheetFaults.{pin_day_faults, rotor_day_faults, table_faults};
 
 use crate::findings::{Finding, note};
-use crate::place::Place;
+use crate::key_place::KeyPlace;
 use kd_sheet::by_key::{
     groups_in, letters_at, model_in, number_at, pairs_in, pins_in, reflector_in, rings_in, rows_in,
     shown_letters_in, slots_in, window_in,
@@ -58,7 +58,7 @@ fn judge_entry(
     match item.as_table() {
         Some(table) => judge_table(list, alloc, earlier, table),
         None => {
-            let place = Place::in_entry(earlier.len() + 1, None, Key::Day);
+            let place = KeyPlace::in_entry(earlier.len() + 1, None, Key::Day);
             let fault = Some(SheetFault::BadValue(Key::Day));
             note(list, alloc, place, fault, refuse_entry(alloc, item))
         }
@@ -76,7 +76,7 @@ fn judge_table(
         ++ table_faults (map view earlier.now) (table_view table.now)) }
 {
     let day = number_at(table, Key::Day, DAYS).ok();
-    let place = Place::in_entry(earlier.len() + 1, day, Key::Day);
+    let place = KeyPlace::in_entry(earlier.len() + 1, day, Key::Day);
     let fault = new_day(earlier, table).err();
     note(list, alloc, place, fault, check_day(alloc, earlier, table))?;
     judge_model(list, alloc, table, place)
@@ -149,7 +149,7 @@ fn judge_model(
     list: &mut Vec<Finding>,
     alloc: Global,
     table: &Table,
-    place: Place,
+    place: KeyPlace,
 ) -> Result<(), AllocError>
     ensures { OnOk result (faults_of list.new.items ≡ faults_of list.old.items
         ++ after_model (at_key place keys.Model) (model_day_faults place (table_view table.now))
@@ -172,7 +172,7 @@ fn judge_rotors(
     list: &mut Vec<Finding>,
     alloc: Global,
     table: &Table,
-    place: Place,
+    place: KeyPlace,
     model: Model,
 ) -> Result<(), AllocError>
     requires { 0 < slots_of model }
@@ -220,7 +220,7 @@ fn judge_converter(
     list: &mut Vec<Finding>,
     alloc: Global,
     table: &Table,
-    place: Place,
+    place: KeyPlace,
 ) -> Result<(), AllocError>
     ensures { OnOk result (faults_of list.new.items
         ≡ faults_of list.old.items ++ pin_day_faults place (table_view table.now)) }

@@ -14,7 +14,7 @@ use Rattle.kd_findings.specs.Faults.{faults_of, first_fault}
 use Rattle.kd_findings.specs.Kind.{is_machine_file}
 use Rattle.kd_findings.specs.SheetFaults.{AreFaults, file_fault}
 use Rattle.kd_findings.specs.declared.findings.Finding.{Finding}
-use Rattle.kd_findings.specs.declared.place.Place.{Place}
+use Rattle.kd_findings.specs.declared.key_place.KeyPlace.{KeyPlace}
 use Rattle.kd_look.specs.FaultWords.{AreFaultLines, AreLinesFor, IsFaultLine, IsLineAt}
 use Rattle.kd_look.specs.Line.{line_of}
 use Rattle.kd_findings.specs.Texts.{AppendsText}
@@ -65,7 +65,7 @@ file_fault-is document fault is =
 
 -- the lines of all faults of a document are the lines for the document
 pub AreLinesFor-document : (name bytes text empty : List ℕ) (document : Members) (fault : SheetFault)
-    (found : List (Place × SheetFault)) → file_in document ≡ Err fault → AreFaults document found
+    (found : List (KeyPlace × SheetFault)) → file_in document ≡ Err fault → AreFaults document found
     → first_fault found ≡ file_fault document → empty ≡ [] → AppendsText (AreFaultLines name bytes found) empty text
     → AreLinesFor name bytes document fault text
 AreLinesFor-document name bytes text empty document fault found is are first none lines =

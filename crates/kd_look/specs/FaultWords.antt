@@ -11,7 +11,7 @@ use Rattle.kd_findings.specs.Faults.{first_fault}
 use Rattle.kd_findings.specs.NotToml.{SaysNotToml}
 use Rattle.kd_findings.specs.SheetFaults.{AreFaults}
 use Rattle.kd_findings.specs.Texts.{BeginsWith, IsInOneLine, entry_words, titled}
-use Rattle.kd_findings.specs.declared.place.Place.{Place}
+use Rattle.kd_findings.specs.declared.key_place.KeyPlace.{KeyPlace}
 use Rattle.kd_look.specs.Line.{line_of_fault}
 use Rattle.kd_look.specs.Warnings.{AreKeyWarnings, mark_words}
 
@@ -24,32 +24,32 @@ unfoldable pub line_words : Option ℕ → List ℕ
 line_words line = option_map_or (titled (codes ", line ")) line []
 
 -- the line of a fault; `wrong` are the words that say what is wrong
-unfoldable pub fault_line : List ℕ → Place → Option ℕ → List ℕ → SheetFault → List ℕ
+unfoldable pub fault_line : List ℕ → KeyPlace → Option ℕ → List ℕ → SheetFault → List ℕ
 fault_line name place line wrong fault =
     name ++ entry_words place.day place.entry ++ line_words line ++ codes ", " ++ key_name place.key ++ wrong
     ++ fault_end fault
 
 -- The text is the report's line about `fault` at `place` in the file `name`. `line` is the number of the file's line,
 -- if it is known. `wrong` says what is wrong, in words without a line end.
-pub record IsLineAt (name : List ℕ) (place : Place) (line : Option ℕ) (fault : SheetFault) (text : List ℕ) : Type 0 where
+pub record IsLineAt (name : List ℕ) (place : KeyPlace) (line : Option ℕ) (fault : SheetFault) (text : List ℕ) : Type 0 where
   pub wrong : List ℕ
   pub plain : IsInOneLine wrong
   pub whole : text ≡ fault_line name place line wrong fault
 
 -- `text` is the report's line about `fault` at `place` in the file `name`. `text` has the number of the fault's line in
 -- `bytes`, if this line is known.
-abbrev pub IsFaultLine : List ℕ → List ℕ → Place → SheetFault → List ℕ → Type 0
+abbrev pub IsFaultLine : List ℕ → List ℕ → KeyPlace → SheetFault → List ℕ → Type 0
 IsFaultLine name bytes place fault text = IsLineAt name place (line_of_fault bytes place fault) fault text
 
 -- The text has a line for each fault, in the order of the faults.
-abbrev pub AreFaultLines : List ℕ → List ℕ → List (Place × SheetFault) → List ℕ → Type 0
+abbrev pub AreFaultLines : List ℕ → List ℕ → List (KeyPlace × SheetFault) → List ℕ → Type 0
 AreFaultLines name bytes [] text = text ≡ []
 AreFaultLines name bytes (found ∷ rest) text = BeginsWith (IsFaultLine name bytes found.0 found.1)
     (λ others. AreFaultLines name bytes rest others) text
 
 -- The text has a line for each of the document's faults. `fault` is the first of these faults.
 pub record AreLinesFor (name bytes : List ℕ) (document : Members) (fault : SheetFault) (text : List ℕ) : Type 0 where
-  pub found : List (Place × SheetFault)
+  pub found : List (KeyPlace × SheetFault)
   pub are : AreFaults document found
   pub first : first_fault found ≡ Some fault
   pub lines : AreFaultLines name bytes found text

@@ -17,7 +17,7 @@ use Rattle.kd_sheet.specs.declared.fault.SheetFault.TheVariants.{Missing}
 use Rattle.kd_findings.specs.NotToml.{line_at}
 use Rattle.kd_findings.specs.Kind.{entries_of, is_given}
 use Rattle.kd_findings.specs.declared.findings.Finding.{Finding}
-use Rattle.kd_findings.specs.declared.place.Place.{Place}
+use Rattle.kd_findings.specs.declared.key_place.KeyPlace.{KeyPlace}
 use Rattle.kd_look.specs.declared.line.Sought.{Sought}
 use Rattle.kd_look.specs.declared.line.Sought.TheVariants as soughts
 
@@ -80,12 +80,12 @@ sought_without None keys.Day = Some soughts.AnyKey
 sought_without None key = None
 
 -- what to look for to find the line of a fault: an entry or a key
-abbrev pub sought_for : Place → SheetFault → Option Sought
+abbrev pub sought_for : KeyPlace → SheetFault → Option Sought
 sought_for place (Missing key) = sought_without place.entry key
 sought_for place fault = Some (soughts.Key place.entry place.key)
 
 -- the number of a fault's line in the file
-unfoldable pub line_of_fault : List ℕ → Place → SheetFault → Option ℕ
+unfoldable pub line_of_fault : List ℕ → KeyPlace → SheetFault → Option ℕ
 line_of_fault text place fault = option_and_then (line_number text) (sought_for place fault)
 
 -- ---- Lines that are found one after another. No public contract cites these definitions.

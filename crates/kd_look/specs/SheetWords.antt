@@ -9,15 +9,15 @@ use Rattle.kd_tables.specs.Tables.{all_models, model_text}
 use Rattle.kd_tables.specs.declared.model.Model.{Model}
 use Rattle.kd_state.specs.SheetDay.{Day, rotor_day}
 use Rattle.kd_sheet.specs.Sheet.{day_of, has_day_of}
-use Rattle.kd_look.specs.declared.sheet_words.Sort.{Sort}
-use Rattle.kd_look.specs.declared.sheet_words.Sort.TheVariants as sorts
+use Rattle.kd_look.specs.declared.sheet_words.DaySort.{DaySort}
+use Rattle.kd_look.specs.declared.sheet_words.DaySort.TheVariants as sorts
 
 -- whether the day is a rotor machine's day without groups
 abbrev pub lacks_groups : Day → Bool
 lacks_groups day = option_map_or (λ values. length values.groups == 0) (rotor_day day) false
 
 -- whether the sheet has the day `number`, and the day is of the sort `sort`
-unfoldable pub has_day : List (Option Day) → Sort → ℕ → Bool
+unfoldable pub has_day : List (Option Day) → DaySort → ℕ → Bool
 has_day month (sorts.Of model) number = has_day_of model month number
 has_day month sorts.WithoutGroups number = option_map_or lacks_groups (day_of month number) false
 
@@ -32,13 +32,13 @@ day_words title before after number =
 
 -- the words that day `number` of the sheet adds to the lines for the days of a sort; empty if the day isn't of this
 -- sort
-unfoldable pub numbered_day_words : List (Option Day) → List ℕ → Sort → ℕ → List ℕ
+unfoldable pub numbered_day_words : List (Option Day) → List ℕ → DaySort → ℕ → List ℕ
 numbered_day_words month title sort number =
     if has_day month sort number
     then day_words title (has_day month sort (number - 1)) (has_day month sort (number + 1)) number else []
 
 -- the lines for the days of the sort `sort`; each line begins with `title`
-unfoldable pub sort_words : List (Option Day) → List ℕ → Sort → List ℕ
+unfoldable pub sort_words : List (Option Day) → List ℕ → DaySort → List ℕ
 sort_words month title sort = flat_map (numbered_day_words month title sort) (range_with_len 1 31)
 
 -- the lines for a model's days

@@ -14,7 +14,7 @@ ghost use Rattle.kd_sheet.specs.Document.{document_of};
 use crate::line::lines_of;
 use crate::warnings::{key_warnings, push_mark};
 use kd_findings::{
-    Finding, Place, find_faults, first_line, push_entry, push_titled, toml_words, wrong_words,
+    Finding, KeyPlace, find_faults, first_line, push_entry, push_titled, toml_words, wrong_words,
 };
 use kd_sheet::SheetFault;
 use std::alloc::{AllocError, Global};
@@ -126,7 +126,7 @@ fn push_finding(
 fn push_fault_line(
     text: &mut String,
     name: &str,
-    place: Place,
+    place: KeyPlace,
     line: Option<usize>,
     wrong: &str,
     fault: SheetFault,

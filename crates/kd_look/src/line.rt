@@ -8,7 +8,7 @@ ghost use Rattle.kd_findings.specs.Kind.{is_given};
 ghost use Rattle.kd_look.specs.Line.{ends_line, entry_of, table_at, has_any_key, has_value, is_too_long};
 ghost use Rattle.kd_look.specs.Line.{line_in, line_in_text, line_of, line_so_far, or_line, sought_for, sought_without};
 
-use kd_findings::{Finding, Place, entries_of};
+use kd_findings::{Finding, KeyPlace, entries_of};
 use kd_sheet::by_key::{find_at, parse_table};
 use kd_sheet::{Key, SheetFault};
 use std::alloc::{AllocError, Global};
@@ -192,7 +192,7 @@ fn line_in(document: &Table, line: usize, finding: &Finding) -> Option<usize>
 fn sought_for(finding: &Finding) -> Option<Sought>
     ensures { result ≡ sought_for finding.now.place finding.now.fault }
 {
-    let Place { entry, key, .. } = finding.place;
+    let KeyPlace { entry, key, .. } = finding.place;
     match finding.fault {
         SheetFault::Missing(missing) => sought_without(entry, missing),
         _ => Some(Sought::Key(entry, key)),

@@ -12,7 +12,7 @@ use std::alloc::AllocError;
 
 /// A sort of days: the days for one model, or the days of rotor machines that have no groups.
 #[derive(Clone, Copy)]
-pub enum Sort {
+pub enum DaySort {
     /// The days for a model.
     Of(Model),
     /// A rotor machine's days without groups.
@@ -25,7 +25,7 @@ pub fn push_sheet(text: &mut String, sheet: &Sheet) -> Result<(), AllocError>
     ensures { OnOk result (string_bytes text.new ≡ string_bytes text.old ++ sheet_words sheet.now) }
 {
     push_models(text, sheet, &Model::ALL)?;
-    push_sort(text, sheet, "without groups", Sort::WithoutGroups)
+    push_sort(text, sheet, "without groups", DaySort::WithoutGroups)
 }
 
 /// Appends the lines for the days of each of `models`.
@@ -46,12 +46,12 @@ fn push_models(text: &mut String, sheet: &Sheet, models: &[Model]) -> Result<(),
 fn push_model(text: &mut String, sheet: &Sheet, model: Model) -> Result<(), AllocError>
     ensures { OnOk result (string_bytes text.new ≡ string_bytes text.old ++ model_words sheet.now model) }
 {
-    push_sort(text, sheet, model.text().as_str(), Sort::Of(model))
+    push_sort(text, sheet, model.text().as_str(), DaySort::Of(model))
 }
 
 /// Appends the lines for the days of the sort `sort`. Each line begins with `title`.
 #[tactic(auto, unfolding(crate::specs::SheetWords::sort_words))]
-fn push_sort(text: &mut String, sheet: &Sheet, title: &str, sort: Sort) -> Result<(), AllocError>
+fn push_sort(text: &mut String, sheet: &Sheet, title: &str, sort: DaySort) -> Result<(), AllocError>
     ensures { OnOk result
         (string_bytes text.new ≡ string_bytes text.old ++ sort_words sheet.now title.now sort) }
 {
@@ -68,7 +68,7 @@ fn push_day(
     text: &mut String,
     sheet: &Sheet,
     title: &str,
-    sort: Sort,
+    sort: DaySort,
     number: u8,
 ) -> Result<(), AllocError>
     requires { number < 32 }
@@ -88,12 +88,12 @@ fn push_day(
 
 /// Whether `sheet` has the day `number`, and the day is of the sort `sort`.
 #[tactic(auto, unfolding(crate::specs::SheetWords::has_day))]
-fn has_day(sheet: &Sheet, sort: Sort, number: u8) -> bool
+fn has_day(sheet: &Sheet, sort: DaySort, number: u8) -> bool
     ensures { result ≡ has_day sheet.now sort number }
 {
     match sort {
-        Sort::Of(model) => sheet.has_day_of(model, number),
-        Sort::WithoutGroups => match sheet.day(number) {
+        DaySort::Of(model) => sheet.has_day_of(model, number),
+        DaySort::WithoutGroups => match sheet.day(number) {
             Some(day) => lacks_groups(day),
             None => false,
         },

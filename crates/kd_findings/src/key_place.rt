@@ -1,4 +1,4 @@
-//! `Place`: the place of a value in a file.
+//! `KeyPlace`: the place of a value in a file.
 ghost use Rattle.std.specs.Prelude.{◌≡◌};
 ghost use Rattle.kd_findings.specs.Faults.{at_key, in_file};
 ghost use Rattle.kd_findings.specs.SheetFaults.{in_entry};
@@ -7,7 +7,7 @@ use kd_sheet::Key;
 
 /// The place of a value in a file.
 #[derive(Clone, Copy)]
-pub struct Place {
+pub struct KeyPlace {
     /// The number of the entry in a key sheet, counted from 1. `None` in a machine file.
     pub entry: Option<usize>,
     /// The entry's day, if it can be read.
@@ -15,12 +15,12 @@ pub struct Place {
     pub key: Key,
 }
 
-impl Place {
+impl KeyPlace {
     /// The place of `key` in a machine file.
     pub fn in_file(key: Key) -> Self
         ensures { result ≡ in_file key }
     {
-        Place {
+        KeyPlace {
             entry: None,
             day: None,
             key,
@@ -31,7 +31,7 @@ impl Place {
     pub fn in_entry(entry: usize, day: Option<u8>, key: Key) -> Self
         ensures { result ≡ in_entry entry day key }
     {
-        Place {
+        KeyPlace {
             entry: Some(entry),
             day,
             key,
@@ -42,6 +42,6 @@ impl Place {
     pub fn at(self, key: Key) -> Self
         ensures { result ≡ at_key self key }
     {
-        Place { key, ..self }
+        KeyPlace { key, ..self }
     }
 }
