@@ -66,8 +66,8 @@ reason_words reasons.PartsMissing = codes "the form has fewer parts than its hea
 reason_words reasons.BodySign = codes "a body has only capital letters and spaces"
 reason_words reasons.BodyCount = codes "this part has more or fewer letters than its heading says"
 
--- The line about a fault of an order or a form: the file's name, line and column of the fault, what is wrong, and the refusal's
--- number and name.
+-- The line about a fault of an order or a form: the file's name, line and column of the fault, what is wrong, and the
+-- refusal's number and name.
 unfoldable pub fault_line : List ℕ → List ℕ → MessageFault → List ℕ
 fault_line name text found =
     name ++ place_words (line_at text found.index) (column_at text found.index) (reason_words found.reason)
@@ -134,8 +134,8 @@ abbrev pub order_words_for : List ℕ → List ℕ → Result ℕ MessageFault �
 order_words_for name text (Ok start) = order_lines name text start
 order_words_for name text (Err found) = fault_line name text found
 
--- The lines about a form without a fault that shows without a machine: the machine that the form is for, what was looked
--- at, and how many parts the form has. `first` is the form's first heading.
+-- The lines about a form without a fault that shows without a machine: the machine that the form is for, what was
+-- looked at, and how many parts the form has. `first` is the form's first heading.
 unfoldable pub form_lines : List ℕ → FormHeading → List ℕ
 form_lines name first =
     kind_words name (codes ": a form for ") first.keys form_tests

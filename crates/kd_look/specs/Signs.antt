@@ -1,5 +1,5 @@
--- How lines are compared with patterns: in a pattern, `_` stands for any capital letter, and each other byte for itself.
--- Indexes are counted from 0.
+-- How lines are compared with patterns: in a pattern, `_` stands for any capital letter, and each other byte for
+-- itself. Indexes are counted from 0.
 -- Test: tests/cases/curator-look.toml
 use Rattle.std.specs.Prelude.{ℕ, ◌+◌, ◌==◌, not, Bool, false, Option, List, [], ◌∷◌, Result, Ok, Err, slice_get, if◌then◌else◌}
 use Rattle.std.specs.List.{position}

@@ -1,4 +1,5 @@
-//! `MessageFault`: a fault of an order or a form that shows without a machine, with its place, and words that explain it.
+//! `MessageFault`: a fault of an order or a form that shows without a machine, with its place, and words that explain
+//! it.
 ghost use Rattle.std.specs.Prelude.{◌≡◌};
 ghost use Rattle.kd_look.specs.MessageWords.{letter_words, reason_words, space_words};
 
