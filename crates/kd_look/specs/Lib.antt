@@ -1,10 +1,16 @@
 pub mod FaultWords
 pub mod File
+pub mod Form
+pub mod FormHeading
 pub mod Line
 pub mod Look
 pub mod MachineWords
+pub mod MessageWords
 pub mod MissingDays
+pub mod Order
+pub mod OrderHead
 pub mod Report
 pub mod SheetWords
+pub mod Signs
 pub mod Texts
 pub mod Warnings

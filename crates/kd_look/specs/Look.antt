@@ -10,7 +10,7 @@ use Rattle.kd_tables.specs.declared.ports.write_fault.WriteFault.TheVariants.{De
 use Rattle.kd_findings.specs.Texts.{BeginsWith}
 use Rattle.kd_look.specs.File.{file_of}
 use Rattle.kd_look.specs.MissingDays.{KnownFile, missing_words}
-use Rattle.kd_look.specs.Report.{IsReport, outcome_of}
+use Rattle.kd_look.specs.Report.{IsReport, file_outcome}
 use Rattle.kd_look.specs.declared.looking.NamedFile.{NamedFile}
 use Rattle.kd_look.specs.declared.outcome.Outcome.{Outcome}
 use Rattle.kd_look.specs.declared.outcome.Outcome.TheVariants as outcomes
@@ -32,7 +32,7 @@ or_later (outcomes.Faulty fault) later = outcomes.Faulty fault
 -- the outcome for all files: the first fault of the first file that has a fault
 abbrev pub outcome_of_all : List NamedText → Outcome
 outcome_of_all [] = outcomes.Faultless
-outcome_of_all (file ∷ rest) = or_later (outcome_of (file_of file.bytes)) (outcome_of_all rest)
+outcome_of_all (file ∷ rest) = or_later (file_outcome file.bytes) (outcome_of_all rest)
 
 -- The text has a report on each file, in the order of the files.
 abbrev pub AreReports : List NamedText → List ℕ → Type 0

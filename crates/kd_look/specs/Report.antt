@@ -1,23 +1,52 @@
 -- The report on a file: its content in words, or its faults.
 -- Test: tests/cases/curator-look.toml
-use Rattle.std.specs.Prelude.{codes, ◌≡◌, ℕ, ◌++◌, List, MatchResult, Result, Ok, Err}
+use Rattle.std.specs.Prelude.{codes, ◌≡◌, ℕ, ◌++◌, Bool, true, false, List, MatchResult, Result, Ok, Err, if◌then◌else◌}
 use Rattle.toml.specs.Data.{Members}
 use Rattle.kd_sheet.specs.Document.{document_of}
 use Rattle.kd_sheet.specs.declared.fault.SheetFault.{SheetFault}
 use Rattle.kd_look.specs.FaultWords.{NamesFault, SaysPlainly}
 use Rattle.kd_look.specs.File.{file_in}
 use Rattle.kd_look.specs.MachineWords.{machine_words}
+use Rattle.kd_look.specs.Order.{order_start}
+use Rattle.kd_look.specs.Form.{form_answer}
+use Rattle.kd_look.specs.MessageWords.{is_form, is_message, message_words}
 use Rattle.kd_look.specs.SheetWords.{sheet_words}
 use Rattle.kd_look.specs.Warnings.{AreKeyWarnings, WarnsOfFile}
 use Rattle.kd_look.specs.declared.file.File.{File}
 use Rattle.kd_look.specs.declared.file.File.TheVariants as files
+use Rattle.kd_look.specs.declared.message.fault.MessageFault.{MessageFault}
+use Rattle.kd_look.specs.declared.outcome.FoundFault.TheVariants as founds
 use Rattle.kd_look.specs.declared.outcome.Outcome.{Outcome}
 use Rattle.kd_look.specs.declared.outcome.Outcome.TheVariants as outcomes
 
--- the outcome for a file: `Faultless`, or the file's first fault
+-- the outcome for a machine file or a key sheet: `Faultless`, or the file's first fault
 abbrev pub outcome_of : Result File SheetFault → Outcome
 outcome_of (Ok file) = outcomes.Faultless
-outcome_of (Err fault) = outcomes.Faulty fault
+outcome_of (Err fault) = outcomes.Faulty (founds.File fault)
+
+-- the outcome for an order or a form: `Faultless`, or the first fault that shows without a machine
+abbrev pub answer_outcome : {A : Type 0} → Result A MessageFault → Outcome
+answer_outcome (Ok read) = outcomes.Faultless
+answer_outcome (Err found) = outcomes.Faulty (founds.Message found.fault)
+
+-- the outcome for an order or a form
+abbrev pub message_outcome : List ℕ → Outcome
+message_outcome bytes =
+    if is_form bytes then answer_outcome (form_answer bytes) else answer_outcome (order_start bytes)
+
+-- the outcome for a file that isn't a document; the truth value says whether the file is an order or a form
+abbrev pub outcome_without : Bool → List ℕ → SheetFault → Outcome
+outcome_without true bytes fault = message_outcome bytes
+outcome_without false bytes fault = outcomes.Faulty (founds.File fault)
+
+-- the outcome for a file, by the file's document or the fault of a file that isn't a document
+abbrev pub outcome_by : List ℕ → Result Members SheetFault → Outcome
+outcome_by bytes (Ok document) = outcome_of (file_in document)
+outcome_by bytes (Err fault) = outcome_without (is_message bytes) bytes fault
+
+-- the outcome for a file
+abbrev pub file_outcome : List ℕ → Outcome
+file_outcome bytes = outcome_by bytes (document_of bytes)
 
 -- the words for a file's content, after the file's name
 unfoldable pub file_words : List ℕ → File → List ℕ
@@ -39,7 +68,14 @@ abbrev pub IsDocumentReport : List ℕ → List ℕ → Members → List ℕ →
 IsDocumentReport name bytes document text = MatchResult (file_in document)
     (λ file. Describes name bytes document file text) (λ fault. NamesFault name bytes document fault text)
 
+-- The text is the report on a file that isn't a document. The truth value says whether the file is an order
+-- or a form.
+abbrev pub IsOtherReport : Bool → List ℕ → List ℕ → SheetFault → List ℕ → Type 0
+IsOtherReport true name bytes fault text = text ≡ message_words name bytes
+IsOtherReport false name bytes fault text = SaysPlainly name bytes fault text
+
 -- The text is the report on the file called `name`, with the content `bytes`.
 abbrev pub IsReport : List ℕ → List ℕ → List ℕ → Type 0
 IsReport name bytes text = MatchResult (document_of bytes)
-    (λ document. IsDocumentReport name bytes document text) (λ fault. SaysPlainly name bytes fault text)
+    (λ document. IsDocumentReport name bytes document text)
+    (λ fault. IsOtherReport (is_message bytes) name bytes fault text)

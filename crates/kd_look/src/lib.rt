@@ -1,4 +1,4 @@
-//! Describes machine files and key sheets in words, or names their faults.
+//! Describes machine files, key sheets, orders and forms in words, or names their faults.
 #![tactic(auto)]
 
 mod alike;
@@ -9,6 +9,7 @@ mod file;
 mod line;
 mod looking;
 mod machine_words;
+mod message;
 mod missing_days;
 mod outcome;
 mod report;
@@ -17,4 +18,4 @@ mod texts;
 mod warnings;
 
 pub use looking::{NamedFile, look_at};
-pub use outcome::Outcome;
+pub use outcome::{FoundFault, Outcome};

@@ -2,12 +2,11 @@
 ghost use Rattle.std.specs.Prelude.{◌≡◌, ◌||◌, ◌++◌, ◌∷◌, [], false, map, IfOk, IsErr, OnOk};
 ghost use Rattle.std.specs.String.{string_bytes};
 ghost use Rattle.kd_tables.specs.{Ports.{port}, WriteFault.{is_device}};
-ghost use Rattle.kd_look.specs.File.{file_of};
 ghost use Rattle.kd_findings.specs.Texts.{AppendsText};
 ghost use Rattle.kd_look.specs.Look.{AreReports, IsLookAnswer, IsWholeReport};
 ghost use Rattle.kd_look.specs.Look.{known_text, named_text, outcome_of_all};
 ghost use Rattle.kd_look.specs.MissingDays.{known_of};
-ghost use Rattle.kd_look.specs.Report.{IsReport, outcome_of};
+ghost use Rattle.kd_look.specs.Report.{IsReport, file_outcome};
 
 use crate::missing_days::{ReadFile, missing_day_warnings};
 use crate::outcome::Outcome;
@@ -98,7 +97,7 @@ fn push_report<'f>(
 ) -> Result<Outcome, AllocError>
     ensures report { OnOk result (AppendsText (IsReport file.entry.name.now file.entry.bytes.now)
         (string_bytes text.old) (string_bytes text.new)) }
-    ensures found { IfOk result (λ found. found ≡ outcome_of (file_of file.entry.bytes.now)) }
+    ensures found { IfOk result (λ found. found ≡ file_outcome file.entry.bytes.now) }
     ensures known { OnOk result (map known_of known.new.items
         ≡ map known_of known.old.items ++ known_text (named_text file.entry) ∷ []) }
 {

@@ -2,6 +2,7 @@
 ghost use Rattle.std.specs.Prelude.{◌≡◌};
 ghost use Rattle.kd_look.specs.Look.{or_later};
 
+use kd_form::FormFault;
 use kd_sheet::SheetFault;
 
 /// What was found in files: no fault, or the first fault.
@@ -10,7 +11,16 @@ pub enum Outcome {
     /// No file has a fault.
     Faultless,
     /// The first fault of the first file that has a fault.
-    Faulty(SheetFault),
+    Faulty(FoundFault),
+}
+
+/// A fault that was found in a file.
+#[derive(Clone, Copy, Debug, PartialEq, Eq)]
+pub enum FoundFault {
+    /// In a machine file or a key sheet, or in a file that is neither.
+    File(SheetFault),
+    /// In an order or a form.
+    Message(FormFault),
 }
 
 impl Outcome {

@@ -1,15 +1,21 @@
 //! The report on one file: its content in words, or its faults.
-ghost use Rattle.std.specs.Prelude.{◌≡◌, ◌++◌, IfOk, OnOk};
+ghost use Rattle.std.specs.Prelude.{◌≡◌, ◌++◌, None, IfOk, OnOk};
 ghost use Rattle.std.specs.Result.{result_ok};
 ghost use Rattle.std.specs.String.{string_bytes};
 ghost use Rattle.toml.specs.View.{table_view};
-ghost use Rattle.kd_look.specs.Report.{Describes, IsDocumentReport, IsReport, file_words, outcome_of};
+ghost use Rattle.kd_look.specs.Report.{Describes, IsDocumentReport, IsReport, file_outcome, file_words};
+ghost use Rattle.kd_look.specs.Report.{answer_outcome, message_outcome, outcome_of};
+ghost use Rattle.kd_look.specs.MessageWords.{message_words};
 ghost use Rattle.kd_look.specs.File.{file_in, file_of};
 
 use crate::fault_words::{plain_refusal, refusal};
 use crate::file::{File, file_in};
 use crate::machine_words::push_machine;
-use crate::outcome::Outcome;
+use crate::message::fault::MessageFault;
+use crate::message::form::form_answer;
+use crate::message::order::order_start;
+use crate::message::words::{form_words, is_form, is_message, order_words};
+use crate::outcome::{FoundFault, Outcome};
 use crate::sheet_words::push_sheet;
 use crate::warnings::{day_warnings, key_warnings};
 use kd_sheet::SheetFault;
@@ -30,17 +36,51 @@ pub struct Report {
 /// Makes the report on the file called `name`, with the content `bytes`.
 pub fn make_report(alloc: Global, bytes: &[u8], name: &str) -> Result<Report, AllocError>
     ensures report { IfOk result (λ made. IsReport name.now bytes.now (string_bytes made.text)) }
-    ensures found { IfOk result (λ made. made.outcome ≡ outcome_of (file_of bytes.now)) }
+    ensures found { IfOk result (λ made. made.outcome ≡ file_outcome bytes.now) }
     ensures file { IfOk result (λ made. made.file ≡ result_ok (file_of bytes.now)) }
 {
     match parse_table(alloc, bytes) {
         Ok(document) => document_report(alloc, bytes, name, &document),
         Err(SheetFault::NoMemory) => Err(AllocError),
+        Err(_) if is_message(bytes) => message_report(alloc, bytes, name),
         Err(fault) => Ok(Report {
             text: plain_refusal(alloc, bytes, name, fault)?,
-            outcome: Outcome::Faulty(fault),
+            outcome: Outcome::Faulty(FoundFault::File(fault)),
             file: None,
         }),
+    }
+}
+
+/// Makes the report on the order or form `bytes` in the file called `name`.
+fn message_report(alloc: Global, bytes: &[u8], name: &str) -> Result<Report, AllocError>
+    ensures report { IfOk result (λ made. string_bytes made.text ≡ message_words name.now bytes.now) }
+    ensures found { IfOk result (λ made. made.outcome ≡ message_outcome bytes.now) }
+    ensures file { IfOk result (λ made. made.file ≡ None) }
+{
+    if is_form(bytes) {
+        let answer = form_answer(bytes);
+        Ok(Report {
+            text: form_words(alloc, name, bytes, &answer)?,
+            outcome: answer_outcome(&answer),
+            file: None,
+        })
+    } else {
+        let answer = order_start(bytes);
+        Ok(Report {
+            text: order_words(alloc, name, bytes, &answer)?,
+            outcome: answer_outcome(&answer),
+            file: None,
+        })
+    }
+}
+
+/// The outcome for an order or a form, by what reading it answers.
+fn answer_outcome<A>(answer: &Result<A, MessageFault>) -> Outcome
+    ensures { result ≡ answer_outcome answer.now }
+{
+    match answer {
+        Ok(_) => Outcome::Faultless,
+        Err(found) => Outcome::Faulty(FoundFault::Message(found.fault)),
     }
 }
 
@@ -66,7 +106,7 @@ fn document_report(
         }),
         Err(fault) => Ok(Report {
             text: refusal(alloc, bytes, name, document, fault)?,
-            outcome: Outcome::Faulty(fault),
+            outcome: Outcome::Faulty(FoundFault::File(fault)),
             file: None,
         }),
     }

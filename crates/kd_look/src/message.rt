@@ -1,0 +1,9 @@
+//! Looks at messages as far as that is possible without a machine.
+
+pub mod fault;
+pub mod form;
+pub mod form_heading;
+pub mod order;
+pub mod order_head;
+pub mod signs;
+pub mod words;
