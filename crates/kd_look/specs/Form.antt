@@ -2,14 +2,13 @@
 -- of `desk receive`, but for those that the day or the machine shows, or the indicators. Indexes are counted from 0,
 -- and parts from 1.
 -- Test: tests/cases/curator-look.toml
-use Rattle.std.specs.Prelude.{codes, ℕ, suc, zero, ◌+◌, ◌-◌, ◌==◌, ◌&&◌, nat_le, not, Bool, true, false, List, ◌∷◌}
+use Rattle.std.specs.Prelude.{codes, ℕ, suc, zero, ◌+◌, ◌-◌, ◌==◌, ◌&&◌, nat_le, not, Bool, false, List}
 use Rattle.std.specs.Prelude.{Option, Some, None, Result, Ok, Err, count_by, find, is_ok, length, option_map}
 use Rattle.std.specs.Prelude.{slice_get, if◌then◌else◌}
 use Rattle.std.specs.List.{range_with_len, slice_range}
 use Rattle.std.specs.Option.{option_map_or}
 use Rattle.std.specs.Result.{result_map_both}
 use Rattle.kd_tables.specs.Text.{is_capital}
-use Rattle.kd_form.specs.declared.fault.FormFault.{FormFault}
 use Rattle.kd_form.specs.declared.fault.FormFault.TheVariants.{BadByte, BadHeading, CountWrong, PartOrder}
 use Rattle.kd_sheet.specs.Document.{◌>>=◌, ◌>>◌, demand}
 use Rattle.kd_look.specs.FormHeading.{heading_at}

@@ -1,6 +1,6 @@
 -- How a heading line of a form is read without a machine. Indexes are counted from 0.
 -- Test: tests/cases/curator-look.toml
-use Rattle.std.specs.Prelude.{codes, ℕ, ◌+◌, ◌-◌, ◌*◌, ◌%◌, ◌==◌, ◌&&◌, nat_le, Bool, false, List, [], length, Option}
+use Rattle.std.specs.Prelude.{codes, ℕ, ◌+◌, ◌-◌, ◌*◌, ◌%◌, ◌==◌, ◌&&◌, nat_le, Bool, List, [], length, Option}
 use Rattle.std.specs.Prelude.{Some, None, Result, Ok, Err, slice_get, if◌then◌else◌}
 use Rattle.std.specs.Option.{option_map_or}
 use Rattle.kd_sheet.specs.Document.{◌>>=◌, ◌>>◌, demand}

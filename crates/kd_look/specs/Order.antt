@@ -10,9 +10,8 @@ use Rattle.std.specs.Option.{option_map_or}
 use Rattle.std.specs.Result.{result_map_both}
 use Rattle.kd_tables.specs.Rings.{place_on, ring_of}
 use Rattle.kd_tables.specs.Text.{is_capital}
-use Rattle.kd_form.specs.declared.fault.FormFault.{FormFault}
 use Rattle.kd_form.specs.declared.fault.FormFault.TheVariants.{BadByte, EmptyText, KeyNotOnWheel, PartKeys}
-use Rattle.kd_sheet.specs.Document.{◌>>=◌, ◌>>◌, demand}
+use Rattle.kd_sheet.specs.Document.{◌>>=◌, ◌>>◌}
 use Rattle.kd_findings.specs.NotToml.{column_at}
 use Rattle.kd_look.specs.OrderHead.{head_end, key_line_of}
 use Rattle.kd_look.specs.Signs.{wrong_sign}
@@ -95,7 +94,8 @@ parts_answer text form start =
     else Err (record {
       index = start;
       fault = PartKeys (parts_needed text form start) (keys_given text start);
-      reason = if nat_lt (keys_given text start) (parts_needed text form start) then reasons.FewKeys else reasons.ManyKeys;
+      reason = if nat_lt (keys_given text start) (parts_needed text form start) then reasons.FewKeys
+          else reasons.ManyKeys;
     })
 
 -- The index of the text of an order whose lines of keys have the form `form`, or the order's first fault among those

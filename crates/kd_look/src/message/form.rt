@@ -1,6 +1,6 @@
 //! Reads a form as far as that is possible without a machine: its headings, its signs and its counts.
 ghost use Rattle.std.specs.Prelude.{◌≡◌, ◌≤◌, ◌<◌, ◌+◌, ◌-◌, count_by, find, length, option_map, IfOk, IfSome};
-ghost use Rattle.std.specs.List.{range_with_len, slice_range};
+ghost use Rattle.std.specs.List.{range_with_len};
 ghost use Rattle.kd_tables.specs.Text.{is_capital};
 ghost use Rattle.kd_look.specs.Form.{body_end, body_signs, due_heading, first_or, form_answer, form_from};
 ghost use Rattle.kd_look.specs.Form.{has_due_numbers, heading_fault, heading_follows, heading_reason, part_at};
@@ -193,7 +193,8 @@ fn body_end(text: &[u8], body: usize) -> usize
 
 /// The index of the first LF from `first` on that a heading line follows.
 fn next_heading(text: &[u8], first: usize) -> Option<usize>
-    ensures found { result ≡ find (heading_follows text.now) (range_with_len first (length text.now - first)) }
+    ensures found { result ≡ find (heading_follows text.now)
+        (range_with_len first (length text.now - first)) }
     ensures within { IfSome result (λ index. (first ≤ index) × (index < length text.now)) }
 {
     (first..text.len()).find(|index| heading_follows(text, *index))

@@ -2,7 +2,7 @@
 ghost use Rattle.std.specs.Prelude.{◌≡◌, ◌≤◌, find, length, IfOk};
 ghost use Rattle.std.specs.List.{range_with_len};
 ghost use Rattle.kd_look.specs.Order.{gives_letter, head_fault, is_off_wheel, is_off_wheel_at, keys_given};
-ghost use Rattle.kd_look.specs.Order.{letter_count, order_answer, order_start, part_letters, parts_answer, parts_needed};
+ghost use Rattle.kd_look.specs.Order.{letter_count, order_answer, order_start, part_letters, parts_answer};
 ghost use Rattle.kd_look.specs.Order.{reason_for, signs_answer, text_start, wheels_answer};
 
 use super::fault::{MessageFault, Reason};

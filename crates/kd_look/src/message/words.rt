@@ -4,7 +4,8 @@ ghost use Rattle.std.specs.List.{flat_map, range_with_len};
 ghost use Rattle.std.specs.String.{string_bytes};
 ghost use Rattle.kd_look.specs.MessageWords.{capital_at, group_column, group_line, group_words};
 ghost use Rattle.kd_look.specs.MessageWords.{fault_line, form_lines, form_tests, form_words_for, is_form, is_message};
-ghost use Rattle.kd_look.specs.MessageWords.{kind_words, machine_name, number_line, order_lines, order_tests, order_words_for};
+ghost use Rattle.kd_look.specs.MessageWords.{kind_words, machine_name, number_line, order_lines, order_tests};
+ghost use Rattle.kd_look.specs.MessageWords.{order_words_for};
 
 use super::fault::MessageFault;
 use super::form_heading::FormHeading;
@@ -188,7 +189,8 @@ fn push_group_line(
 
 /// Appends the capital letter at `index`. Appends nothing if no capital letter stands there.
 fn push_capital(words: &mut String, text: &[u8], index: usize) -> Result<(), AllocError>
-    ensures { OnOk result (string_bytes words.new ≡ string_bytes words.old ++ capital_at text.now index) }
+    ensures { OnOk result (string_bytes words.new
+        ≡ string_bytes words.old ++ capital_at text.now index) }
 {
     match text.get(index) {
         Some(byte) if 65 <= *byte && *byte <= 90 => words.push(char::from(*byte)),
