@@ -11,8 +11,9 @@ use Rattle.kd_lost.specs.DamagedPart.{first_line}
 use Rattle.kd_lost.specs.Lines.{heading_line, line_breaks}
 use Rattle.kd_lost.specs.Lost.{is_lost, received_letter}
 use Rattle.kd_lost.specs.OneMessage.{are_of_one_message}
-use Rattle.kd_lost.specs.Repetitions.{are_kept, completed_at, completed_byte, completed_from, completed_of, completed_or}
+use Rattle.kd_lost.specs.Repetitions.{are_kept, completed_at, completed_from, completed_of, completed_or}
 use Rattle.kd_lost.specs.Repetitions.{completed_with, copies_in, known_letter}
+unfoldable use Rattle.kd_lost.specs.Repetitions.{completed_byte}
 use Rattle.kd_lost.specs.Texts.{shown_text}
 use Rattle.kd_lost.specs.Tidy.{from_line_end}
 use Rattle.kd_lost.proofs.Forms.{as_many_read, completed_length}
@@ -61,6 +62,7 @@ kept_tail [] kept = kept
 kept_tail (byte ∷ bytes) kept = kept_tail_from byte bytes (byte == 10) kept (kept_tail bytes)
 
 byte_stands : (known : Option ℕ) (byte : ℕ) → IsFalse (is_lost byte) → completed_byte known byte ≡ byte
+unfolding completed_byte
 byte_stands None byte kept = refl
 byte_stands (Some letter) byte kept = ap (λ b. if b then letter + 65 else byte) kept
 

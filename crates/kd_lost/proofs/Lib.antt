@@ -12,6 +12,7 @@ pub mod WholeParts
 pub mod Forms
 pub mod CompletedParts
 pub mod Tidying
+pub mod HeadingLetters
 pub mod ShortLines
 pub mod ShortGroups
 pub mod Counting

@@ -17,9 +17,9 @@ use Rattle.kd_form.specs.Sending.{space_letter}
 use Rattle.kd_form.proofs.Headings.{BeginsHeading-bytes, at_cut, begins_more, begins_there, first_there, heading_size}
 use Rattle.kd_form.proofs.Headings.{no_cut}
 use Rattle.kd_lost.specs.declared.{part.DamagedPart.{DamagedPart}}
-use Rattle.kd_lost.specs.HeadingLine.{after_blanks, after_word, has_digit_line, has_lost_number, has_short_word, is_blank, is_heading_line}
+use Rattle.kd_lost.specs.HeadingLine.{after_blanks, after_word, has_digit_line, has_lost_number, has_short_word, is_blank}
 use Rattle.kd_lost.specs.HeadingLine.{is_lost_sign, is_part_line}
-unfoldable use Rattle.kd_lost.specs.HeadingLine.{may_be_part}
+unfoldable use Rattle.kd_lost.specs.HeadingLine.{fitting_signs, is_heading_line, is_letter, may_be_part, right_signs}
 use Rattle.kd_lost.specs.Lost.{is_lost}
 use Rattle.kd_lost.specs.DamagedForm.{AsItStands, IsMeant, IsReadOf, Respaced, cut_at_heading_lines}
 use Rattle.kd_lost.specs.DamagedForm.{ends_part, parts_cut, shown_byte}
@@ -120,6 +120,7 @@ begins_with_digit bytes begun =
 -- a line that begins a heading for `receive` is taken for one
 heading_begun : (more : List ℕ) → has_digit_line (codes "PART " ++ more) ≡ true
     → is_heading_line (codes "PART " ++ more) ≡ true
+unfolding is_heading_line right_signs fitting_signs is_letter
 heading_begun more digit = ap (λ b. b || has_lost_number (codes "PART " ++ more)) digit
 
 begun_text : (bytes : List ℕ) → BeginsHeading bytes → bytes ≡ codes "PART " ++ drop 5 bytes
@@ -237,6 +238,7 @@ no_line_from false digit lost none kept = refl
 
 -- a line without a digit, of which nothing is lost, isn't taken for a heading
 no_line : (bytes : List ℕ) → has_digit_line bytes ≡ false → AreKept bytes → is_heading_line bytes ≡ false
+unfolding is_heading_line
 no_line bytes none kept =
     no_line_from (is_part_line bytes) (has_digit_line bytes) (has_lost_number bytes) none (no_lost_number bytes kept)
 
@@ -295,7 +297,7 @@ no_mark : (more : List ℕ) → without_mark (codes "PART " ++ more) ≡ codes "
 no_mark more = refl
 
 from_first : (bytes : List ℕ) → is_heading_line bytes ≡ true → from_heading bytes ≡ bytes
-unfolding may_be_part
+unfolding may_be_part is_heading_line
 from_first bytes begins =
     rw (and_parts (is_part_line bytes) (has_digit_line bytes || has_lost_number bytes) begins).0 refl
 

@@ -17,14 +17,14 @@ after_blanks [] = []
 after_blanks (byte ∷ bytes) = if is_blank byte then after_blanks bytes else byte ∷ bytes
 
 -- the number of places of `word` at which the first line of `bytes` has the same sign; small letters mean capitals
-abbrev pub right_signs : List ℕ → List ℕ → ℕ
+unfoldable pub right_signs : List ℕ → List ℕ → ℕ
 right_signs (letter ∷ word) (byte ∷ bytes) =
     if byte == 10 then 0 else (if meant_byte byte == letter then 1 else 0) + right_signs word bytes
 right_signs [] bytes = 0
 right_signs (letter ∷ word) [] = 0
 
 -- the number of places of `word` at which the first line of `bytes` has the same sign or a lost sign
-abbrev pub fitting_signs : List ℕ → List ℕ → ℕ
+unfoldable pub fitting_signs : List ℕ → List ℕ → ℕ
 fitting_signs (letter ∷ word) (byte ∷ bytes) =
     if byte == 10 then 0
     else (if meant_byte byte == letter || is_lost byte then 1 else 0) + fitting_signs word bytes
@@ -32,7 +32,7 @@ fitting_signs [] bytes = 0
 fitting_signs (letter ∷ word) [] = 0
 
 -- whether there is a byte, and it is a letter, capital or small
-abbrev pub is_letter : Option ℕ → Bool
+unfoldable pub is_letter : Option ℕ → Bool
 is_letter None = false
 is_letter (Some byte) = is_capital (meant_byte byte)
 
@@ -140,7 +140,7 @@ has_lost_number bytes =
     has_short_word (after_blanks bytes) && is_lost_sign (slice_get (after_blanks (after_word (after_blanks bytes))) 0)
 
 -- whether the first line of `bytes` is taken for a heading
-abbrev pub is_heading_line : List ℕ → Bool
+unfoldable pub is_heading_line : List ℕ → Bool
 is_heading_line bytes = is_part_line bytes && (has_digit_line bytes || has_lost_number bytes)
 
 -- ---- A heading as it came.

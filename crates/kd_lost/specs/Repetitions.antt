@@ -52,7 +52,7 @@ known_letter (copy ∷ copies) read shown place =
 -- ---- A part with the letters of its copies.
 
 -- the copy's letter, if `byte` stands for a lost letter that a copy has; otherwise `byte`
-abbrev pub completed_byte : Option ℕ → ℕ → ℕ
+unfoldable pub completed_byte : Option ℕ → ℕ → ℕ
 completed_byte (Some letter) byte = if is_lost byte then letter + 65 else byte
 completed_byte None byte = byte
 

@@ -54,7 +54,7 @@ as_space byte = if is_gap byte then 32 else byte
 -- - for a gap before another gap, or at the end of the line: no byte
 -- - for any other gap: a space
 -- - for any other byte: the byte itself
-abbrev pub spaced_byte : ℕ → List ℕ → List ℕ
+unfoldable pub spaced_byte : ℕ → List ℕ → List ℕ
 spaced_byte byte line = if is_gap byte && ends_word line then [] else as_space byte ∷ []
 
 -- `line` without the gaps at its end, and with one space in place of the gaps between two words

@@ -16,6 +16,7 @@ use arrayvec::ArrayString;
 ///
 /// The line must begin like `PART`. It must also have a digit or a slash, or a lost sign in place of the part's number.
 /// A body has neither digits nor slashes.
+#[tactic(auto, unfolding(crate::specs::HeadingLine::is_heading_line))]
 pub(crate) fn is_heading_line(bytes: &[u8]) -> bool
     ensures { result ≡ is_heading_line bytes.now }
 {
@@ -151,9 +152,7 @@ pub(crate) fn after_blanks(bytes: &[u8]) -> &[u8]
 fn begins_with_part(bytes: &[u8]) -> bool
     ensures { result ≡ begins_with_part bytes.now }
 {
-    are_right(2, b"PART", bytes)
-        && are_fitting(3, b"PART", bytes)
-        && !is_letter(bytes.get(4).copied())
+    are_right(2, b"PART", bytes) && are_fitting(3, b"PART", bytes) && !is_letter_at(bytes, 4)
 }
 
 /// Whether `bytes` begin with `PART` without one of its letters, and no letter follows.
@@ -188,7 +187,7 @@ fn begins_with_blank(bytes: &[u8]) -> bool
 fn begins_with_word(word: &[u8], bytes: &[u8]) -> bool
     ensures { result ≡ begins_with_word word.now bytes.now }
 {
-    right_signs(word, bytes) == word.len() && !is_letter(bytes.get(word.len()).copied())
+    right_signs(word, bytes) == word.len() && !is_letter_at(bytes, word.len())
 }
 
 /// Whether `bytes` begin with `PART` and one extra letter, which stands before the P, the A, the R or the T.
@@ -197,7 +196,7 @@ fn begins_with_word(word: &[u8], bytes: &[u8]) -> bool
 fn begins_with_five(bytes: &[u8]) -> bool
     ensures { result ≡ begins_with_five bytes.now }
 {
-    has_five(bytes) && !is_letter(bytes.get(5).copied())
+    has_five(bytes) && !is_letter_at(bytes, 5)
 }
 
 /// Whether `bytes` begin with `PART` with an extra letter before the P, the A, the R or the T.
@@ -214,7 +213,7 @@ fn has_five(bytes: &[u8]) -> bool
 fn begins_apart(front: &[u8], back: &[u8], bytes: &[u8]) -> bool
     ensures { result ≡ begins_apart front.now back.now bytes.now }
 {
-    if !is_letter(bytes.get(front.len()).copied()) {
+    if !is_letter_at(bytes, front.len()) {
         return false;
     }
     let (_, rest) = bytes.split_at(front.len() + 1);
@@ -265,7 +264,15 @@ fn fitting_signs(word: &[u8], bytes: &[u8]) -> usize
     0
 }
 
+/// Whether a letter, capital or small, stands at `place` of `bytes`.
+fn is_letter_at(bytes: &[u8], place: usize) -> bool
+    ensures { result ≡ is_letter (slice_get bytes.now place) }
+{
+    is_letter(bytes.get(place).copied())
+}
+
 /// Whether there is a byte, and it is a letter, capital or small.
+#[tactic(auto, unfolding(crate::specs::HeadingLine::is_letter))]
 fn is_letter(byte: Option<u8>) -> bool
     ensures { result ≡ is_letter byte }
 {

@@ -7,7 +7,8 @@ use crate::damaged_text::DamagedText;
 use crate::form::DamagedFormFault;
 use crate::one_message::same_keys;
 use crate::part::{DamagedPart, PartNumbers};
-use crate::received::{is_lost, is_received};
+use crate::received::is_lost;
+use crate::short_group::letters_after;
 use crate::texts::{is_text_within, shown_text};
 use crate::tidy::line_and_rest;
 use kd_tables::Letter;
@@ -56,12 +57,13 @@ fn push_completed(
         let Ok(()) = bytes.push(completed) else {
             return Err(DamagedFormFault::NoMemory);
         };
-        place += usize::from(is_received(byte));
+        place = letters_after(place, *byte);
     }
     Ok(())
 }
 
 /// The copy's letter, if `byte` stands for a lost letter that a copy has; otherwise `byte`.
+#[tactic(auto, unfolding(crate::specs::Repetitions::completed_byte))]
 fn completed_byte(
     copies: &[DamagedPart],
     read: &DamagedPart,

@@ -23,7 +23,7 @@ pub(crate) fn first_short_group(body: &[u8]) -> Option<usize>
 }
 
 /// The number of letters up to and including `byte`, if `letters` letters stand before `byte`.
-fn letters_after(letters: usize, byte: u8) -> usize
+pub(crate) fn letters_after(letters: usize, byte: u8) -> usize
     requires { letters < 2 ^ 63 + 2 }
     ensures { result ≡ (if is_some (received_letter byte) then letters + 1 else letters) }
 {

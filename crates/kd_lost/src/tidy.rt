@@ -110,6 +110,7 @@ fn push_single_spaced(bytes: &mut Vec<u8>, line: &[u8]) -> Result<(), DamagedFor
 /// - for a gap before another gap, or at the end of the line: no byte
 /// - for any other gap: a space
 /// - for any other byte: the byte itself
+#[tactic(auto, unfolding(crate::specs::Tidy::spaced_byte))]
 fn push_spaced(bytes: &mut Vec<u8>, byte: u8, rest: &[u8]) -> Result<(), DamagedFormFault>
     ensures { MatchResult result
         (λ _. bytes.new.items ≡ bytes.old.items ++ spaced_byte byte rest.now)

@@ -4,6 +4,7 @@ use Rattle.std.specs.List.{slice_range}
 use Rattle.kd_form.specs.PartMaking.{list_letters}
 use Rattle.kd_lost.specs.DamagedText.{IsListTest}
 use Rattle.kd_lost.proofs.KeyLetters.{list_there, lost_or_not}
+use Rattle.std.proofs.lemmas.Grind.{common_steps}
 use Rattle.std.proofs.lemmas.List.{length-take-le}
 use Rattle.kd_state.specs.AnswerRules.{HasFault}
 use Rattle.kd_form.proofs.Prelude.{err_is}
@@ -49,3 +50,21 @@ returns c =
             (lost_or_not _ _ c.has_lost_letter-2.ensures.lost c.has_lost_letter-2.ensures.none);
       },
     )
+
+pub slice_bounds-keys_of_copies-end-2 : goal.slice_bounds-keys_of_copies-end-2
+slice_bounds-keys_of_copies-end-2 c = grind (arith, common_steps)
+
+pub keys_of_copies-requires-clause-start : goal.keys_of_copies-requires-clause-start
+keys_of_copies-requires-clause-start c = grind (arith, common_steps)
+
+pub keys_of_copies-requires-clause-end : goal.keys_of_copies-requires-clause-end
+keys_of_copies-requires-clause-end c = grind (arith, common_steps)
+
+pub slice_bounds-text-start : goal.slice_bounds-text-start
+slice_bounds-text-start c = grind (arith, common_steps)
+
+pub decipher_with_keys-requires : goal.decipher_with_keys-requires
+decipher_with_keys-requires c = grind (arith, common_steps)
+
+pub split_at-requires-2 : goal.split_at-requires-2
+split_at-requires-2 c = grind (arith, common_steps)
