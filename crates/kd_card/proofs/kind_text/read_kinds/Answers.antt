@@ -1,3 +1,5 @@
+use Rattle.kd_card.proofs.OneCard.{reads_none}
+use Rattle.std.proofs.lemmas.Grind.{common_steps}
 use Rattle.kd_card.proofs.OneCard.{KindOf, arith, ◌∙◌, refl, ap, BadLine, PriceMissing, HasFault, GoesOn, Ok}
 use Rattle.kd_card.proofs.OneCard.{◌≡◌, all_read, reads_on, total_count}
 use Rattle.kd_card.proofs.kind_text.read_kinds.Goals as goal
@@ -31,3 +33,9 @@ returns-else-number g c =
     let end = rw c.in-Ok-None.field-0-is at c.in-Ok-None.ensures in
     GoesOn (read.read, c.kind.rest.now) (all_read read end.none_more) (GoesOn tt end.ends
     (HasFault PriceMissing ((λ same count. c.if-number.false (omega (arith, read.number_is, count))), refl) refl))
+
+pub kind-init : goal.kind-init
+kind-init g c = grind (arith, reads_none)
+
+pub kind-smaller : goal.kind-smaller
+kind-smaller g c = grind (arith, common_steps)

@@ -1,3 +1,4 @@
+use Rattle.std.proofs.lemmas.Grind.{common_steps}
 use Rattle.kd_card.proofs.OneCard.{KindOf, arith, ap, take, length, length-append, length-replicate, length_of_kinds}
 use Rattle.kd_card.proofs.OneCard.{kind_price_list, refl, rules, to_z, of_z, total_count_within, w16, ◌∙◌}
 use Rattle.kd_card.proofs.kinds.prices_of_kinds.Goals as goal
@@ -15,3 +16,12 @@ push-requires g c =
 
 pub returns-clause-list : goal.returns-clause-list
 returns-clause-list g c = kind_price_list _ _ _ (record { in_order = c.requires.kinds; count = refl })
+
+pub returns-clause-items : goal.returns-clause-items
+returns-clause-items g c = grind (arith, common_steps)
+
+pub loop-kind-preserved : goal.loop-kind-preserved
+loop-kind-preserved g c = grind (arith, common_steps)
+
+pub loop-preserved : goal.loop-preserved
+loop-preserved g c = grind (arith, common_steps)
