@@ -1,5 +1,7 @@
 -- Parts with the letters of their copies.
 use Rattle.std.proofs.Common.{◌≡◌, ◌∙◌, ℕ, suc, ◌+◌, ◌==◌, Bool, true, false, if◌then◌else◌, List, [], ◌∷◌, ◌++◌}
+use Rattle.std.proofs.Common.{◌<◌, ◌≤◌, append_assoc, drop, get_or}
+use Rattle.std.proofs.lemmas.List.{drop_more}
 use Rattle.std.proofs.Common.{All, IsFalse, arith, refl, sym, ap, subst, length, slice_get, is_some, Option, Some, None}
 use Rattle.std.proofs.lemmas.List.Elements.{All-head, All-tail}
 use Rattle.kd_state.specs.SheetDay.{Day}
@@ -38,6 +40,24 @@ completed_more copies index (one ∷ done) part =
 pub completed_by_none : (index : ℕ) (parts : List PlacedPart) → completed_parts [] index parts ≡ parts
 completed_by_none index [] = refl
 completed_by_none index (part ∷ parts) = ap (λ l. part ∷ l) (completed_by_none (index + 1) parts)
+
+-- -------- one byte after another
+
+pub place_after : (is : Bool) (place index : ℕ) → place ≤ index → (if is then place + 1 else place) ≤ index + 1
+place_after true place index most = omega (arith, most)
+place_after false place index most = omega (arith, most)
+
+pub completed_step : (copies : List DamagedPart) (read : DamagedPart) (shown : DamagedText) (front : List ℕ)
+    (place index x : ℕ) (body : List ℕ) → index < length body
+    → front ++ completed_from copies read shown place (drop index body)
+    ≡ (front ++ completed_byte (known_letter copies read shown place) (get_or body index x) ∷ [])
+    ++ completed_from copies read shown (if is_some (received_letter (get_or body index x)) then place + 1 else place)
+    (drop (index + 1) body)
+completed_step copies read shown front place index x body inside =
+    ap (λ l. front ++ completed_from copies read shown place l) (drop_more body index x inside)
+    ∙ sym (append_assoc front (completed_byte (known_letter copies read shown place) (get_or body index x) ∷ [])
+    (completed_from copies read shown (if is_some (received_letter (get_or body index x)) then place + 1 else place)
+    (drop (index + 1) body)))
 
 -- -------- a form in which nothing is lost is read as it stands
 
