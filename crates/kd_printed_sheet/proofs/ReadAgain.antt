@@ -13,7 +13,7 @@ use Rattle.kd_sheet.proofs.ReadBack.Described.{day_of_month, days_are_the_entrie
 use Rattle.kd_sheet.proofs.ReadBack.Described.KeyValues.Steps.{Ok-injective, bind-Ok}
 use Rattle.kd_sheet.specs.Document.{as_items, document_of, read_at, read_items, ◌>>=◌}
 use Rattle.kd_sheet.specs.Sheet.{day_of, month_of}
-use Rattle.kd_sheet.specs.SheetFile.{day_for, sheet_of}
+use Rattle.kd_sheet.specs.SheetFile.{day_for, sheet_in, sheet_of}
 use Rattle.kd_sheet.specs.declared.key.Key.TheVariants as keys
 use Rattle.kd_spreadsheet.specs.Columns.{columns_of}
 use Rattle.kd_spreadsheet.specs.Options.{OptionTexts}
@@ -233,8 +233,9 @@ record IsRead (month : List (Option Day)) : Type 0 where
 
 read_month : (sheet : List ℕ) (month : List (Option Day)) → sheet_of sheet ≡ Ok month → IsRead month
 read_month sheet month e =
-    let days = bind-Ok (document_of sheet >>= read_at keys.Day as_items >>= read_items day_for) _ month e in
-    let items = bind-Ok (document_of sheet >>= read_at keys.Day as_items) (read_items day_for) days.0 days.1 in
+    let table = bind-Ok (document_of sheet) sheet_in month e in
+    let days = bind-Ok (read_at keys.Day as_items table.0 >>= read_items day_for) _ month table.2 in
+    let items = bind-Ok (read_at keys.Day as_items table.0) (read_items day_for) days.0 days.1 in
     let same : month_of days.0 ≡ month = Ok-injective _ _ days.2 in
     record {
       days = days.0;
