@@ -32,8 +32,8 @@ remark_words Named = codes ": "
 abbrev pub blame_on : ℕ → Remark → Option Blame
 blame_on place remark = Some (record { place = place; remark = remark })
 
--- The remark on the file at place `place` among the command's files, which couldn't be read for the reason `why`.
--- `None` if memory ran out.
+-- The remark on a file that couldn't be read, for the reason `why`. The file has the place `place` among the command's
+-- files. `None` if memory ran out.
 abbrev pub unread_blame : ℕ → FileFault → WhyUnread → Option Blame
 unread_blame place files.Device why = blame_on place (Unread why)
 unread_blame place files.ReadTooLong why = blame_on place TooLong

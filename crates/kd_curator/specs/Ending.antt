@@ -75,7 +75,7 @@ IsWordsText (stops.Usage text) =
 IsWordsText _ = ⊥
 
 -- Why the program stops if it can't read the words of the command line. The kind of the error says whether memory ran
--- out, or a word isn't UTF-8. In the second case, memory may also run out for the message.
+-- out, or a word isn't UTF-8. If a word isn't UTF-8, memory may still run out for the message.
 abbrev pub IsWordsStop : ErrorKind → Stop → Type 0
 IsWordsStop OutOfMemory stop = stop ≡ memory_stop
 IsWordsStop _ stop = (stop ≡ memory_stop) ⊎ IsWordsText stop

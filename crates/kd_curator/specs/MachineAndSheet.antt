@@ -28,7 +28,7 @@ abbrev pub is_other_document : Needed → Members → Bool
 is_other_document needs.Machine document = is_some (entries_of document)
 is_other_document needs.Sheet document = is_machine_file document
 
--- whether a document was read without a fault, and `test` holds of this document
+-- whether a document was read without a fault, and satisfies `test`
 abbrev pub holds_of : (Members → Bool) → Result Members SheetFault → Bool
 holds_of test (Ok document) = test document
 holds_of test (Err fault) = false
@@ -38,15 +38,15 @@ holds_of test (Err fault) = false
 unfoldable pub is_other_file : Needed → List ℕ → Bool
 is_other_file needed bytes = holds_of (is_other_document needed) (document_of bytes)
 
--- The remark on a file with a fault. It depends on the needed sort, a machine file or a key sheet, and on whether the
--- file is of the other sort.
+-- The remark on a file with a fault. The first argument says whether a machine file or a key sheet is needed. The
+-- second says whether the file is of the other sort.
 abbrev pub file_remark : Needed → Bool → Remark
 file_remark needs.Machine false = MachineFile
 file_remark needs.Machine true = SheetForMachine
 file_remark needs.Sheet false = KeySheet
 file_remark needs.Sheet true = MachineForSheet
 
--- the refusal for `fault`, the first fault of the file at place `place` among the command's files
+-- the refusal for `fault`, the first fault of a file; `place` is the file's place among the command's files
 abbrev pub refused_file : Needed → ℕ → List ℕ → SheetFault → Refused
 refused_file needed place bytes fault = refused_in place (file_remark needed (is_other_file needed bytes)) (File fault)
 
@@ -69,17 +69,15 @@ machine_and_month machine sheet = do
   month ← month_in 1 sheet
   Ok (m, month)
 
--- One of these is so:
--- - A value is found in the files, and `Holds` holds of it.
+-- One of three cases holds:
+-- - A value is found in the files, and the value satisfies `Holds`.
 -- - The answer is the refusal for the files' first fault.
 -- - The answer is that memory ran out.
 abbrev pub IsAnswerOn : {A : Type 0} → Result A Refused → (A → Type 0) → Result (Unit {0}) Refused → Type 0
 IsAnswerOn found Holds answer = MatchResult found Holds (λ refused. answer ≡ Err refused) ⊎ LacksMemory answer
 
--- One of these is so:
--- - The two files have a machine and a month, and `Holds` holds of both.
--- - The answer is the first fault of the two files.
--- - The answer is that memory ran out.
+-- One of three cases holds: - The two files have a machine and a month, and `Holds` is true for this machine and this
+-- month. - The answer is the first fault of the two files. - The answer is that memory ran out.
 abbrev pub IsAnswerOnSheet : List ℕ → List ℕ → (Parts → List (Option Day) → Type 0) → Result (Unit {0}) Refused
     → Type 0
 IsAnswerOnSheet machine sheet Holds answer =

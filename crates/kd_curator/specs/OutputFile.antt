@@ -37,8 +37,8 @@ pub record IsRunToFile (l : Language) (words : List (List ℕ)) (known : Option 
   pub fresh : written.had_failed ≡ false
   pub run : IsRun l words known asked written (Unit {0}) errors left answer
 
--- Why there is no output file `name`, though a new file was begun. `before` are the files before. If the whole output
--- was written, the new file couldn't get its name. Otherwise a write to the new file has failed (`failed`).
+-- Why there is no output file `name`, though a new file was begun. `before` are the files before the call. If the whole
+-- output was written, the new file couldn't get its name. Otherwise a write to the new file has failed (`failed`).
 abbrev pub IsWhyUnwritten : Option FilesByName → List ℕ → Bool → Bool → NewFileFault → Type 0
 IsWhyUnwritten before name true failed fault = IsWhyUnnamed before name fault
 IsWhyUnwritten before name false failed fault = (failed ≡ true) × (fault ≡ new_files.Device)
@@ -73,7 +73,8 @@ pub data EndsWithFile (l : Language) (words : List (List ℕ)) (known : Option (
       → after ≡ before → EndsWithLine (unwritten_line name fault) 1 (at_last errors told failed) status
       → EndsWithFile l words known asked before after name names errors status
 
--- The output goes to the sink. The command line names no output file, or it means no command, or memory ran out.
+-- The output goes to the sink because the command line names no output file or means no command, or because memory ran
+-- out.
 abbrev pub GoesToSink : List (List ℕ) → Result (Unit {0}) Stop → Type 0
 GoesToSink words answer =
     (output_of words ≡ None) ⊎ (IsNoCommandLine words ⊎ (answer ≡ Err memory_stop))
@@ -97,9 +98,10 @@ pub data RunsTo (l : Language) (words : List (List ℕ)) (known : Option (List �
 abbrev pub IsMeantBySome : NamedCommand → Type 0
 IsMeantBySome command = (words : List (List ℕ)) × IsCommandLineOf words command
 
--- How the files change by a command that wrote `bytes` to a new file. `failed` says whether a write failed. The truth
--- value after `failed` says whether the whole output was written. If it was, and the result is `Ok`, there is a new
--- file `name` with these bytes. Otherwise, the files are as before. A fault in the result says why.
+-- How a command that wrote `bytes` to a new file changes the files. The first truth value, `failed`, says whether a
+-- write failed. The second says whether the whole output was written. If it was written, and the result is `Ok`, there
+-- is a new file `name` with these bytes. Otherwise, the files are as before. A fault in the result says why there is no
+-- new file.
 abbrev pub EndsFile : Option FilesByName → Option FilesByName → List ℕ → Option (List ℕ) → Bool → Bool
     → Result (Unit {0}) NewFileFault → Type 0
 EndsFile before after name bytes failed true (Ok done) = AddsFile before after name bytes

@@ -46,15 +46,16 @@ use Rattle.kd_curator.specs.declared.fault.Refused.{Refused}
 use Rattle.kd_curator.specs.declared.stop.Stop.{Stop}
 use Rattle.kd_curator.specs.declared.stop.Stop.TheVariants as stops
 
--- The task writes its output and gives this answer, if the machine file and the key sheet have these bytes. `name` is
--- the name of the key sheet's file. Words are in language `l`, unless the task asks for another language.
+-- The task writes its output to `sink`, and its answer is `answer`. `machine` and `sheet` are the bytes of the machine
+-- file and the key sheet. `name` is the name of the key sheet's file. Words are in language `l`, unless the task asks
+-- for another language.
 abbrev pub DoesTask : Language → Task → List ℕ → List ℕ → List ℕ → Port → Result (Unit {0}) Refused → Type 0
 DoesTask l (tasks.Page days chosen) name machine sheet sink answer = IsAnswerOnSheet machine sheet
     (λ m month. WritesPages (unwrap_or chosen l) name month m (wanted_days days (model_of m) month) sink answer) answer
 DoesTask l (tasks.List day) name machine sheet sink answer = IsAnswerOnSheet machine sheet
     (λ m month. WritesList month m day sink answer) answer
 
--- The output for a message in this direction is written, and `answer` is the command's answer.
+-- The output for sending or receiving a message is written, and `answer` is the command's answer.
 abbrev pub WritesMessage : Direction → Results → Language → List (Option Day) → Parts → ℕ → List ℕ → Port
     → Result (Unit {0}) Refused → Type 0
 WritesMessage Send results l month m number order sink answer =
@@ -108,14 +109,15 @@ IsFlushed left first answer =
     ((answer ≡ first) × (left ≡ [])) ⊎ ((answer ≡ Err (stops.Refused refused_device)) × (1 ≤ length left))
 
 -- The program's answer after a command that gave the answer `first`. The truth value says whether the gathered bytes
--- were then passed on to the sink. If they were, and the sink didn't take all of them, the answer is `Device`.
--- Otherwise, the answer is `first`.
+-- were passed on to the sink after the command. The answer is `Device` if they were passed on, and the sink didn't take
+-- all of them. Otherwise, the answer is `first`.
 abbrev pub AnswersAfter : Bool → List ℕ → Result (Unit {0}) Stop → Result (Unit {0}) Stop → Type 0
 AnswersAfter true left first answer = IsFlushed left first answer
 AnswersAfter false left first answer = answer ≡ first
 
--- The program's answer after a command with the answer `first`. If the whole output was written, the gathered bytes are
--- passed on to the sink. `left` are the bytes that the sink didn't take; if there are any, the answer is `Device`.
+-- The program's answer after a command that gave the answer `first`. If the command wrote its whole output, the program
+-- passes the gathered bytes on to the sink. In this case, `left` has the bytes that the sink didn't take, and the
+-- answer is `Device` if `left` isn't empty.
 abbrev pub IsAnswerAfterFlush : List ℕ → Result (Unit {0}) Stop → Result (Unit {0}) Stop → Type 0
 IsAnswerAfterFlush left first answer = AnswersAfter (is_whole first) left first answer
 
@@ -205,22 +207,23 @@ port_with_untaken bytes failed old new left = record {
   has_failed = failed new;
 }
 
--- Standard error from the start of the call until the answer was known. Until then, standard error had taken `told`.
+-- Standard error as a port, from the start of the program's call until the answer was known. By then, standard error
+-- had taken `told`.
 abbrev pub at_first : Port → Option (List ℕ) → Bool → Port
 at_first errors told failed = record errors { has = told; has_failed = failed }
 
--- standard error from the time when the answer was known until the end of the call
+-- standard error as a port, from the time when the answer was known until the end of the program's call
 abbrev pub at_last : Port → Option (List ℕ) → Bool → Port
 at_last errors told failed = record errors { had = told; had_failed = failed }
 
--- `names` are the names of the files in the command line, or the answer has no remark on a file.
+-- Either `names` are the names of the files in the command line, or the answer has no remark on a file.
 abbrev pub AreNamesFor : List (List ℕ) → List (List ℕ) → Result (Unit {0}) Stop → Type 0
 AreNamesFor words names answer =
     ((command : NamedCommand) × IsCommandLineOf words command × (names ≡ names_of command)) ⊎ (blame_of answer ≡ None)
 
--- `IsSo` holds of the program's answer, and the program ends with the text and the exit status for this answer. The
--- sink didn't take the gathered bytes `left`. When the answer was known, standard error had taken the bytes `told`, and
--- `failed` says whether standard error had failed. `names` are the names of the command's files.
+-- The program's answer satisfies `IsSo`. The program ends with the text and the exit status for this answer. `left` are
+-- the gathered bytes that the sink didn't take. When the answer was known, standard error had taken the bytes `told`,
+-- and `failed` says whether standard error had failed. `names` are the names of the command's files.
 pub record HasEnded (words : List (List ℕ)) (IsSo : Port → List ℕ → Result (Unit {0}) Stop → Type 0) (errors : Port)
     (status : ℕ) : Type 0 where
   pub left : List ℕ

@@ -44,7 +44,7 @@ page_fault_text faults.Device = refusal_name refusals.Device
 abbrev pub refused_whole : PageFault → Refused
 refused_whole fault = record { day = None; blame = None; fault = fault }
 
--- the refusal if memory ran out while a file was read that isn't a message
+-- the refusal if memory ran out while a file other than a message was read
 abbrev pub refused_memory : Refused
 refused_memory = refused_whole (faults.File NoMemory)
 
@@ -68,7 +68,7 @@ message_blame _ = blame_on 2 Order
 abbrev pub refused_message : FormFault → Refused
 refused_message fault = record { day = None; blame = message_blame fault; fault = faults.Message fault }
 
--- the fault that a refusal names, made from the reason why a day can't be planned
+-- the fault of a refusal, for each reason why a day can't be planned
 abbrev pub fault_of_plan : NoPlan → PageFault
 fault_of_plan plans.NoSuchDay = faults.NoSuchDay
 fault_of_plan plans.OtherModel = faults.OtherModel
@@ -93,7 +93,8 @@ comes_after_writing faults.FaultyFile = true
 comes_after_writing faults.NotWhole = true
 comes_after_writing _ = false
 
--- Whether a refusal for this fault comes after the whole output was written: a report on files, or the page of a form.
+-- Whether a refusal for this fault comes after the whole output was written. This output is a report on files, or the
+-- page of a form.
 abbrev pub is_after_all : PageFault → Bool
 is_after_all faults.FaultyFile = true
 is_after_all faults.NotWhole = true
@@ -121,7 +122,8 @@ has_written (Err refused) = comes_after_writing refused.fault
 
 -- ---- What inner functions answer. No public contract cites these definitions.
 
--- the refusal for a fault of a call that writes; the function gives the refusal if nothing was written
+-- the refusal for the fault of a call with output; if nothing was written, the function in the first argument gives
+-- this refusal
 abbrev pub refused_by : {F : Type 0} → (F → Refused) → WriteFault F → Refused
 refused_by refused (Unwritten fault) = refused fault
 refused_by refused Device = refused_device

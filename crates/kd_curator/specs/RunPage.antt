@@ -32,7 +32,7 @@ pub record IsDayRefusal (model : Model) (month : List (Option Day)) (numbers : L
 
 -- The cases of `run_page`, for the days `numbers`. `name` is the name of the key sheet's file.
 -- - `NoDays`: there are no days.
--- - `NoPage`: a day can't be planned, and the first such day is refused.
+-- - `NoPage`: one or more days can't be planned, and the first of them is refused.
 -- - `Pages`: the pages of all days were written. If the sink failed, only a prefix of the pages was written.
 pub data WritesPages (l : Language) (name : List ℕ) (month : List (Option Day)) (m : Parts) (numbers : List ℕ)
     (sink : Port) (answer : Result (Unit {0}) Refused) : Type 0 where

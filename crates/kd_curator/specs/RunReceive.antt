@@ -25,8 +25,8 @@ pub record IsFormRead (m : Parts) (s : Day) (form : List ℕ) (parts : List Dama
   pub read : AreFormParts s form parts
   pub few : length (damaged_parts_of form) ≤ 255
 
--- `answer` is the answer after the page of `parts` was written. The command succeeds exactly if `parts` are one whole
--- message of the day.
+-- `answer` is the command's answer after the page that shows `parts` was written. The command succeeds exactly if
+-- `parts` are one whole message of the day.
 abbrev pub IsReceivedAs : List DamagedPart → Result (Unit {0}) Refused → Type 0
 IsReceivedAs parts answer =
     (IsWhole parts × (answer ≡ Ok tt)) ⊎ (¬ (IsWhole parts) × (answer ≡ Err (refused_whole NotWhole)))
@@ -53,7 +53,7 @@ pub data WritesReceivePage (results : Results) (l : Language) (month : List (Opt
       → IsFormRead m s form parts → TakesPrefix sink.had sink.has (receive_text results l s parts)
       → answer ≡ Err refused_device → WritesReceivePage results l month m number form sink answer
 
--- `Told` holds of the notes on standard error. The notes say what is wrong with the form's parts, and what the sender
+-- The notes on standard error satisfy `Told`. The notes say what is wrong with the form's parts, and what the sender
 -- should repeat. If no page is written, there may be no notes.
 pub data TellsOfForm (l : Language) (month : List (Option Day)) (m : Parts) (number : ℕ) (form : List ℕ)
     (Told : List ℕ → Type 0) (answer : Result (Unit {0}) Refused) : Type 0 where

@@ -19,15 +19,15 @@ pub enum Remark {
     Unread(WhyUnread),
     /// The file has too many bytes.
     TooLong,
-    /// The fault is in this file, the machine file.
+    /// The file is the machine file, and has the fault.
     MachineFile,
     /// The file is a key sheet, but a machine file is needed.
     SheetForMachine,
-    /// The fault is in this file, the key sheet.
+    /// The file is the key sheet, and has the fault.
     KeySheet,
     /// The file is a machine file, but a key sheet is needed.
     MachineForSheet,
-    /// The fault is in this file, the order.
+    /// The file is the order, and has the fault.
     Order,
     /// The refusal's text already says what is wrong with this file.
     Named,

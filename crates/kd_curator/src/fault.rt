@@ -12,7 +12,7 @@ use kd_sheet::SheetFault;
 use kd_spreadsheet::SpreadsheetFault;
 use kd_tables::{Device, Refusal, RefusalText, WriteFault};
 
-/// Why a command is refused. A part of the command's output may be written nevertheless.
+/// Why a command is refused. Some of the command's output may already be written.
 #[derive(Clone, Copy, Debug, PartialEq, Eq)]
 pub enum PageFault {
     /// A file can't be opened or read, or memory ran out.
@@ -39,7 +39,7 @@ pub enum PageFault {
 }
 
 impl PageFault {
-    /// The refusal's number and name, and then the fault's values, if it has any, such as a key.
+    /// The refusal's number and name, and then the fault's values, such as a key, if the fault has values.
     ///
     /// If notes or a report explain the fault, the text has words instead, without a number.
     pub fn text(&self) -> RefusalText
@@ -94,7 +94,7 @@ impl Refused {
         }
     }
 
-    /// The refusal for `fault`, with `remark` on the file at place `place` among the command's files.
+    /// The refusal for `fault`, with `remark` on the command's file at place `place`.
     pub(crate) fn of_file(fault: PageFault, place: usize, remark: Remark) -> Refused
         ensures { result ≡ refused_in place remark fault }
     {
@@ -116,7 +116,7 @@ impl Refused {
         }
     }
 
-    /// The refusal of the command `send` that names this fault.
+    /// The refusal of the command `send` for the fault `fault`.
     pub(crate) fn of_send(fault: WriteFault<FormFault>) -> Refused
         ensures { result ≡ refused_by refused_message fault }
     {
@@ -126,7 +126,7 @@ impl Refused {
         }
     }
 
-    /// The refusal of the command `receive` that names this fault.
+    /// The refusal of the command `receive` for the fault `fault`.
     pub(crate) fn of_receive(fault: WriteFault<DamagedFormFault>) -> Refused
         ensures { result ≡ refused_by refused_form fault }
     {
@@ -141,7 +141,7 @@ impl Refused {
         }
     }
 
-    /// The refusal of the command `sheet` that names this fault.
+    /// The refusal of the command `sheet` for the fault `fault`.
     pub(crate) fn of_sheet(fault: WriteFault<SpreadsheetFault>) -> Refused
         ensures { result ≡ refused_by refused_table fault }
     {

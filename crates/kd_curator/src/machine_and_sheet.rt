@@ -61,7 +61,7 @@ pub(crate) fn read_both(
     Ok((machine, sheet))
 }
 
-/// The refusal for `fault`, the first fault of the file at place `place`.
+/// The refusal for `fault`, the first fault of a file; `place` is the file's place among the command's files.
 fn refused_file(
     alloc: Global,
     needed: Needed,
@@ -98,7 +98,8 @@ fn file_remark(needed: Needed, is_other: bool) -> Remark
     }
 }
 
-/// Whether the file is a key sheet in place of the needed machine file, or the other way round.
+/// Whether a key sheet was given in place of the needed machine file, or a machine file in place of the needed key
+/// sheet.
 ///
 /// `NoMemory` is the only fault.
 #[tactic(auto, unfolding(crate::specs::MachineAndSheet::is_other_file))]

@@ -207,8 +207,8 @@ fn run_command<'n, F: Files<'n>, N: NewFiles, W: Sink, E: Sink>(
     Stop::of_answer(answer)
 }
 
-/// The refusal for the file at place `place` of `names`, which couldn't be read. If `fault` is `Device`, `folders`
-/// gives the reason.
+/// The refusal for a file that couldn't be read: the file at place `place` of `names`. If `fault` is `Device`,
+/// `folders` gives the reason.
 fn refused_unread<N: NewFiles>(
     names: &[&str],
     place: usize,
@@ -375,8 +375,8 @@ fn show<W: Sink>(text: &str, sink: &mut W) -> Result<(), Refused>
     Ok(())
 }
 
-/// Passes the gathered bytes on to the sink, if the whole output was written. If the sink doesn't take all bytes, the
-/// answer is `Device`.
+/// Passes the gathered bytes on to the sink, if `done` says that the whole output was written. If the sink doesn't take
+/// all bytes, the answer is `Device`.
 fn pass_rest_on<W: Sink + Drop>(
     done: Result<(), Stop>,
     sink: &mut BufferedSink<W>,

@@ -1,5 +1,5 @@
-//! The command `page`: writes an HTML page for each day. The first page starts from the machine file's machine, each
-//! later page from the machine to which the previous page leads.
+//! The command `page`: writes an HTML page for each day. The first page starts from the machine file's machine. Each
+//! later page starts from the machine to which the previous page leads.
 ghost use Rattle.std.specs.Prelude.{◌≡◌, ◌||◌, ◌+◌, ◌-◌, ◌≤◌, ◌++◌, filter, false, IfErr, IfOk, IsErr, length};
 ghost use Rattle.std.specs.List.{range_with_len};
 ghost use Rattle.kd_state.specs.Machine.{model_of};
@@ -69,7 +69,7 @@ pub fn write_days<W: Sink>(
     Ok(())
 }
 
-/// Plans the days. If a day can't be planned, refuses the first such day.
+/// Plans the days. If one or more days can't be planned, refuses the first of them.
 fn plan_or_refuse(machine: &Machine, sheet: &Sheet, days: &Days) -> Result<DayPlans, Refused>
     ensures planned { IfOk result
         (λ plans. ArePlanned sheet.now machine.now days.now plans.items) }

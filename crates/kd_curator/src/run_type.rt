@@ -1,4 +1,4 @@
-//! The command `type`: writes an HTML page with which to type on a machine.
+//! The command `type`: writes an HTML page for typing on a machine.
 ghost use Rattle.std.specs.Prelude.{◌≡◌, ◌||◌, false, IsErr};
 ghost use Rattle.kd_tables.specs.Ports.{port};
 ghost use Rattle.kd_curator.specs.MachineAndSheet.{IsAnswerOn, machine_in};
@@ -14,8 +14,8 @@ use kd_tables::Sink;
 use kd_typing_page::draw_typing_page;
 use std::alloc::Global;
 
-/// Writes the page with which to type on the machine in the file `machine`, in `language`. Typing on the page's table
-/// gives the machine's ciphertext.
+/// Writes the page for typing on the machine in the file `machine`, in `language`. Typing on the page's table gives the
+/// machine's ciphertext.
 ///
 /// Faults are tested in this order: faults of the machine file, `NotReady`. For these faults, nothing is written. For
 /// `Device`, only a prefix of the page is written.

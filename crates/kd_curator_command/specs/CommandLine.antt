@@ -196,7 +196,7 @@ pub record IsTaskWith (said : List ℕ × List Row) (machine_file key_sheet : Li
   pub sheet : first_of (codes "SHEET") said.1 ≡ Some key_sheet
   pub task : IsTaskOf said its_task
 
--- The option `name`, which takes no value, is used. Then `clap` gives it the value `true`.
+-- The option `name` is used. On the command line, this option has no value; `clap` gives it the value `true`.
 abbrev pub IsUsed : List ℕ → List Row → Type 0
 IsUsed name rows = first_of name rows ≡ Some (codes "true")
 
@@ -206,7 +206,7 @@ abbrev pub HasForm : List Row → TableForm → Type 0
 HasForm rows forms.Csv = IsUsed (codes "csv") rows
 HasForm rows forms.Page = ¬ (IsUsed (codes "csv") rows)
 
--- The arguments say whether the page shows the results. With the option `--blank`, they are left open.
+-- The arguments say whether the page shows the results. With the option `--blank`, the results are left open.
 abbrev pub HasResults : List Row → Results → Type 0
 HasResults rows LeftOpen = IsUsed (codes "blank") rows
 HasResults rows Shown = ¬ (IsUsed (codes "blank") rows)
@@ -348,7 +348,7 @@ HasNoCommand words NoMemory = Unit {0}
 
 -- ---- What inner functions make of grammars and errors. No public contract cites these definitions.
 
--- the rule of an argument with the name `name`, by the argument's sort
+-- the rule for an argument that has the name `name` and the given sort
 abbrev pub rule_of_sort : List ℕ → ArgumentSort → Rule
 rule_of_sort name sorts.Needed = needed name
 rule_of_sort name sorts.Optional = new_rule name
@@ -372,7 +372,7 @@ pub record IsMadeOf (grammar : Grammar) (shape : Shape) : Type 0 where
   pub made : app_of grammar ≡ record { top = shape; subs = [] }
   pub local : (out-Command grammar).has_globals ≡ false
 
--- The arguments in `rows` ask for this task, for a message in this direction.
+-- The arguments in `rows` ask for the task `task`, for a message in the direction `direction`.
 pub record IsMessageTask (rows : List Row) (direction : Direction) (task : MessageTask) : Type 0 where
   pub same : task.direction ≡ direction
   pub day : HasDay rows task.day

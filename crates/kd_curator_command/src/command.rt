@@ -47,10 +47,10 @@ pub enum Command<T> {
         sheet: T,
         /// The order or the form.
         message: T,
-        /// What to do with the message, its day, and the language of the page.
+        /// The task: what to do with the message. It also has the message's day, and the language of the page.
         task: MessageTask,
     },
-    /// Writes a page with which to type on a machine.
+    /// Writes a page for typing on a machine.
     TypingPage {
         /// The machine file.
         machine: T,
@@ -86,7 +86,7 @@ pub enum Command<T> {
     },
 }
 
-/// What to write for a machine and days of a key sheet.
+/// The output that a command writes for a machine and for days of a key sheet.
 #[derive(Drop)]
 pub enum Task {
     /// A page for each day.
@@ -231,7 +231,8 @@ fn no_days(alloc: Global, grammar: &mut Grammar<'_>, why: &str) -> NoCommand
 /// The hint that a model's name with a space has to be typed in quotes.
 const IN_QUOTES: &str = "Write \"Enigma I\" in quotes.\n";
 
-/// The hint to type a model's name in quotes, if `Enigma` and `I` are two words; otherwise empty.
+/// The hint to type a model's name in quotes, if the word `I` comes directly after the word `Enigma`. Otherwise, an
+/// empty text.
 fn quotes_hint<S: AsStr>(words: &[S]) -> &'static str {
     let mut is_begun = false;
     for word in words {
@@ -384,7 +385,7 @@ fn is_used(words: &ArgMatches<'_>, name: &str) -> bool
     }
 }
 
-/// Whether `word` is `true`, the value of an option that is used.
+/// Whether `word` is `true`. An option that is used has the value `true`.
 fn is_true(word: &str) -> bool
     ensures yes { IsTrue result → word.now ≡ codes "true" }
     ensures no { IsFalse result → word.now ≢ codes "true" }

@@ -30,7 +30,7 @@ pub(crate) enum ArgumentSort<'a> {
 pub(crate) struct Argument<'a> {
     pub(crate) name: &'a str,
     pub(crate) sort: ArgumentSort<'a>,
-    /// What help says about the argument.
+    /// What the help text says about the argument.
     pub(crate) help: &'a str,
 }
 

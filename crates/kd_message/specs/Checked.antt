@@ -3,7 +3,7 @@
 use Rattle.kd_pictures.specs.Checked.{Takes}
 use Rattle.kd_message.specs.declared.texts.TheConstants as texts
 
--- Each template takes as many values as pages fill into it.
+-- Each template has a gap for each value that the pages fill in.
 abbrev pub TemplatesTakeTheirValues : Type 0
 TemplatesTakeTheirValues =
     Takes texts.TITLE_TO_SEND 2 × Takes texts.TITLE_TO_RECEIVE 2 × Takes texts.LISTED_PART 3

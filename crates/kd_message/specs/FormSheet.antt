@@ -1,4 +1,4 @@
--- The sheet with the form for the radio, which has neither the message keys nor the text.
+-- The sheet for the radio, with the form. This sheet has neither the message keys nor the text.
 use Rattle.std.specs.Prelude.{decimal, ℕ, List, [], ◌∷◌, ◌++◌, flat_map, map, Option, Some, None}
 use Rattle.kd_tables.specs.declared.model.Model.{Model}
 use Rattle.kd_tables.specs.Text.{letters_text}
@@ -23,7 +23,7 @@ abbrev pub part_head : Language → Model → ℕ → ℕ → ℕ → ℕ → Li
 part_head l model day part parts letters = filled (text_in l texts.FORM_PART) (
     decimal part ∷ decimal parts ∷ model_name model ∷ decimal day ∷ decimal part ∷ decimal parts ∷ decimal letters ∷ [])
 
--- letters or, if they are left open, a line to write on for each letter
+-- `letters`; if the results are left open, a line to write on in place of each letter
 abbrev pub letters_with : Results → List ℕ → List ℕ
 letters_with Shown letters = letters_text letters
 letters_with LeftOpen letters = map (λ letter. 95) letters
@@ -34,7 +34,7 @@ keys_text results l indicator =
     text_in l texts.FORM_GROUND ++ letters_text indicator.ground_setting ++ text_in l texts.FORM_KEY
     ++ letters_with results indicator.enciphered_key ++ texts.FORM_KEY_END.now
 
--- the ground setting and the enciphered message key of a rotor machine's part; nothing on a Converter
+-- the ground setting and the enciphered message key of a rotor machine's message part; nothing on a Converter
 abbrev pub indicator_text : Results → Language → Option Indicator → List ℕ
 indicator_text results l (Some indicator) = keys_text results l indicator
 indicator_text results l None = []

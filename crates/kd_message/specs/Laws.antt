@@ -35,7 +35,7 @@ RowsAreEnciphered =
     → cipher_from s start (before ++ row)
     ≡ cipher_from s start before ++ cipher_from s (letters_after s start (length before)) row
 
--- the letter of a sign; `None` if the letter is lost or left open, or the sign has none
+-- the letter of a sign; `None` if the sign has no letter, or its letter is lost or left open
 abbrev pub letter_of : Sign → Option ℕ
 letter_of signs.Nothing = None
 letter_of signs.Open = None
@@ -65,7 +65,7 @@ abbrev pub letters_of_part : Option DamagedPart → List (Option ℕ)
 letters_of_part None = []
 letters_of_part (Some part) = letters_in part.text
 
--- the letters of the texts that are shown under the numbers of a message, one after another
+-- the letters of a message: for each part number, the letters of the text that is shown under this number
 abbrev pub message_letters : List DamagedPart → List (Option ℕ)
 message_letters parts =
     flat_map (λ number. letters_of_part (shown_under parts number)) (range_with_len 1 (total_of parts))
@@ -87,9 +87,9 @@ HasLettersOf text other =
     (place letter : ℕ) → slice_get other.letters.items place ≡ Some (Some letter)
     → slice_get text.letters.items place ≡ Some (Some letter)
 
--- If a part has a text, even if only by count, the page shows a text under the part's number. The shown text has each
--- letter of the part's own text, and at most as many lost letters. `read.alone` has the parts, each as it is read
--- without the others.
+-- Suppose that a part has a text, or only a text by count. Then the page shows a text under the part's number. The
+-- shown text has each letter of the part's text, and at most as many lost letters. In `read.alone`, each part was read
+-- without the other parts.
 abbrev pub NothingReadIsHidden : Type 0
 NothingReadIsHidden =
     (l : Language) (s : Day) (form : List ℕ) (parts : List DamagedPart) (read : AreFormParts s form parts)
@@ -120,8 +120,8 @@ WholeMessagesHaveOneTotal =
     → Contains parts one → Contains parts other → one.numbers ≡ Some numbers → other.numbers ≡ Some others
     → numbers.parts ≡ others.parts
 
--- Take the first part of a whole message, and any other part with the same number. If both parts are read, their bodies
--- have equally many letters. At each place, the two letters are equal, unless one of them is lost.
+-- In a whole message, compare the part that came first with a later part of the same number. If both parts are read,
+-- their bodies have equally many letters. At each place, the two letters are equal, unless one of them is lost.
 abbrev pub RepetitionsHaveTheLetters : Type 0
 RepetitionsHaveTheLetters =
     (one other : DamagedPart) (others : List DamagedPart) (numbers again : PartNumbers) (shown later : DamagedText)
@@ -131,13 +131,13 @@ RepetitionsHaveTheLetters =
 
 -- ---- The converse.
 
--- Each byte of the part means itself: none stands for a lost letter, and none is a small letter or a tab.
+-- The part has no small letter and no tab, and no byte of the part stands for a lost letter.
 abbrev pub IsClear : List ℕ → Type 0
 IsClear part = All (λ byte. IsFalse (is_lost byte) × (meant_byte byte ≡ byte)) part
 
 -- Let a form be one whole message, with no lost letter, no small letter, no tab, and no heading with needless blanks.
--- Then `desk receive` reads some of its parts: one for each number, in the order of the numbers. `desk receive` gives
--- the text that the page shows.
+-- Then, for each part number, `desk receive` reads one of the form's parts with this number, in the order of the
+-- numbers. The text that `desk receive` gives is the text that the page shows.
 abbrev pub WholeMessagesAreRead : Type 0
 WholeMessagesAreRead =
     (s : Day) (form : List ℕ) (parts : List DamagedPart) → AreFormParts s form parts

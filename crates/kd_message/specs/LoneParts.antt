@@ -23,7 +23,7 @@ lone_words l after =
 unfoldable pub listed_lone : Language → ℕ → List ℕ
 listed_lone l after = texts.LISTED_LONE.now ++ lone_words l after ++ text_in l texts.LISTED_LONE_END
 
--- the words for what to ask for: the heading or, if no letter of the body came (`came` is 0), the whole part
+-- the words that say what to ask for: the heading or, if no letter of the body came (`came` is 0), the whole part
 abbrev pub lone_asked : Language → ℕ → List ℕ
 lone_asked l came = if came == 0 then text_in l texts.ALL_OF_IT else text_in l texts.ITS_HEADING
 
@@ -47,7 +47,7 @@ damaged_heading l model part =
     heading_fault l part.line (text_in l texts.HEADING_DAMAGED) ++ text_in l texts.HEADING_CAME ++ part.heading.bytes
     ++ text_in l texts.HEADING_LIKE ++ heading_example model ++ text_in l texts.HEADING_LIKE_END
 
--- the reason why a part without a number isn't read: it is an order, or its heading is damaged
+-- the reason why a part without a number isn't read: the part is an order, or its heading is damaged
 abbrev pub lone_reason : Language → Model → DamagedPart → List ℕ
 lone_reason l model part =
     if part.is_order then text_in l texts.IS_ORDER else damaged_heading l model part

@@ -46,8 +46,8 @@ lost_note l name letters = if has_lost letters then lost_line l name letters els
 unfoldable pub read_note : Language → PartName → DamagedText → List ℕ
 read_note l name shown = day_note l name shown.group ++ lost_note l name shown.letters.items
 
--- The notes on a part that can't be read with the count in its heading. `shown` is the part's text by count, if there
--- is one.
+-- The notes on a part that can't be read with the count in its heading. `shown` is the text that was read by count, if
+-- there is one.
 abbrev pub damage_note : Language → PartName → DamagedPart → PartDamage → Option DamagedText → List ℕ
 damage_note l name part damage (Some shown) =
     note_line l name (counted_reason l part damage ++ groups_told l part.came part.short_group)
@@ -60,7 +60,7 @@ abbrev pub part_note_of : Language → PartName → DamagedPart → Result Damag
 part_note_of l name part (Ok shown) = read_note l name shown
 part_note_of l name part (Err damage) = damage_note l name part damage part.by_count
 
--- the notes on a part; empty if nothing is wrong with it
+-- the notes on a part; empty if nothing is wrong with the part
 abbrev pub part_note : Language → PartName → DamagedPart → List ℕ
 part_note l name part = part_note_of l name part part.text
 
@@ -68,7 +68,7 @@ part_note l name part = part_note_of l name part part.text
 abbrev pub missing_note : Language → PartName → List ℕ
 missing_note l name = note_line l name (text_in l texts.DID_NOT_COME) (text_in l texts.ALL_OF_IT)
 
--- the words for what to ask for if a part has no number
+-- the words that say what to ask for if a part has no number
 abbrev pub lone_asked_note : Language → ℕ → List ℕ
 lone_asked_note l came = text_in l texts.NOTE_ASK ++ lone_asked l came ++ texts.ASKED_END.now
 
@@ -80,6 +80,6 @@ unfoldable pub lone_note : Language → Model → ℕ → DamagedPart → List �
 lone_note l model after part =
     lone_words l after ++ texts.COLON.now ++ lone_reason l model part ++ lone_ask_note l part ++ texts.LINE_END.now
 
--- the note that the parts aren't of one message; empty if they are
+-- the note that the parts aren't of one message; empty if the parts are of one message
 abbrev pub several_note : Language → List DamagedPart → List ℕ
 several_note l parts = if is_one_message parts then [] else text_in l texts.NOTE_SEVERAL

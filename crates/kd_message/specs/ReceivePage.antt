@@ -60,12 +60,12 @@ abbrev pub sheet_of_text : Language → Day → PartName → DamagedText → Lis
 sheet_of_text l s name shown =
     part_sheet l (sheet_to_receive (day_model s)) s name (warnings_of shown) (received_work s shown)
 
--- the sheet for a part with the text `shown`; empty if there is no text, not even by count
+-- the sheet for a part with the text `shown`, which may be a text by count; empty if there is no text
 abbrev pub worked_text : Language → Day → PartName → Option DamagedText → List ℕ
 worked_text l s name (Some shown) = sheet_of_text l s name shown
 worked_text l s name None = []
 
--- a part's text by count; if there is no such text, the reason why the part isn't read
+-- a part's text by count; if there is no text by count, the reason why the part isn't read
 abbrev pub counted_or_damage : Language → Day → PartName → DamagedPart → PartDamage → Option DamagedText → List ℕ
 counted_or_damage l s name part damage (Some shown) =
     counted_text l (sheet_to_receive (day_model s)) s name part damage shown
@@ -76,7 +76,8 @@ abbrev pub text_or_damage : Language → Day → PartName → DamagedPart → Re
 text_or_damage l s name part (Ok shown) = read_text l (sheet_to_receive (day_model s)) s name shown
 text_or_damage l s name part (Err damage) = counted_or_damage l s name part damage part.by_count
 
--- whether the section shows the results, or leaves them open; the list of the sheets and the notes have none
+-- whether the section shows the results or leaves them open; `Shown` for the list of the sheets and for the notes,
+-- which have no results
 abbrev pub results_of : Section → Results
 results_of sections.Listed = Shown
 results_of (sections.Worked results) = results
@@ -88,7 +89,7 @@ abbrev pub part_text : Language → Day → PartName → ℕ → DamagedPart →
 part_text l s name times part =
     text_part_head l name ++ came_text l times ++ text_or_damage l s name part part.text ++ SECTION_END.now
 
--- the words in `section` for a part that came `times` times
+-- what section `section` has for a part that came `times` times
 abbrev pub part_in : Section → Language → Day → PartName → ℕ → DamagedPart → List ℕ
 part_in sections.Listed l s name times part = listed_text l name (shown_text part)
 part_in (sections.Worked results) l s name times part = worked_text l s name (shown_text part)
@@ -99,14 +100,15 @@ part_in (sections.Texts results) l s name times part = part_text l s name times 
 abbrev pub missing_part_text : Language → PartName → List ℕ
 missing_part_text l name = text_part_head l name ++ missing_text l name ++ SECTION_END.now
 
--- the words in `section` for a part that didn't come
+-- what section `section` has for a part that didn't come
 abbrev pub missing_in : Section → Language → PartName → List ℕ
 missing_in sections.Listed l name = listed_unread l name
 missing_in (sections.Worked results) l name = []
 missing_in sections.Noted l name = missing_note l name
 missing_in (sections.Texts results) l name = missing_part_text l name
 
--- The words in `section` for a part without a number. `after` is the number of the last numbered part before this part.
+-- What section `section` has for a part without a number. `after` is the number of the last numbered part before this
+-- part.
 abbrev pub lone_in : Section → Language → Day → ℕ → DamagedPart → List ℕ
 lone_in sections.Listed l s after part = listed_lone l after
 lone_in (sections.Worked results) l s after part = []
@@ -120,29 +122,29 @@ abbrev pub number_or : ℕ → Option PartNumbers → ℕ
 number_or before (Some numbers) = numbers.part
 number_or before None = before
 
--- The words in `section` for the parts without a number between part `after` and the next numbered part. `before` is
--- the number of the last numbered part before `parts`.
+-- What section `section` has for unnumbered parts: the parts between part number `after` and the next numbered part.
+-- `before` is the number of the last numbered part that comes before the list of parts.
 abbrev pub lone_after : Section → Language → Day → ℕ → ℕ → List DamagedPart → List ℕ
 lone_after section l s after before [] = []
 lone_after section l s after before (part ∷ parts) =
     (if is_none part.numbers && before == after then lone_in section l s after part else [])
     ++ lone_after section l s after (number_or before part.numbers) parts
 
--- the words in `section` for the part that is shown under a number; if no part is shown, the words for a part that
--- didn't come
+-- what section `section` has for the part that is shown under a number; if no part is shown, what the section has for a
+-- part that didn't come
 abbrev pub shown_in : Section → Language → Day → PartName → ℕ → Option DamagedPart → List ℕ
 shown_in section l s name times (Some part) = part_in section l s name times part
 shown_in section l s name times None = missing_in section l name
 
--- the words in `section` for the part with number `number`, then for the unnumbered parts after this part
+-- what section `section` has for the part with number `number`, then for the unnumbered parts after this part
 abbrev pub number_in : Section → Language → Day → List DamagedPart → ℕ → List ℕ
 number_in section l s parts number =
     shown_in section l s (part_name (results_of section) s number (total_of parts)) (times_of parts number)
     (shown_under parts number)
     ++ lone_after section l s number 0 parts
 
--- the words in `section` for the unnumbered parts at the beginning, then for each number: its part, and the unnumbered
--- parts after this part
+-- What section `section` has for the parts of one message, in the order of their numbers. First come the unnumbered
+-- parts at the beginning. Each numbered part is followed by the unnumbered parts after it.
 abbrev pub by_number : Section → Language → Day → List DamagedPart → List ℕ
 by_number section l s parts =
     lone_after section l s 0 0 parts ++ flat_map (number_in section l s parts) (range_with_len 1 (total_of parts))
@@ -159,22 +161,23 @@ name_at results s place numbers = record {
   results = results;
 }
 
--- The words in `section` for the part that has the place `place` in the order of arrival. `before` is the last part
--- number before this part.
+-- What section `section` has for the part that has the place `place` in the order of arrival. `before` is the number of
+-- the last numbered part before this part.
 abbrev pub part_at : Section → Language → Day → ℕ → ℕ → Option PartNumbers → DamagedPart → List ℕ
 part_at section l s place before (Some numbers) part =
     part_in section l s (name_at (results_of section) s place numbers) 1 part
 part_at section l s place before None part = lone_in section l s before part
 
--- The words in `section` for the parts `parts`, in the order of arrival. The first of them is at `place` of the form,
--- and `before` is the last part number before them.
+-- What section `section` has for the parts `parts`, in the order of arrival. The first of `parts` is at `place` of the
+-- form. `before` is the last part number before `parts`.
 abbrev pub as_they_came : Section → Language → Day → ℕ → ℕ → List DamagedPart → List ℕ
 as_they_came section l s place before [] = []
 as_they_came section l s place before (part ∷ parts) =
     part_at section l s place before part.numbers part
     ++ as_they_came section l s (place + 1) (number_or before part.numbers) parts
 
--- a section: the parts by their numbers or, if they aren't of one message, in the order of arrival
+-- a section with the parts in the order of their numbers. If the parts aren't of one message, they stand in the order
+-- of arrival.
 abbrev pub section_text : Section → Language → Day → List DamagedPart → List ℕ
 section_text section l s parts =
     if is_one_message parts then by_number section l s parts else as_they_came section l s 1 0 parts
@@ -228,7 +231,8 @@ pub data IsFormNoted (l : Language) (s : Day) (form : List ℕ) (Told : List ℕ
 
 -- ---- What the code holds. No public contract cites these definitions.
 
--- If the part has a text, even if only by count, the machine can show the letters of this text's keys.
+-- If a text is shown for the part, the machine can show the letters of this text's keys. The shown text is the part's
+-- text or, if there is none, its text by count.
 abbrev pub HasShowableKeys : Day → DamagedPart → Type 0
 HasShowableKeys s part = IfSome (shown_text part) (λ shown. AreShowable s shown.keys)
 

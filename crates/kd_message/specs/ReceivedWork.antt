@@ -17,7 +17,8 @@ use Rattle.kd_part_sheet.specs.Cells.{choice_cells, pressed_cells, received_cell
 use Rattle.kd_part_sheet.specs.PartWork.{Work}
 
 -- On a rotor machine, the windows first show the ground setting. The enciphered key from the heading is pressed, and
--- the lamps show the message key. At the message key, the letters after the first five are pressed.
+-- the lamps show the message key. Then the windows show the message key, and the body's letters after the first five
+-- are pressed.
 abbrev pub rotor_received : Day → Indicator → DamagedText → Work
 rotor_received s i shown =
     let ground : List ℕ = i.ground_setting in record {
@@ -36,8 +37,8 @@ pin_body s shown =
     ++ received_cells (space_letter s) (slice_range shown.received.items 10 (length shown.received.items - 10))
     shown.letters.items ++ map skipped (drop (length shown.received.items - 10) shown.received.items)
 
--- On a Converter, the pin wheels first show the external letters, and the chosen letter is enciphered twelve times. At
--- the internal key, the body is deciphered.
+-- On a Converter, the pin wheels first show the external letters, and the chosen letter is enciphered twelve times.
+-- Then the pin wheels show the internal key, and the body is deciphered.
 abbrev pub pin_received : Day → PinTextKeys → DamagedText → Work
 pin_received s k shown = record {
   ground = k.indicator.external;
@@ -57,7 +58,7 @@ received_work s shown = work_with s shown.keys shown
 
 -- ---- What the code holds. No public contract cites this definition.
 
--- The machine can show the letters of the keys.
+-- A machine for the day `s` can show the letters of the given keys.
 abbrev pub AreShowable : Day → TextKeys → Type 0
 AreShowable s (text_keys.Rotor i) = HasIndicator s (Some i)
 AreShowable s (text_keys.Pin k) =

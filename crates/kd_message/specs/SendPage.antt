@@ -120,8 +120,8 @@ AreMade s part parts (k ∷ keys) [] made = ⊥
 abbrev pub text_pieces : Day → List ℕ → List (List ℕ)
 text_pieces s text = pieces (part_size s) (text_letters s text)
 
--- `page` is the page for sending the order, in language `l`. It has a sheet for each part, and the parts of the order's
--- form. If `results` are left open, the page has neither the ciphertext nor the windows after a row.
+-- `page` is the page for sending `order`, in language `l`. The page has a sheet for each part, and the parts of the
+-- order's form. If `results` is `LeftOpen`, the page has neither the ciphertext nor the windows after a row.
 pub record IsSendPage (results : Results) (l : Language) (s : Day) (order form page : List ℕ) : Type 0 where
   pub parts : OrderParts
   pub read : IsReadAnswer s order (Ok parts)

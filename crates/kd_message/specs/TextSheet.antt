@@ -1,4 +1,4 @@
--- The sheet with the text of a received form, and with what to ask the other station for.
+-- The sheet that gives the text of a received form, and says what to ask the other station for.
 use Rattle.std.specs.Prelude.{decimal, ℕ, ◌+◌, ◌-◌, ◌/◌, ◌==◌, nat_le, nat_lt, ◌&&◌, ◌||◌, not, Bool, true, false, is_none}
 use Rattle.std.specs.Prelude.{if◌then◌else◌}
 use Rattle.std.specs.Prelude.{List, [], ◌∷◌, ◌++◌, drop, map, Option, Some, None}
@@ -46,7 +46,7 @@ abbrev pub numbers_after : List ℕ → List ℕ → List ℕ
 numbers_after first [] = []
 numbers_after first (number ∷ numbers) = first ++ decimal number ++ numbers_after COMMA.now numbers
 
--- the sentence that the parts came in the order of `numbers`
+-- the sentence which says that the parts came in the order of `numbers`
 unfoldable pub order_words : Language → List ℕ → List ℕ
 order_words l numbers = text_in l texts.ORDER ++ numbers_after [] numbers ++ text_in l texts.ORDER_END
 
@@ -66,12 +66,12 @@ headings_after first [] = []
 headings_after first (part ∷ parts) =
     heading_then first part.numbers (headings_after COMMA.now parts) (headings_after first parts)
 
--- the sentence that the parts aren't of one message, with the numbers in their headings
+-- the sentence which says that the parts aren't of one message, and gives the numbers from their headings
 unfoldable pub several_words : Language → List DamagedPart → List ℕ
 several_words l parts = text_in l texts.SEVERAL ++ headings_after [] parts ++ text_in l texts.SEVERAL_END
 
 -- The sentence about all parts together:
--- - if the parts aren't of one message: the sentence that they aren't
+-- - if the parts aren't of one message: the sentence which says so
 -- - otherwise, if the parts came in the order of their numbers: no sentence
 -- - in all other cases: the sentence that gives the order in which the parts came
 abbrev pub order_text : Language → List DamagedPart → List ℕ
@@ -95,13 +95,13 @@ abbrev pub begins_late : List DamagedPart → Bool
 begins_late [] = false
 begins_late (part ∷ parts) = nat_lt 1 part.line
 
--- The sentence that not all of the form was read as it stands. Some lines or blanks were passed over, or tabs or small
--- letters were read as spaces or capitals. Empty if all of the form was read as it stands.
+-- The sentence which says that not all of the form was read as it stands. Some lines or blanks were passed over, or
+-- tabs or small letters were read as spaces or capitals. Empty if all of the form was read as it stands.
 abbrev pub passed_text : Language → List DamagedPart → List ℕ
 passed_text l parts =
     if begins_late parts || is_any_smoothed parts then text_in l texts.PASSED_OVER else []
 
--- the sentence that a part came `times` times
+-- the sentence which says that a part came `times` times
 unfoldable pub came_words : Language → ℕ → List ℕ
 came_words l times = text_in l texts.CAME ++ decimal times ++ text_in l texts.CAME_END
 
@@ -139,8 +139,8 @@ run_length (group ∷ groups) = if has_lost group then run_length groups + 1 els
 
 -- The words for the groups that lost letters. Successive groups are named together, as *groups 3 to 5*. The list begins
 -- with group `number`. `first` stands before the first words, and commas stand between the words. If `before` is true,
--- the group just before the list lost letters. Then groups with lost letters at the start of the list are left out, as
--- they are already named.
+-- the group just before the list lost letters. The words for this group also name the groups at the start of the list
+-- that lost letters, so these groups are left out.
 abbrev pub lost_groups : Language → List ℕ → Bool → ℕ → List (List (Option ℕ)) → List ℕ
 lost_groups l first before number [] = []
 lost_groups l first before number (group ∷ groups) =
@@ -157,7 +157,7 @@ first_text_group model = if is_converter model then 3 else 2
 abbrev pub indicator_place : ℕ → ℕ
 indicator_place number = if number == 0 then 1 else number + 2
 
--- the number of the group with key letter `number`, among the first two groups
+-- which of the first two groups has key letter `number`: group 1 or group 2
 abbrev pub key_letter_group : ℕ → ℕ
 key_letter_group number = if nat_le (indicator_place number) 5 then 1 else 2
 
@@ -210,7 +210,8 @@ abbrev pub open_byte : Option ℕ → ℕ
 open_byte (Some letter) = 95
 open_byte None = 63
 
--- the letters of a text or, if they are left open, a line to write on for each letter; `?` for each lost letter
+-- the letters of a text, with `?` for each lost letter. If the results are left open, a line to write on stands for
+-- each letter that isn't lost.
 abbrev pub text_letters : Results → Day → List (Option ℕ) → List ℕ
 text_letters Shown s letters = map (shown_byte (space_letter s)) letters
 text_letters LeftOpen s letters = map open_byte letters
@@ -275,17 +276,17 @@ abbrev pub short_text : Language → ℕ → Option ShortLine → List ℕ
 short_text l line (Some short) = short_words l line short
 short_text l line None = []
 
--- The words for what to ask for if the count is wrong or damaged:
+-- The words that say what to ask for if the count is wrong or damaged:
 -- - if a group is short: the count, and the first short group
 -- - if no group is short, and the count is damaged: the count
 -- - if no group is short, and the count is wrong: the count, or the part's lines if the other station says that the
---   count is right
+-- count is right
 abbrev pub count_asked : Language → PartDamage → Option ℕ → List ℕ
 count_asked l damage (Some group) = text_in l texts.ITS_COUNT ++ COMMA.now ++ group_words l group
 count_asked l damages.HeadingDamaged None = text_in l texts.ITS_COUNT
 count_asked l _ None = text_in l texts.ITS_COUNT_OR_LINES
 
--- The words for what to ask for in a part that isn't read because its count is wrong. If a short line explains the
+-- The words that say what to ask for if a part isn't read because its count is wrong. If a short line explains the
 -- wrong count, the words name the ten groups of this line. Otherwise, the words are as for any wrong count.
 abbrev pub short_groups : Language → Option ℕ → Option ShortLine → List ℕ
 short_groups l group (Some short) = groups_words l (short.before / 5 + 1) (short.before / 5 + 10)
@@ -310,13 +311,13 @@ reason_text l part (damages.KeyLetterLost number) =
 reason_text l part damages.KeyNotOnWheel = text_in l texts.KEY_NOT_ON_WHEEL
 reason_text l part damages.NoInternalKey = text_in l texts.NO_INTERNAL_KEY
 
--- The words for what to ask for if a letter of the ground setting or of the enciphered key is lost. The words name both
--- keys, and each group of the text with a lost letter or a wrong sign. `body` has the letters of the body. The text
--- begins with the second group.
+-- The words that say what to ask for if a letter of the ground setting or of the enciphered key is lost. The words name
+-- the ground setting, the enciphered key, and each group of the text with a lost letter or a wrong sign. `body` has the
+-- letters of the body. The text begins with the second group.
 abbrev pub keys_and_groups : Language → List (Option ℕ) → List ℕ
 keys_and_groups l body = text_in l texts.ITS_KEYS ++ lost_groups l COMMA.now false 2 (pieces 5 (drop 5 body))
 
--- the words for what to ask for if a part isn't read
+-- the words that say what to ask for if a part isn't read
 abbrev pub asked_words : Language → DamagedPart → PartDamage → List ℕ
 asked_words l part damages.HeadingDamaged =
     if part.came == 0 then text_in l texts.ALL_OF_IT else text_in l texts.ITS_HEADING
@@ -339,7 +340,7 @@ abbrev pub unread_warnings : GroupTest → Warnings
 unread_warnings group =
     record { letters_lost = false; copies_lost = false; wrong_day = is_wrong_day group; not_tested = false }
 
--- the paragraph about a part that isn't read, and the warning if its group is of another day
+-- the paragraph about a part that isn't read, and the warning if the part's group is of another day
 abbrev pub damage_text : Language → Sheet → PartName → DamagedPart → PartDamage → List ℕ
 damage_text l sheet name part damage =
     unread_text l name (reason_text l part damage) (asked_words l part damage)

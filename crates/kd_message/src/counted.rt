@@ -18,7 +18,7 @@ use kd_pictures::{Language, draw, draw_in};
 use kd_state::SheetDay;
 use kd_tables::Sink;
 
-/// Writes what is wrong with the count, then the text by count, and then what to ask for.
+/// Writes what is wrong with the part's letter count, then the text that is read by count, and then what to ask for.
 pub(crate) fn draw_counted_text<W: Sink>(
     sink: &mut W,
     language: Language,
@@ -42,7 +42,7 @@ pub(crate) fn draw_counted_text<W: Sink>(
     draw(sink, ASK_END);
 }
 
-/// Writes what is wrong with the count.
+/// Writes what is wrong with the letter count of `part`.
 pub(crate) fn draw_counted_reason<W: Sink>(
     sink: &mut W,
     language: Language,

@@ -1,4 +1,4 @@
-//! The sheet with the form for the radio, which has neither the message keys nor the text.
+//! The sheet for the radio, with the form. This sheet has neither the message keys nor the text.
 ghost use Rattle.std.specs.Prelude.{◌≡◌, ◌≤◌, flat_map, length};
 ghost use Rattle.kd_form.specs.PartMaking.{part_of};
 ghost use Rattle.kd_pictures.specs.Drawing.{Draws};
@@ -74,7 +74,7 @@ fn draw_part_head<W: Sink>(sink: &mut W, language: Language, name: PartName, let
     );
 }
 
-/// Writes the ground setting and the enciphered message key of a rotor machine's part.
+/// Writes the ground setting and the enciphered message key of a rotor machine's message part.
 fn draw_indicator<W: Sink>(
     sink: &mut W,
     language: Language,
@@ -101,7 +101,7 @@ fn draw_keys<W: Sink>(sink: &mut W, language: Language, results: Results, indica
     draw(sink, FORM_KEY_END);
 }
 
-/// Writes letters or, if `results` are left open, a line to write on for each letter.
+/// Writes `letters`. If `results` are left open, writes a line to write on in place of each letter.
 fn draw_letters_with<W: Sink>(sink: &mut W, results: Results, letters: &[Letter])
     ensures { Draws W.taken W.has_failed sink.old sink.new (letters_with results letters.now) }
 {
@@ -111,7 +111,7 @@ fn draw_letters_with<W: Sink>(sink: &mut W, results: Results, letters: &[Letter]
     }
 }
 
-/// Writes a line to write on for each letter.
+/// Writes an underscore in place of each letter, as a line to write on.
 fn draw_open_letters<W: Sink>(sink: &mut W, letters: &[Letter])
     ensures { Draws W.taken W.has_failed sink.old sink.new
         (letters_with Results.LeftOpen letters.now) }

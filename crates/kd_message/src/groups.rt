@@ -23,8 +23,8 @@ pub(crate) fn has_lost(letters: &[Option<Letter>]) -> bool
 
 /// Writes which groups of `letters` lost letters. `first` stands before the first group that is named.
 ///
-/// If `before` is true, the group just before `letters` lost letters. Then groups with lost letters at the start of
-/// `letters` are left out, as they are already named.
+/// If `before` is true, the group just before `letters` lost letters. The words for this group also name the groups at
+/// the start of `letters` that lost letters, so these groups are left out.
 pub(crate) fn draw_lost_groups<W: Sink>(
     sink: &mut W,
     language: Language,

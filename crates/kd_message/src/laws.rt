@@ -4,7 +4,8 @@ ghost use Rattle.kd_message.specs.Laws.{FormsReadAreWhole, NothingReadIsHidden, 
 ghost use Rattle.kd_message.specs.Laws.{RepetitionsHaveTheLetters, WholeMessagesAreOnThePage, WholeMessagesAreRead};
 ghost use Rattle.kd_message.specs.Laws.{WholeMessagesHaveOneTotal};
 
-/// The lamps of a row depend only on the letters pressed in it, and on the windows at its start.
+/// The lamps that light up for a row depend only on the letters pressed in this row, and on the windows at the row's
+/// start.
 ///
 /// So an operator can encipher a row without enciphering the rows before it.
 pub fn rows_are_enciphered()
@@ -18,7 +19,7 @@ pub fn rows_are_deciphered()
     ensures { RowsAreDeciphered }
 {}
 
-/// Each template takes the values that pages fill into it, in both languages.
+/// In both languages, each template has a gap for each value that the pages fill in.
 pub fn templates_take_their_values()
     ensures { TemplatesTakeTheirValues }
 {}
@@ -36,8 +37,8 @@ pub fn nothing_read_is_hidden()
 
 /// In a whole message, all headings give the same number of parts.
 ///
-/// Take the first part, and another part with the same number. If both are read, they have the same letters, except
-/// where a letter was lost.
+/// Compare the part that came first with a later part of the same number. If both parts are read, they have the same
+/// letters, except where a letter was lost.
 pub fn whole_messages_agree()
     ensures total { WholeMessagesHaveOneTotal }
     ensures repetitions { RepetitionsHaveTheLetters }

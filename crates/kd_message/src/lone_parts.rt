@@ -74,7 +74,7 @@ pub(crate) fn draw_lone_text<W: Sink>(
     draw(sink, SECTION_END);
 }
 
-/// Writes why a part without a number isn't read: it is an order, or its heading is damaged.
+/// Writes why a part without a number isn't read: the part is an order, or its heading is damaged.
 pub(crate) fn draw_lone_reason<W: Sink>(
     sink: &mut W,
     language: Language,
@@ -135,7 +135,7 @@ fn draw_lone_box<W: Sink>(sink: &mut W, language: Language, came: usize)
     draw(sink, ASK_END);
 }
 
-/// The words for what to ask for: the heading or, if no letter of the body came (`came` is 0), the whole part.
+/// The words that say what to ask for: the heading or, if no letter of the body came (`came` is 0), the whole part.
 pub(crate) fn lone_asked(language: Language, came: usize) -> &'static str
     ensures { result.now ≡ lone_asked language came }
 {

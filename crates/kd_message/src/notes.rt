@@ -19,7 +19,7 @@ use kd_pictures::template::{Value, fill_in};
 use kd_pictures::{Language, draw, draw_in};
 use kd_tables::{Letter, Model, Sink};
 
-/// Writes the note that the parts aren't of one message, if they aren't.
+/// Writes the note that the parts aren't of one message. If the parts are of one message, writes nothing.
 pub(crate) fn draw_several_note<W: Sink>(sink: &mut W, language: Language, parts: &[DamagedPart])
     ensures { Draws W.taken W.has_failed sink.old sink.new (several_note language parts.now) }
 {
@@ -30,7 +30,7 @@ pub(crate) fn draw_several_note<W: Sink>(sink: &mut W, language: Language, parts
     }
 }
 
-/// Writes notes on what is wrong with a part, if anything is.
+/// Writes notes on what is wrong with a part. If nothing is wrong, writes nothing.
 pub(crate) fn draw_part_note<W: Sink>(
     sink: &mut W,
     language: Language,
@@ -48,7 +48,7 @@ pub(crate) fn draw_part_note<W: Sink>(
     }
 }
 
-/// Writes notes on what is wrong with a part that is read, if anything is.
+/// Writes notes on what is wrong with a part that is read. If nothing is wrong, writes nothing.
 fn draw_read_note<W: Sink>(sink: &mut W, language: Language, name: PartName, shown: &DamagedText)
     ensures { Draws W.taken W.has_failed sink.old sink.new (read_note language name shown.now) }
 {
@@ -123,8 +123,8 @@ fn draw_lost_line<W: Sink>(
     draw(sink, NOTE_END);
 }
 
-/// Writes the notes on a part that is read by count: that the count is wrong or damaged, and then the notes on its
-/// text.
+/// Writes the notes on a part that is read by its number of received letters. The first note says that the part's
+/// letter count is wrong or damaged. Then come the notes on the part's text.
 fn draw_counted_note<W: Sink>(
     sink: &mut W,
     language: Language,

@@ -54,7 +54,7 @@ fn rotor_received(day: &SheetDay, indicator: &Indicator, shown: &DamagedText) ->
     }
 }
 
-/// The letters that are enciphered or deciphered, and printed, on a Converter.
+/// On a Converter: the letters to encipher or decipher, and the letters that are printed.
 fn pin_received(day: &SheetDay, keys: &PinTextKeys, shown: &DamagedText) -> PartWork
     requires external { IsWindow (sheet_key day.now) keys.now.indicator.external }
     requires internal { IsWindow (sheet_key day.now) keys.now.internal.items }

@@ -90,7 +90,7 @@ pub(crate) enum Section {
 }
 
 impl Section {
-    /// Whether the section shows the results, or leaves them open. The list of the sheets and the notes have none.
+    /// Whether the section shows the results, or leaves them open. `Listed` and `Noted` have no results.
     fn results(self) -> Results
         ensures { result ≡ results_of self }
     {
@@ -151,7 +151,8 @@ fn draw_notes<E: Sink>(notes: &mut E, language: Language, day: &SheetDay, parts:
     draw_section(notes, Section::Noted, language, day, parts);
 }
 
-/// Writes a section: the parts by their numbers or, if they aren't of one message, in the order of arrival.
+/// Writes a section, with the parts in the order of their numbers. If the parts aren't of one message, they come in the
+/// order of arrival.
 fn draw_section<W: Sink>(
     sink: &mut W,
     section: Section,
@@ -171,7 +172,7 @@ fn draw_section<W: Sink>(
     }
 }
 
-/// Writes the words in `section` for the parts of one message, in the order of their numbers.
+/// Writes what section `section` has for the parts of one message, in the order of their numbers.
 ///
 /// First come the unnumbered parts at the beginning. Each numbered part is followed by the unnumbered parts after it.
 fn draw_by_number<W: Sink>(
@@ -197,7 +198,7 @@ fn draw_by_number<W: Sink>(
     );
 }
 
-/// Writes the words in `section` for the parts with `count` successive numbers, from `number` on.
+/// Writes what section `section` has for the parts with `count` successive numbers, from `number` on.
 fn draw_numbers<W: Sink>(
     sink: &mut W,
     section: Section,
@@ -218,7 +219,7 @@ fn draw_numbers<W: Sink>(
     }
 }
 
-/// Writes the words in `section` for the part with `number`, then for the unnumbered parts after this part.
+/// Writes what section `section` has for the part with `number`, then for the unnumbered parts after this part.
 fn draw_number<W: Sink>(
     sink: &mut W,
     section: Section,
@@ -236,8 +237,8 @@ fn draw_number<W: Sink>(
     draw_lone_after(sink, section, language, day, number as u8, 0, parts);
 }
 
-/// Writes the words in `section` for the part that is shown under `number`. If no part is shown, writes the words for a
-/// part that didn't come.
+/// Writes what section `section` has for the part that is shown under `number`. If no part is shown, writes what the
+/// section has for a part that didn't come.
 fn draw_shown<W: Sink>(
     sink: &mut W,
     section: Section,
@@ -263,9 +264,10 @@ fn draw_shown<W: Sink>(
     }
 }
 
-/// Writes the words in `section` for the parts without a number between part `after` and the next numbered part.
+/// Writes what section `section` has for unnumbered parts: the parts between part number `after` and the next numbered
+/// part.
 ///
-/// `before` is the number of the last numbered part before `parts`.
+/// `before` is the number of the last numbered part that comes before the list `parts`.
 fn draw_lone_after<W: Sink>(
     sink: &mut W,
     section: Section,
@@ -286,7 +288,7 @@ fn draw_lone_after<W: Sink>(
     }
 }
 
-/// Whether a part has no number, and `before`, the last part number before it, equals `after`.
+/// Whether a part has no number, and `before`, the last part number before this part, equals `after`.
 fn is_lone_after(after: u8, before: u8, numbers: &Option<PartNumbers>) -> bool
     ensures { result ≡ (is_none numbers.now && before == after) }
 {
@@ -306,7 +308,7 @@ fn number_or(before: u8, numbers: &Option<PartNumbers>) -> u8
     }
 }
 
-/// Writes the words in `section` for a part without a number, if `is_there`. Otherwise writes nothing.
+/// Writes what section `section` has for a part without a number, if `is_there`. Otherwise writes nothing.
 ///
 /// `after` is the number of the last numbered part before this part.
 fn draw_lone_if<W: Sink>(
@@ -328,8 +330,8 @@ fn draw_lone_if<W: Sink>(
     }
 }
 
-/// Writes the words in `section` for a part without a number. `after` is the number of the last numbered part before
-/// this part.
+/// Writes what section `section` has for a part without a number. `after` is the number of the last numbered part
+/// before this part.
 fn draw_lone<W: Sink>(
     sink: &mut W,
     section: Section,
@@ -349,8 +351,8 @@ fn draw_lone<W: Sink>(
     }
 }
 
-/// Writes the words in `section` for the parts in the order of arrival. The first of them is at `place`, and `before`
-/// is the last part number before them.
+/// Writes what section `section` has for `parts`, in the order of arrival. The first of these parts is at `place`.
+/// `before` is the number of the last numbered part before these parts.
 fn draw_as_they_came<W: Sink>(
     sink: &mut W,
     section: Section,
@@ -372,7 +374,7 @@ fn draw_as_they_came<W: Sink>(
     }
 }
 
-/// Writes the words in `section` for the part that has the place `place` in the order of arrival.
+/// Writes what section `section` has for the part that has the place `place` in the order of arrival.
 ///
 /// `before` is the last part number before this part.
 fn draw_part_at<W: Sink>(
@@ -411,7 +413,7 @@ fn name_at(results: Results, day: &SheetDay, place: u8, numbers: &PartNumbers) -
     }
 }
 
-/// Writes the words in `section` for a part that came `times` times.
+/// Writes what section `section` has for a part that came `times` times.
 fn draw_part<W: Sink>(
     sink: &mut W,
     section: Section,
@@ -433,7 +435,7 @@ fn draw_part<W: Sink>(
     }
 }
 
-/// Writes the line for a part in the list of the sheets.
+/// Writes a part's line in the list of the sheets.
 fn draw_listed<W: Sink>(sink: &mut W, language: Language, name: PartName, part: &DamagedPart)
     ensures { Draws W.taken W.has_failed sink.old sink.new
         (listed_text language name (shown_text part.now)) }
@@ -549,7 +551,7 @@ fn draw_text_or_damage<W: Sink>(
     }
 }
 
-/// Writes the words in `section` for a part that didn't come.
+/// Writes what section `section` has for a part that didn't come.
 fn draw_missing_in<W: Sink>(sink: &mut W, section: Section, language: Language, name: PartName)
     ensures { Draws W.taken W.has_failed sink.old sink.new (missing_in section language name) }
 {

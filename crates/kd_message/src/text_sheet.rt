@@ -1,4 +1,4 @@
-//! The sheet with the text of a received form, and with what to ask the other station for.
+//! The sheet that gives the text of a received form, and says what to ask the other station for.
 ghost use Rattle.std.specs.Prelude.{◌≡◌, ◌∷◌, ◌≤◌, [], decimal, false, length, map};
 ghost use Rattle.kd_pictures.specs.Drawing.{Draws};
 ghost use Rattle.kd_form.specs.Sending.{space_letter};
@@ -104,8 +104,8 @@ fn draw_several_words<W: Sink>(sink: &mut W, language: Language, parts: &[Damage
     draw_in(sink, language, SEVERAL_END);
 }
 
-/// Writes the numbers in the undamaged headings. `first` stands before the numbers of the first heading, a comma before
-/// the numbers of each later heading.
+/// Writes the numbers from the undamaged headings of `parts`. `first` stands before the numbers of the first undamaged
+/// heading, and a comma before the numbers of each later one.
 fn draw_headings<W: Sink>(sink: &mut W, first: &str, parts: &[DamagedPart])
     ensures { Draws W.taken W.has_failed sink.old sink.new
         (headings_after first.now parts.now) }
@@ -149,7 +149,7 @@ fn draw_came_words<W: Sink>(sink: &mut W, language: Language, times: usize)
     draw_in(sink, language, CAME_END);
 }
 
-/// Writes in which order the parts came, by their numbers.
+/// Writes the sentence that gives the parts' numbers in the order in which the parts came.
 fn draw_order_words<W: Sink>(sink: &mut W, language: Language, parts: &[DamagedPart])
     ensures { Draws W.taken W.has_failed sink.old sink.new
         (order_words language (numbers_of parts.now)) }
@@ -159,8 +159,8 @@ fn draw_order_words<W: Sink>(sink: &mut W, language: Language, parts: &[DamagedP
     draw_in(sink, language, ORDER_END);
 }
 
-/// Writes the numbers of the parts that have one. `first` stands before the first number, and a comma before each later
-/// number.
+/// Writes the numbers of all numbered parts in `parts`. `first` stands before the first number, and a comma before each
+/// later number.
 fn draw_numbers<W: Sink>(sink: &mut W, first: &str, parts: &[DamagedPart])
     ensures { Draws W.taken W.has_failed sink.old sink.new
         (numbers_after first.now (numbers_of parts.now)) }
@@ -240,7 +240,7 @@ fn draw_text_letters<W: Sink>(
     }
 }
 
-/// Writes a line to write on for each letter, and `?` for each lost letter.
+/// Writes a sign for each letter: `?` for a lost letter, and a line to write on for any other letter.
 fn draw_open_text<W: Sink>(sink: &mut W, letters: &[Option<Letter>])
     ensures { Draws W.taken W.has_failed sink.old sink.new (map open_byte letters.now) }
 {
@@ -250,7 +250,7 @@ fn draw_open_text<W: Sink>(sink: &mut W, letters: &[Option<Letter>])
     }
 }
 
-/// A line to write on; `?` for a lost letter.
+/// A line to write on, `_`; for a lost letter, `?`.
 fn open_sign(letter: &Option<Letter>) -> &'static str
     ensures { result.now ≡ open_byte letter.now ∷ [] }
 {
@@ -304,7 +304,7 @@ fn is_copy_lost(copies: &Option<LostCopies>) -> bool
     }
 }
 
-/// The only warning of a part that isn't read: its group or its list letters are of another day.
+/// The only possible warning about a part that isn't read: the part's group or list letters are of another day.
 pub(crate) fn unread_warnings(group: GroupTest) -> Warnings
     ensures { result ≡ unread_warnings group }
 {

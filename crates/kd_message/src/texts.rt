@@ -9,7 +9,7 @@ pub const TITLE_TO_SEND: Text = ("~, day ~: send", "~, Tag ~: Verschlüsseln");
 
 pub const TITLE_TO_RECEIVE: Text = ("~, day ~: receive", "~, Tag ~: Entschlüsseln");
 
-/// The start of the list of the sheets for one part; after it, the start for several parts.
+/// The start of the list of sheets if there is one part. The next text is the start if there are several parts.
 pub const LIST_OF_ONE: Text = (
     "<nav aria-label=\"Sheets\">\n<ul>\n",
     "<nav aria-label=\"Blätter\">\n<ul>\n",
@@ -33,7 +33,7 @@ pub const LISTED_UNREAD: Text = (
     "<li><a href=\"#text\">Teil ~ von ~</a>, nicht lesbar\n",
 );
 
-/// The words for a part without a number. The value is the number of the last numbered part before it.
+/// The words for a part without a number. The value is the number of the last numbered part before this part.
 pub const LONE_AFTER: Text = (
     "A part without a number, after part ~",
     "Ein Teil ohne Nummer, nach Teil ~",
@@ -45,13 +45,14 @@ pub const LONE_FIRST: Text = (
     "Ein Teil ohne Nummer, am Anfang",
 );
 
-/// A part without a number in the list of the sheets: the markup before and after the part's words.
+/// In the list of the sheets, a part without a number: the markup before the part's words. The next text stands after
+/// these words.
 pub const LISTED_LONE: &str = "<li><a href=\"#text\">";
 
 pub const LISTED_LONE_END: Text = ("</a>, not read\n", "</a>, nicht lesbar\n");
 
-/// On the sheet with the text, the head of a part without a number: the markup before and after the part's words. The
-/// values are the model and the day.
+/// On the sheet with the text: the start of the head of a part without a number. The words for the part follow. The
+/// next text stands after these words; its values are the model and the day.
 pub const LONE_HEAD: &str = "<section>\n<h2>";
 
 pub const LONE_HEAD_END: Text = (
@@ -65,7 +66,8 @@ pub const LONE_ASK: Text = (
     "<label><input type=checkbox> diesen Teil wiederholen lassen: <b>",
 );
 
-/// The end of the list of the sheets, with a link to the form. The next text is the end with a link to the text.
+/// The end of the list of the sheets, with a link to the form. The next text is the list's end with a link to the
+/// message's text.
 pub const LIST_END_WITH_FORM: Text = (
     "<li><a href=\"#form\">Form</a>\n</ul>\n</nav>\n",
     "<li><a href=\"#form\">Funkspruch</a>\n</ul>\n</nav>\n",
@@ -76,8 +78,8 @@ pub const LIST_END_WITH_TEXT: Text = (
     "<li><a href=\"#text\">Klartext</a>\n</ul>\n</nav>\n",
 );
 
-/// The head of the sheet with the text; its values are the model and the day. The next text is the head of each part on
-/// this sheet; its values are the part's number, the number of parts, the model, and the day.
+/// The head of the sheet with the text; the values are the model and the day. The next text is the head of each part on
+/// this sheet; the values of this text are the part's number, the number of parts, the model, and the day.
 pub const TEXT_SHEET: Text = (
     "<article id=text class=form>\n<header>\n<h1>~, day ~: text</h1>\n<p class=fields><span>From</span><span>Time</span><span>Read by</span></p>\n</header>\n",
     "<article id=text class=form>\n<header>\n<h1>~, Tag ~: Klartext</h1>\n<p class=fields><span>Von</span><span>Uhrzeit</span><span>Entschlüsselt durch</span></p>\n</header>\n",
@@ -88,8 +90,8 @@ pub const TEXT_PART: Text = (
     "<section>\n<h2>Teil ~ von ~<span>~, Tag ~: Klartext</span></h2>\n",
 );
 
-/// The start of a text whose lines may break between any letters. The next two texts are the start of a text whose
-/// lines break between words, and the end of either text.
+/// The start of a text whose lines may break between any letters. The next text is the start of a text whose lines
+/// break between words. Then comes the end of both sorts of text.
 pub const TEXT_LETTERS: &str = "<p class=\"text letters\">";
 
 pub const TEXT_WORDS: &str = "<p class=\"text words\">";
@@ -99,8 +101,8 @@ pub const TEXT_END: &str = "</p>\n";
 /// The sign for a letter that is left open: a line to write on.
 pub const OPEN_LETTER: &str = "_";
 
-/// The sentence that not all of the form was read as it stands. Some lines or blanks were passed over, or tabs or small
-/// letters were read as spaces or capitals.
+/// The sentence which says that not all of the form was read as it stands. Some lines or blanks were passed over, or
+/// tabs or small letters were read as spaces or capitals.
 pub const PASSED_OVER: Text = (
     "<p>Some of the form was passed over, or read as what it means: lines before the first heading, blanks in a heading, tabs, small letters.</p>\n",
     "<p>Einiges im Spruch ist übergangen oder gelesen, wie es gemeint ist: Zeilen vor dem ersten Spruchkopf, Leerzeichen in einem Spruchkopf, Tabulatoren, Kleinbuchstaben.</p>\n",
@@ -114,8 +116,8 @@ pub const ORDER: Text = (
 
 pub const ORDER_END: Text = (".</p>\n", ".</p>\n");
 
-/// The sentence that the parts aren't of one message: the words before the numbers in the headings, and the words after
-/// them.
+/// Two pieces of a sentence: the words before the numbers in the headings, and the words after these numbers. The
+/// sentence says that the parts aren't of one message.
 pub const SEVERAL: Text = (
     "<p class=reason><b>Not one message.</b> The headings give different numbers of parts, or parts with one number differ or can’t be put together: ",
     "<p class=reason><b>Teile verschiedener Sprüche.</b> Die Spruchköpfe nennen verschiedene Zahlen von Teilen, oder Teile mit einer Nummer weichen voneinander ab oder passen nicht zusammen: ",
@@ -159,7 +161,8 @@ pub const ITS_KEYS: Text = (
     "Grundstellung und Schlüssel des Spruchkopfs",
 );
 
-/// What to ask for: the letter count in a part's heading. The next text also asks for the lines, if the count is right.
+/// What to ask for: the letter count in a part's heading. The next text asks for this count and, if this count is
+/// right, for the lines.
 pub const ITS_COUNT: Text = ("its count", "Buchstabenzahl");
 
 pub const ITS_COUNT_OR_LINES: Text = (
@@ -172,7 +175,8 @@ pub const ALL_OF_IT: Text = ("all of it", "alles");
 /// The end of a checkbox to ask for a repetition.
 pub const ASK_END: &str = "</b></label>\n";
 
-/// The paragraph about a part that isn't read: the words before the reason, and the end after it.
+/// The paragraph about a part that isn't read: the words before the reason. The next text is the end of the paragraph,
+/// after the reason.
 pub const UNREAD: Text = (
     "<p class=reason><b>Not read.</b> ",
     "<p class=reason><b>Nicht lesbar.</b> ",
@@ -221,8 +225,8 @@ pub const BAD_BYTE: Text = (
     "Ein Zeichen des Spruchs ist kein Buchstabe.",
 );
 
-/// The sentence about a wrong sign: the words before the sign's place in the line, and before the sign itself. Then the
-/// words for a sign that isn't a digit, and the words after the sign.
+/// The sentence about a wrong sign. The first text stands before the sign's place in the line, and the second before
+/// the sign itself. The third text names a sign that isn't a digit. The fourth text stands after the sign.
 pub const LETTER_OF_LINE: Text = (", letter ", ", Buchstabe ");
 
 pub const COLON: &str = ": ";
@@ -240,8 +244,8 @@ pub const COUNT_CAME: Text = (", but ", ", eingegangen: ");
 
 pub const COUNT_END: Text = (" came.", ".");
 
-/// The start of the paragraph about a part that is read by count. Then, for a damaged count, the words before and after
-/// the number of letters that came.
+/// The start of the paragraph about a part that is read by count. `COUNT_DAMAGED` and `COUNT_DAMAGED_END` are for a
+/// damaged letter count: the words before and after the number of letters that came.
 pub const BY_COUNT: Text = (
     "<p class=reason><b>Read by the letters that came.</b> ",
     "<p class=reason><b>Gelesen nach den eingegangenen Buchstaben.</b> ",
@@ -260,8 +264,8 @@ pub const SHORT_GROUP: Text = (" Group ", " Gruppe ");
 
 pub const SHORT_GROUP_END: Text = (" hasn’t five letters.", " hat nicht fünf Buchstaben.");
 
-/// The sentence that each group but the last has five letters: the words before the number of letters that came, and
-/// after it.
+/// The sentence which says that each group but the last has five letters. Its two pieces are the words before the
+/// number of letters that came, and the words after this number.
 pub const FULL_GROUPS: Text = (
     " Each group but the last has five letters, so ",
     " Jede Gruppe bis auf die letzte hat fünf Buchstaben, also kann ",
@@ -269,7 +273,8 @@ pub const FULL_GROUPS: Text = (
 
 pub const FULL_GROUPS_END: Text = (" may be right.", " stimmen.");
 
-/// The sentence about a short line: the words before the line, before the number of its letters, and after this number.
+/// The sentence about a short line, in pieces. The first piece stands before the line, the second before the number of
+/// the line's letters, and the third after this number.
 pub const GAP: &str = " ";
 
 pub const LINE_HAS: Text = (" has ", " hat ");
@@ -312,7 +317,8 @@ pub const FORM_PART: Text = (
     "<section>\n<h2>Teil ~ von ~<span>~, Tag ~: Funkspruch</span></h2>\n<p class=heading><span>Teil <b>PART ~/~</b></span><span>Buchstaben <b>~</b></span>",
 );
 
-/// The words before the ground setting and before the enciphered message key in the heading of a rotor machine's part.
+/// The words before the ground setting and before the enciphered message key in the heading of a rotor machine's
+/// message part.
 pub const FORM_GROUND: Text = ("<span>ground <b>", "<span>Grundstellung <b>");
 
 pub const FORM_KEY: Text = (
@@ -320,7 +326,8 @@ pub const FORM_KEY: Text = (
     "</b></span><span>Schlüssel, verschlüsselt <b>",
 );
 
-/// The end of a rotor machine's heading, the start of the groups, and the start and the end of a group.
+/// The end of a rotor machine's heading. The next texts are the start of the groups, the start of a group, and the end
+/// of a group.
 pub const FORM_KEY_END: &str = "</b></span>";
 
 pub const FORM_GROUPS: &str = "</p>\n<div class=groups>";
@@ -346,7 +353,7 @@ pub const ARTICLE_END: &str = "</article>\n";
 // ---- What is told on standard error.
 
 /// The start of a note about a part. The values are the part's number and the number of parts. The next text stands
-/// before the words for what to ask for. Then come the ends of notes.
+/// before the words that say what to ask for. The three texts after it are ends of notes.
 pub const NOTE_PART: Text = ("Part ~ of ~: ", "Teil ~ von ~: ");
 
 pub const NOTE_ASK: Text = (" Ask for ", " Wiederholen lassen: ");

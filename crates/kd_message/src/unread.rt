@@ -155,7 +155,7 @@ fn draw_sign<W: Sink>(sink: &mut W, language: Language, line: usize, sign: Wrong
     draw_in(sink, language, NO_LETTER);
 }
 
-/// Writes a wrong sign: the digit itself, or "this sign" for any other sign.
+/// Writes the words for a wrong sign: the digit if the sign is a digit, and "this sign" for any other sign.
 fn draw_sign_words<W: Sink>(sink: &mut W, language: Language, byte: u8)
     ensures { Draws W.taken W.has_failed sink.old sink.new (sign_words language byte) }
 {
@@ -232,7 +232,7 @@ fn draw_short_words<W: Sink>(sink: &mut W, language: Language, line: usize, shor
     draw_in(sink, language, FULL_LINE);
 }
 
-/// Writes what to ask for in a part that isn't read because its count is wrong.
+/// Writes what to ask for if a part isn't read because its count is wrong.
 ///
 /// If a short line, `short`, explains the wrong count, asks for the ten groups of this line.
 fn draw_short_groups<W: Sink>(
@@ -252,8 +252,8 @@ fn draw_short_groups<W: Sink>(
     }
 }
 
-/// Writes what to ask for if the count is wrong or damaged. `group` is the number of the first short group: it doesn't
-/// have five letters, though letters follow the group.
+/// Writes what to ask for if the count is wrong or damaged. `group` is the number of the first short group. A short
+/// group doesn't have five letters, though letters follow the group.
 pub(crate) fn draw_count_asked<W: Sink>(
     sink: &mut W,
     language: Language,
@@ -288,7 +288,7 @@ fn heading_count(numbers: &Option<PartNumbers>) -> usize
     }
 }
 
-/// The place of key letter `number` in the first copy of the indicators, counted from 1.
+/// The place in the first copy of the indicators where key letter `number` stands. Places are counted from 1.
 ///
 /// The chosen letter, number 0, has two places; the answer is the first one.
 fn indicator_place(number: u8) -> u16
@@ -301,7 +301,7 @@ fn indicator_place(number: u8) -> u16
     }
 }
 
-/// The number of the group with key letter `number`, among the first two groups.
+/// Which of the first two groups has key letter `number`: group 1 or group 2.
 fn key_letter_group(number: u8) -> usize
     ensures { result ≡ key_letter_group number }
 {
@@ -340,8 +340,8 @@ pub(crate) fn draw_asked<W: Sink>(
 
 /// Writes what to ask for if a letter of the ground setting or of the enciphered key is lost.
 ///
-/// Asks for both keys, and for each group of the text with a lost letter or a wrong sign. `body` has the letters of the
-/// body.
+/// Asks for the ground setting, the enciphered key, and each group of the text with a lost letter or a wrong sign.
+/// `body` has the letters of the body.
 fn draw_keys_and_groups<W: Sink>(sink: &mut W, language: Language, body: &[Option<Letter>])
     requires { length body.now ≤ 525 }
     ensures { Draws W.taken W.has_failed sink.old sink.new
@@ -352,7 +352,7 @@ fn draw_keys_and_groups<W: Sink>(sink: &mut W, language: Language, body: &[Optio
     draw_lost_groups(sink, language, COMMA, false, 2, text);
 }
 
-/// Writes the words for the two groups with key letter `number`, in a body of `came` letters.
+/// Writes the words for the two groups that have key letter `number`. The body has `came` letters.
 fn draw_key_letter_groups<W: Sink>(sink: &mut W, language: Language, came: usize, number: u8)
     ensures { Draws W.taken W.has_failed sink.old sink.new
         (key_letter_groups language came number) }
@@ -363,7 +363,8 @@ fn draw_key_letter_groups<W: Sink>(sink: &mut W, language: Language, came: usize
     draw_group_words(sink, language, (came / 5).saturating_sub(2) + group);
 }
 
-/// Writes the words for the groups with the indicators, in a body of `came` letters: the first two and the last two.
+/// Writes the words for the groups with the indicators: the first two and the last two groups of a body of `came`
+/// letters.
 fn draw_indicator_groups<W: Sink>(sink: &mut W, language: Language, came: usize)
     ensures { Draws W.taken W.has_failed sink.old sink.new
         (indicator_groups language came) }
