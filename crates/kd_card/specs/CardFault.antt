@@ -11,7 +11,7 @@ use Rattle.kd_card.specs.Prices.{price_sum, ArePricesInRange}
 use Rattle.kd_card.specs.declared.fault.CardFault.{CardFault}
 use Rattle.kd_state.specs.{AnswerRules.{AnswerRule, ◌>>=◌, Yields, Finds, Demands, FindsAlways}, SheetDay.IsDayNumber}
 use Rattle.kd_state.specs.{Line.{BeginsWithSettingLines, BeginsWithAllSettings}}
-use Rattle.kd_state.specs.{LineWords.{words_of, line_then, IsFirstPart}}
+use Rattle.kd_tables.specs.LineWords.{words_of, line_then, IsFirstPart}
 use Rattle.kd_state.specs.declared.setting.Setting.{Setting}
 use Rattle.std.specs.Prelude.{codes, decimal, ◌≡◌, ◌≢◌, ℕ, ◌+◌, ◌≤◌, ◌⊎◌, List, [], ◌∷◌, ◌++◌, length, map, All, ℤ}
 use Rattle.std.specs.Prelude.{Bool, true, false, Ok, Err, Option, Some, None}

@@ -4,7 +4,8 @@ use Rattle.kd_card.specs.declared.prices.PriceParts.TheVariants.{Cables, Bars, C
 use Rattle.kd_card.specs.{declared.prices.Version.Version}
 use Rattle.kd_card.specs.{declared.prices.Version.TheVariants.{ByNumber, ByKind}, declared.prices.PriceParts.PriceParts}
 use Rattle.kd_card.specs.{Prices.{version_of, price_sum, ArePrices}}
-use Rattle.kd_state.specs.{Line.{setting_words, IsSettingInRange}, declared.setting.Setting.Setting, LineWords.line_of}
+use Rattle.kd_state.specs.{Line.{setting_words, IsSettingInRange}, declared.setting.Setting.Setting}
+use Rattle.kd_tables.specs.LineWords.{line_of}
 use Rattle.kd_state.specs.{Costs.column_letters, Machine.cable_letters, SheetDay.IsDayNumber}
 use Rattle.kd_tables.specs.Places.{standing_text, reading_text}
 use Rattle.std.specs.Prelude.{codes, decimal, ◌≡◌, ℕ, ◌≤◌, List, [], ◌∷◌, ◌++◌, length, map, All}

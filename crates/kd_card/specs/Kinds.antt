@@ -2,7 +2,8 @@
 -- member.
 use Rattle.kd_card.specs.{declared.kinds.CableKind.CableKind, declared.kinds.PairKind.PairKind}
 use Rattle.kd_card.specs.{declared.kinds.BarKind.BarKind, declared.kinds.RowKind.RowKind, declared.kinds.KindOf.KindOf}
-use Rattle.kd_state.specs.{Costs.{column_letters, one_unless}, LineWords.line_of, Machine.cable_letters}
+use Rattle.kd_state.specs.{Costs.{column_letters, one_unless}, Machine.cable_letters}
+use Rattle.kd_tables.specs.LineWords.{line_of}
 use Rattle.kd_tables.specs.Text as tables
 use Rattle.kd_tables.specs.Places.{standing_text, reading_text, place_rank, IsBefore, IsReading}
 use Rattle.kd_tables.specs.declared.place.Place.{Place}

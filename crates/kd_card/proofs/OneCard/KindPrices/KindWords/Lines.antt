@@ -45,7 +45,8 @@ pub use Rattle.kd_state.proofs.OneAnswer.{HasOneAnswer-FindsAlways, HasOneAnswer
 pub use Rattle.kd_state.specs.{Costs.column_letters, declared.setting.Setting.Setting, Machine.cable_letters}
 pub use Rattle.kd_state.{proofs.Lines.IsWord, specs.LineWords.{IsWithout, line_of, words_of}}
 pub use Rattle.kd_state.specs.{Line.{BeginsWithAllSettings, BeginsWithSettingLines, setting_line}}
-pub use Rattle.kd_state.specs.{LineWords.IsFirstPart, Line.{BeginsWithNoSetting, list_text, setting_words}}
+pub use Rattle.kd_state.specs.Line.{BeginsWithNoSetting, list_text, setting_words}
+pub use Rattle.kd_tables.specs.LineWords.{IsFirstPart}
 pub use Rattle.kd_tables.proofs.LineWords.{lines_split_into_words, word_by_test, words_make_one_line}
 pub use Rattle.kd_state.proofs.Lines.{not_longer, same_end}
 pub use Rattle.kd_tables.proofs.LineWords.{IsNumeralModel-digits, numbers_are_words, ok_part, texts_determine_first_parts}
