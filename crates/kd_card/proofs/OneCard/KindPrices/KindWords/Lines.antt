@@ -43,7 +43,8 @@ pub use Rattle.kd_state.specs.AnswerRules.{HasOneAnswer, Demands, GoesOn, HasFau
 pub use Rattle.kd_state.proofs.OneAnswer.{HasOneAnswer-Demands, HasOneAnswer-Finds, HasOneAnswer-Yields}
 pub use Rattle.kd_state.proofs.OneAnswer.{HasOneAnswer-FindsAlways, HasOneAnswer-ThenNext, ThenNext-Ok, Yields-Ok}
 pub use Rattle.kd_state.specs.{Costs.column_letters, declared.setting.Setting.Setting, Machine.cable_letters}
-pub use Rattle.kd_state.{proofs.Lines.IsWord, specs.LineWords.{IsWithout, line_of, words_of}}
+pub use Rattle.kd_tables.proofs.LineWords.{IsWord}
+pub use Rattle.kd_tables.specs.LineWords.{IsWithout, line_of, words_of}
 pub use Rattle.kd_state.specs.{Line.{BeginsWithAllSettings, BeginsWithSettingLines, setting_line}}
 pub use Rattle.kd_state.specs.Line.{BeginsWithNoSetting, list_text, setting_words}
 pub use Rattle.kd_tables.specs.LineWords.{IsFirstPart}
