@@ -32,8 +32,11 @@ use Rattle.kd_pictures.specs.declared.results.Results.{Results}
 use Rattle.kd_curator_command.specs.CommandLine.{NamedCommand}
 use Rattle.kd_curator_command.specs.declared.command.Command.TheVariants as commands
 use Rattle.kd_curator.specs.RunList.{WritesList, NoList, Settings}
-use Rattle.std.specs.Prelude.{unwrap_or}
+use Rattle.std.specs.Prelude.{drop, unwrap_or}
 use Rattle.kd_curator.specs.Program.{WritesMessage}
+use Rattle.kd_message.specs.SendBooklet.{OrderText}
+use Rattle.kd_curator.specs.RunOrders.{WritesOrders, order_texts}
+use Rattle.kd_curator.specs.RunOrders as several
 use Rattle.kd_curator.specs.RunPage.{WritesPages, NoDays, NoPage, Pages}
 use Rattle.kd_curator.specs.RunReceive.{WritesReceivePage}
 use Rattle.kd_curator.specs.RunReceive as receives
@@ -133,6 +136,15 @@ module _ (one other : Port) (before : one.had ≡ other.had) (after : Keeps one.
   send_kept results l month m number order told (sends.Page s found form page ready is shown writes) =
       sends.Page s found form page ready is shown (text_kept _ _ told writes)
 
+  orders_kept : (results : Results) (l : Language) (month : List (Option Day)) (m : Parts) (number : ℕ)
+      (orders : List OrderText) (told : Result (Unit {0}) Refused)
+      → WritesOrders results l month m number orders one told → WritesOrders results l month m number orders other told
+  orders_kept results l month m number orders told (several.NoDay none is) = several.NoDay none is
+  orders_kept results l month m number orders told (several.NoPages s found fault first is) =
+      several.NoPages s found fault first is
+  orders_kept results l month m number orders told (several.Pages s found good text booklet writes) =
+      several.Pages s found good text booklet (text_kept _ _ told writes)
+
   receive_kept : (results : Results) (l : Language) (month : List (Option Day)) (m : Parts) (number : ℕ) (form : List ℕ)
       (told : Result (Unit {0}) Refused) → WritesReceivePage results l month m number form one told
       → WritesReceivePage results l month m number form other told
@@ -164,6 +176,10 @@ module _ (one other : Port) (before : one.had ≡ other.had) (after : Keeps one.
   command_kept l (commands.Message machine sheet message task) texts told does =
       on_kept (machine_and_month (text_at texts 0) (text_at texts 1)) _ _ told
       (λ both. message_kept task.direction task.results (unwrap_or task.language l) both.1 both.0 task.day (text_at texts 2) told) does
+  command_kept l (commands.Orders machine sheet orders task) texts told does =
+      on_kept (machine_and_month (text_at texts 0) (text_at texts 1)) _ _ told
+      (λ both. orders_kept task.results (unwrap_or task.language l) both.1 both.0 task.day
+      (order_texts orders.items (drop 2 texts)) told) does
   command_kept l (commands.TypingPage machine chosen) texts told does =
       on_kept (machine_in (text_at texts 0)) _ _ told (λ m. typing_page_kept (unwrap_or chosen l) m told) does
   command_kept l (commands.Table sheet form chosen) texts told does =

@@ -93,6 +93,7 @@ pub notes_so : (words : List (List ℕ)) (asked : List AskedName) (errors : Port
 notes_so words asked errors (commands.OnMachine a b c) says read told = NoNotes told
 notes_so words asked errors (commands.Message a b c d) says read told =
     message_notes_so words asked errors a b c d d.direction says refl read told
+notes_so words asked errors (commands.Orders a b c d) says read told = NoNotes told
 notes_so words asked errors (commands.TypingPage a b) says read told = NoNotes told
 notes_so words asked errors (commands.Table a b c) says read told = NoNotes told
 notes_so words asked errors (commands.EmptySheet a b) says read told = NoNotes told
@@ -110,6 +111,7 @@ months_so words (commands.EmptySheet model days) says =
     meant_month (subcommand_of curator_grammar words) model days says.said
 months_so words (commands.OnMachine d e f) says = tt
 months_so words (commands.Message d e f g) says = tt
+months_so words (commands.Orders d e f g) says = tt
 months_so words (commands.TypingPage d e) says = tt
 months_so words (commands.Table d e f) says = tt
 months_so words (commands.Sheet d e) says = tt

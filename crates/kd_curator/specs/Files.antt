@@ -13,6 +13,7 @@ use Rattle.kd_curator_command.specs.declared.command.Command.TheVariants as comm
 abbrev pub names_of : NamedCommand → List (List ℕ)
 names_of (commands.OnMachine machine sheet task) = machine ∷ sheet ∷ []
 names_of (commands.Message machine sheet message task) = machine ∷ sheet ∷ message ∷ []
+names_of (commands.Orders machine sheet orders task) = machine ∷ sheet ∷ orders.items
 names_of (commands.TypingPage machine language) = machine ∷ []
 names_of (commands.Table sheet form language) = sheet ∷ []
 names_of (commands.Sheet table options) = table ∷ []

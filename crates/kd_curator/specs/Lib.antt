@@ -6,6 +6,7 @@ pub mod OutputFile
 pub mod Program
 pub mod Refusals
 pub mod RunList
+pub mod RunOrders
 pub mod RunPage
 pub mod RunReceive
 pub mod RunSend

@@ -1,7 +1,7 @@
 -- The program: which command the words mean, which files are read, and what is written.
 -- Code: `run_curator` parses the words; `run_command` reads the files, and carries out the command.
 -- Test: tests/cases/curator-pages.toml
-use Rattle.std.specs.Prelude.{◌≡◌, ◌⊎◌, ◌+◌, ◌≤◌, ◌||◌, not, ℕ, Bool, true, false, List, [], ◌∷◌, length, Option, None, IfSome}
+use Rattle.std.specs.Prelude.{◌≡◌, ◌⊎◌, ◌+◌, ◌≤◌, ◌||◌, not, ℕ, Bool, true, false, List, [], ◌∷◌, drop, length, Option, None, IfSome}
 use Rattle.std.specs.Prelude.{Result, Ok, Err, IsTrue, unwrap_or}
 use Rattle.std.specs.Io.KnownBytes.{append_known}
 use Rattle.clap.specs.Words.{IsAmong, fault_of}
@@ -28,6 +28,7 @@ use Rattle.kd_curator.specs.Refusals.{comes_after_writing, is_after_all, is_devi
 use Rattle.kd_pictures.specs.declared.language.Language.{Language}
 use Rattle.kd_pictures.specs.declared.results.Results.{Results}
 use Rattle.kd_curator.specs.RunList.{WritesList}
+use Rattle.kd_curator.specs.RunOrders.{SendsOrders, order_texts}
 use Rattle.kd_curator.specs.RunPage.{WritesPages, wanted_days}
 use Rattle.kd_curator.specs.RunReceive.{WritesReceivePage}
 use Rattle.kd_curator.specs.RunSend.{WritesSendPage}
@@ -78,6 +79,8 @@ DoesCommand l (commands.OnMachine machine sheet task) texts sink answer =
     DoesTask l task sheet (text_at texts 0) (text_at texts 1) sink answer
 DoesCommand l (commands.Message machine sheet message task) texts sink answer =
     WorksMessage l task (text_at texts 0) (text_at texts 1) (text_at texts 2) sink answer
+DoesCommand l (commands.Orders machine sheet orders task) texts sink answer =
+    SendsOrders l task (text_at texts 0) (text_at texts 1) (order_texts orders.items (drop 2 texts)) sink answer
 DoesCommand l (commands.TypingPage machine chosen) texts sink answer =
     IsAnswerOn (machine_in (text_at texts 0)) (λ m. WritesTypingPage (unwrap_or chosen l) m sink answer) answer
 DoesCommand l (commands.Table sheet form chosen) texts sink answer =

@@ -1,6 +1,6 @@
 -- The reasons why a command is refused, and the texts of refusals.
 -- Test: tests/cases/curator-pages.toml
-use Rattle.std.specs.Prelude.{codes, ℕ, Bool, true, false, List, Option, Some, None, Result, Ok, Err, if◌then◌else◌}
+use Rattle.std.specs.Prelude.{codes, ℕ, ◌+◌, Bool, true, false, List, Option, Some, None, Result, Ok, Err, if◌then◌else◌}
 use Rattle.kd_tables.specs.declared.refusal.Refusal.TheVariants as refusals
 use Rattle.kd_tables.specs.Refusals.{refusal_name}
 use Rattle.kd_tables.specs.declared.ports.write_fault.WriteFault.{WriteFault}
@@ -18,6 +18,7 @@ use Rattle.kd_host.specs.declared.file_fault.FileFault.{FileFault}
 use Rattle.kd_new_file.specs.declared.why_unread.WhyUnread.{WhyUnread}
 use Rattle.kd_lost.specs.declared.form.DamagedFormFault.{DamagedFormFault}
 use Rattle.kd_lost.specs.declared.form.DamagedFormFault.TheVariants as damages
+use Rattle.kd_message.specs.declared.booklet.OrderFault.{OrderFault}
 use Rattle.kd_spreadsheet.specs.declared.fault.SpreadsheetFault.{SpreadsheetFault}
 use Rattle.kd_spreadsheet.specs.declared.fault.SpreadsheetFault.TheVariants as spreadsheets
 use Rattle.kd_curator.specs.Blame.{blame_on, unread_blame}
@@ -56,17 +57,27 @@ refused_in place remark fault = record { day = None; blame = blame_on place rema
 abbrev pub refused_unread : ℕ → FileFault → WhyUnread → Refused
 refused_unread place fault why = record { day = None; blame = unread_blame place fault why; fault = faults.Unread fault }
 
--- The remark on the file that has the fault: the machine file, which is the command's first file, or the order, which
--- is its third file. `None` if memory ran out.
-abbrev pub message_blame : FormFault → Option Blame
-message_blame forms.NoMemory = None
-message_blame forms.NotReady = blame_on 0 MachineFile
-message_blame forms.NotOnKey = blame_on 0 MachineFile
-message_blame _ = blame_on 2 Order
+-- The remark on the file that has the fault: the machine file, which is the command's first file, or the order at place
+-- `place` among the command's files. `None` if memory ran out.
+abbrev pub order_blame : ℕ → FormFault → Option Blame
+order_blame place forms.NoMemory = None
+order_blame place forms.NotReady = blame_on 0 MachineFile
+order_blame place forms.NotOnKey = blame_on 0 MachineFile
+order_blame place _ = blame_on place Order
 
--- the refusal for a fault of an order, or of the machine that enciphers or deciphers a message
+-- The refusal for a fault of the order at place `place` among the command's files, or of the machine that enciphers the
+-- order.
+abbrev pub refused_order : ℕ → FormFault → Refused
+refused_order place fault = record { day = None; blame = order_blame place fault; fault = faults.Message fault }
+
+-- the refusal for a fault of an order that is the command's third file, or of the machine that enciphers or deciphers a
+-- message
 abbrev pub refused_message : FormFault → Refused
-refused_message fault = record { day = None; blame = message_blame fault; fault = faults.Message fault }
+refused_message fault = refused_order 2 fault
+
+-- the refusal of an order among several; the first order is the command's third file
+abbrev pub refused_among : OrderFault → Refused
+refused_among fault = refused_order (fault.place + 2) fault.why
 
 -- the fault of a refusal, for each reason why a day can't be planned
 abbrev pub fault_of_plan : NoPlan → PageFault

@@ -1,13 +1,14 @@
 //! `Refused`: why a command is refused.
 ghost use Rattle.std.specs.Prelude.{◌≡◌, ◌≤◌, length};
-ghost use Rattle.kd_curator.specs.Refusals.{day_refusal, message_blame, page_fault_text, refused_by, refused_form};
-ghost use Rattle.kd_curator.specs.Refusals.{refused_in, refused_message, refused_table};
+ghost use Rattle.kd_curator.specs.Refusals.{day_refusal, order_blame, page_fault_text, refused_among, refused_by};
+ghost use Rattle.kd_curator.specs.Refusals.{refused_form, refused_in, refused_message, refused_order, refused_table};
 
 use crate::blame::{Blame, Remark};
 use kd_booklet::{DayFault, NoPlan};
 use kd_form::FormFault;
 use kd_host::FileFault;
 use kd_lost::DamagedFormFault;
+use kd_message::OrderFault;
 use kd_sheet::SheetFault;
 use kd_spreadsheet::SpreadsheetFault;
 use kd_tables::{Device, Refusal, RefusalText, WriteFault};
@@ -105,15 +106,24 @@ impl Refused {
         }
     }
 
-    /// The refusal for a fault of an order, or of the machine that enciphers or deciphers a message.
-    pub(crate) fn of_message(fault: FormFault) -> Refused
-        ensures { result ≡ refused_message fault }
+    /// The refusal for a fault of the order at place `place` among the command's files, or of the machine that
+    /// enciphers the order.
+    pub(crate) fn of_order(place: usize, fault: FormFault) -> Refused
+        ensures { result ≡ refused_order place fault }
     {
         Refused {
             day: None,
-            blame: message_blame(fault),
+            blame: order_blame(place, fault),
             fault: PageFault::Message(fault),
         }
+    }
+
+    /// The refusal for a fault of an order that is the command's third file, or of the machine that enciphers or
+    /// deciphers a message.
+    pub(crate) fn of_message(fault: FormFault) -> Refused
+        ensures { result ≡ refused_message fault }
+    {
+        Refused::of_order(2, fault)
     }
 
     /// The refusal of the command `send` for the fault `fault`.
@@ -122,6 +132,19 @@ impl Refused {
     {
         match fault {
             WriteFault::Unwritten(fault) => Refused::of_message(fault),
+            WriteFault::Device => Refused::from(PageFault::Device),
+        }
+    }
+
+    /// The refusal of the command `send` for several orders that names this fault. The first order is the command's
+    /// third file.
+    pub(crate) fn of_orders(fault: WriteFault<OrderFault>) -> Refused
+        ensures { result ≡ refused_by refused_among fault }
+    {
+        match fault {
+            WriteFault::Unwritten(fault) => {
+                Refused::of_order(usize::from(fault.place) + 2, fault.why)
+            }
             WriteFault::Device => Refused::from(PageFault::Device),
         }
     }
@@ -157,10 +180,10 @@ impl Refused {
     }
 }
 
-/// The remark on the file that has the fault: the machine file, which is the command's first file, or the order, which
-/// is its third file. `None` if memory ran out.
-fn message_blame(fault: FormFault) -> Option<Blame>
-    ensures { result ≡ message_blame fault }
+/// The remark on the file that has the fault: the machine file, which is the command's first file, or the order at
+/// place `place` among the command's files. `None` if memory ran out.
+fn order_blame(place: usize, fault: FormFault) -> Option<Blame>
+    ensures { result ≡ order_blame place fault }
 {
     match fault {
         FormFault::NoMemory => None,
@@ -169,7 +192,7 @@ fn message_blame(fault: FormFault) -> Option<Blame>
             remark: Remark::MachineFile,
         }),
         _ => Some(Blame {
-            place: 2,
+            place,
             remark: Remark::Order,
         }),
     }

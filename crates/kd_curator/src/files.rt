@@ -1,5 +1,5 @@
 //! The files of a command: their names, and their bytes.
-ghost use Rattle.std.specs.Prelude.{◌≡◌, ◌≤◌, ◌<◌, ◌+◌, IfSome, IsErr, OnOk, is_ok, length};
+ghost use Rattle.std.specs.Prelude.{◌≡◌, ◌≤◌, ◌<◌, ◌+◌, ◌++◌, IfSome, IsErr, OnOk, is_ok, length};
 ghost use Rattle.arrayvec.specs.ArrayVec.{array_vec_len};
 ghost use Rattle.kd_tables.specs.Answers.{AgreesOrNoMemory};
 ghost use Rattle.kd_host.specs.Files.{AreAskedFor};
@@ -13,7 +13,7 @@ use std::alloc::Global;
 use std::marker::Model;
 
 /// The greatest number of files that a command reads.
-const MOST: usize = 3;
+const MOST: usize = 34;
 
 /// The names of a command's files, in the order in which they are read.
 pub(crate) type Names<'n> = ArrayVec<&'n str, MOST>;
@@ -68,6 +68,12 @@ pub(crate) fn names_of<'n>(command: &NamedCommand<'n>) -> Names<'n>
             message,
             ..
         } => listed(&[*machine, *sheet, *message]),
+        Command::Orders {
+            machine,
+            sheet,
+            orders,
+            ..
+        } => listed_with(&[*machine, *sheet], orders.as_slice()),
         Command::TypingPage { machine, .. } => listed(&[*machine]),
         Command::Table { sheet, .. } => listed(&[*sheet]),
         Command::Sheet { table, .. } => listed(&[*table]),
@@ -86,6 +92,17 @@ fn listed<'n>(names: &[&'n str]) -> Names<'n>
     listed
 }
 
+/// A copy of the names `first`, then of the names `others`.
+fn listed_with<'n>(first: &[&'n str], others: &[&'n str]) -> Names<'n>
+    requires { length first.now + length others.now ≤ 34 }
+    ensures { result.items ≡ first.now ++ others.now }
+{
+    let mut listed = Names::new();
+    listed.try_extend_from_slice(first).unwrap();
+    listed.try_extend_from_slice(others).unwrap();
+    listed
+}
+
 /// Reads the files `names`, one after another, and appends their bytes to `contents`.
 ///
 /// After a fault, `contents` has the bytes of the files before the file that can't be read.
@@ -95,7 +112,7 @@ pub(crate) fn read_contents<'n, F: Files<'n>>(
     files: &mut F,
     contents: &mut Contents,
 ) -> Result<(), FileFault>
-    requires room { array_vec_len contents.old + length names.now ≤ 3 }
+    requires room { array_vec_len contents.old + length names.now ≤ 34 }
     requires asked { length (F.asked files.old) ≡ array_vec_len contents.old }
     ensures read { IfSome (F.known files.old) (λ held. AgreesOrNoMemory FileFault.NoMemory
         (behind contents.old.items (contents_of held (unborrowed_names names.now)))

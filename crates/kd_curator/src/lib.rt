@@ -13,6 +13,7 @@ mod machine_and_sheet;
 mod output_file;
 mod program;
 pub mod run_list;
+pub mod run_orders;
 pub mod run_page;
 pub mod run_receive;
 pub mod run_send;

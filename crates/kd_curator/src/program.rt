@@ -24,6 +24,7 @@ use crate::files::{Contents, FileBytes, name_at, names_of, read_contents, text_a
 use crate::looks::look_at_files;
 use crate::output_file::end_unwritten;
 use crate::run_list::run_list;
+use crate::run_orders::send_orders;
 use crate::run_page::run_page;
 use crate::run_receive::run_receive;
 use crate::run_send::run_send;
@@ -279,6 +280,9 @@ fn carry_out<W: Sink, E: Sink>(
             let sheet = text_at(contents, 1);
             let message = text_at(contents, 2);
             work_message(alloc, language, task, machine, sheet, message, sink, errors)
+        }
+        Command::Orders { orders, task, .. } => {
+            send_orders(alloc, language, task, orders.as_slice(), contents, sink)
         }
         Command::TypingPage {
             language: chosen,

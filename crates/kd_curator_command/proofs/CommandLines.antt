@@ -7,13 +7,15 @@ use Rattle.kd_curator_command.proofs.Prelude.{same_Some}
 use Rattle.kd_curator_command.proofs.Prelude.{inl, inr, IsDayNumber, NamedCommand, IsCommandLineOf, IsNoCommandLine, arith}
 use Rattle.kd_curator_command.proofs.Prelude.{AsksForHelp, HasNoCommand, IsToldAs, is_help, Error, ErrorKind, OutOfMemory}
 use Rattle.kd_curator_command.proofs.Prelude.{AreDays, HasDay, HasDays, HasLanguage, IsMeant, IsTaskOf, codes}
-use Rattle.std.specs.Prelude.{◌⊎◌, ◌++◌, IsSome, nat_eq, option_to_list}
+use Rattle.std.specs.Prelude.{◌⊎◌, ◌++◌, ◌<◌, ◌≤◌, zero, suc, IsSome, length, map, nat_eq, option_to_list}
+use Rattle.clap.specs.Words.{all_of, matched_of, raw_values}
 use Rattle.std.specs.List.{cons_option}
 use Rattle.std.proofs.Common.{get_or}
 use Rattle.kd_curator_command.specs.declared.command.Task.{Task}
 use Rattle.kd_curator_command.specs.declared.command.Task.TheVariants as tasks
 use Rattle.kd_curator_command.specs.declared.command.Command.TheVariants as commands
 use Rattle.kd_curator_command.specs.CommandLine.{IsCommandOf, IsTaskWith, task_name}
+use Rattle.kd_curator_command.specs.CommandLine.{HasMessage, IsMessageTask, IsOrdersOf, unborrowed_names}
 use Rattle.kd_curator_command.specs.CommandLine.{IsEmptySheetOf, IsLookOf, IsMessageOf, IsSheetOf, IsTableOf, IsTypingPageOf}
 use Rattle.kd_tables.specs.Direction.{direction_name}
 use Rattle.kd_tables.specs.declared.direction.Direction.{Direction}
@@ -27,7 +29,7 @@ use Rattle.kd_tables.specs.declared.model.Model.{Model}
 use Rattle.std.specs.Prelude.{unwrap_or}
 use Rattle.kd_printed_sheet.specs.declared.table_file.TableForm.{TableForm}
 use Rattle.kd_printed_sheet.specs.declared.table_file.TableForm.TheVariants as forms
-use Rattle.clap.proofs.{OnLiterals.clap_on_literals, WalkLemmas.first_value-rows}
+use Rattle.clap.proofs.{OnLiterals.clap_on_literals, WalkLemmas.first_value-rows, WalkLemmas.raw_values-rows}
 use Rattle.clap.specs.declared.parser.matches.{ArgMatches.ArgMatches, Found.Found}
 use Rattle.kd_curator_command.specs.{CommandLine.curator_grammar, declared.command.NoCommand.NoCommand}
 use Rattle.kd_curator_command.specs.declared.command.NoCommand.TheVariants.{Asked, Usage, NoMemory}
@@ -42,6 +44,18 @@ pub read_some : (found : Found) (id : List ℕ) (word : Option (Bor (List ℕ)))
     → first_of id (rows_of found) ≡ Some read.now
 read_some found id word read reads some =
     sym (first_value-rows found id) ∙ sym reads ∙ ap (option_map (λ s. s.now)) some
+
+-- clap's getter of all values reads all values that an argument has in the rows of the matches
+pub read_all : (found : Found) (id : List ℕ) (words : Option (Bor (List (Bor (List ℕ)))))
+    → option_map (λ s. map (λ v. v.now) s.now) words ≡ option_map raw_values (matched_of found id)
+    → all_of id (rows_of found) ≡ option_map (λ s. unborrowed_names s.now) words
+read_all found id words reads = sym (raw_values-rows found id) ∙ sym reads
+
+-- a number from 1 to 32 is 1, or is from 2 to 32
+pub outside : (number : ℕ) → 1 ≤ number → number ≤ 32 → number ≢ 1 → (2 ≤ number → 32 < number) → ⊥
+outside zero some few other many = omega (arith, some)
+outside (suc zero) some few other many = other refl
+outside (suc (suc number)) some few other many = omega (arith, few, many (omega arith))
 
 -- an argument that isn't a day's number isn't the text of any day
 pub other_word : (found : Found) (id : List ℕ) (word : Option (Bor (List ℕ))) (read : Bor (List ℕ))
@@ -153,6 +167,7 @@ apart place one other differ is =
 abbrev pub name_of : NamedCommand → List ℕ
 name_of (commands.OnMachine machine sheet task) = task_name task
 name_of (commands.Message machine sheet message task) = direction_name task.direction
+name_of (commands.Orders machine sheet orders task) = codes "send"
 name_of (commands.TypingPage machine language) = codes "type"
 name_of (commands.Table sheet form language) = codes "table"
 name_of (commands.Sheet table options) = codes "sheet"
@@ -163,6 +178,7 @@ pub name_said : (said : List ℕ × List Row) (command : NamedCommand) → IsCom
     → said.0 ≡ name_of command
 name_said said (commands.OnMachine machine sheet task) of = of.task.name
 name_said said (commands.Message machine sheet message task) of = of.name
+name_said said (commands.Orders machine sheet orders task) of = of.name
 name_said said (commands.TypingPage machine language) of = of.name
 name_said said (commands.Table sheet form language) of = of.name
 name_said said (commands.Sheet table options) of = of.name
@@ -199,19 +215,62 @@ module _ (rows : List Row) where
   other_task name machine sheet (tasks.Page days language) page list of = apart 2 name _ page of.task.name
   other_task name machine sheet (tasks.List day) page list of = apart 2 name _ list of.task.name
 
-  -- what the command of each name is
-  pub only_message : (direction : Direction) (command : NamedCommand)
-      → IsCommandOf (direction_name direction, rows) command
-      → (machine sheet message : List ℕ) × (task : MessageTask)
-      × IsMessageOf (direction_name direction, rows) machine sheet message task × (task.direction ≡ direction)
-  only_message direction (commands.Message machine sheet message task) of =
-      (machine, sheet, message, task, of, same_direction task.direction direction (sym of.name))
-  only_message directions.Send (commands.OnMachine machine sheet task) of =
+  -- what the command `send` has: one order or several orders, and a task
+  pub record HasSent : Type 0 where
+    pub its_machine : List ℕ
+    pub machine : first_of (codes "MACHINE") rows ≡ Some its_machine
+    pub its_sheet : List ℕ
+    pub sheet : first_of (codes "SHEET") rows ≡ Some its_sheet
+    pub its_orders : List (List ℕ)
+    pub orders : all_of (codes "ORDER") rows ≡ Some its_orders
+    pub some : 1 ≤ length its_orders
+    pub few : length its_orders ≤ 32
+    pub its_task : MessageTask
+    pub task : IsMessageTask rows directions.Send its_task
+
+  sent_message : (machine sheet message : List ℕ) (task : MessageTask)
+      → IsMessageOf (codes "send", rows) machine sheet message task → task.direction ≡ directions.Send → HasSent
+  sent_message machine sheet message task of same = record {
+    its_machine = machine;
+    machine = of.machine;
+    its_sheet = sheet;
+    sheet = of.sheet;
+    its_orders = message ∷ [];
+    orders = subst (λ d. HasMessage rows d message) same of.message;
+    some = omega arith;
+    few = omega arith;
+    its_task = task;
+    task = record { same = same; day = of.day; results = of.results; language = of.language };
+  }
+
+  pub only_sent : (command : NamedCommand) → IsCommandOf (codes "send", rows) command → HasSent
+  only_sent (commands.Message machine sheet message task) of =
+      sent_message machine sheet message task of (same_direction task.direction directions.Send (sym of.name))
+  only_sent (commands.Orders machine sheet orders task) of = record {
+    its_machine = machine;
+    machine = of.machine;
+    its_sheet = sheet;
+    sheet = of.sheet;
+    its_orders = orders.items;
+    orders = of.orders;
+    some = omega (arith, of.several);
+    few = of.few;
+    its_task = task;
+    task = of.task;
+  }
+  only_sent (commands.OnMachine machine sheet task) of =
       absurd (other_task (codes "send") machine sheet task refl refl of)
-  only_message directions.Receive (commands.OnMachine machine sheet task) of =
+  only_sent other of = absurd (other_name (codes "send") other refl of)
+
+  -- what the command of each other name is
+  pub only_received : (command : NamedCommand) → IsCommandOf (codes "receive", rows) command
+      → (machine sheet message : List ℕ) × (task : MessageTask)
+      × IsMessageOf (codes "receive", rows) machine sheet message task × (task.direction ≡ directions.Receive)
+  only_received (commands.Message machine sheet message task) of =
+      (machine, sheet, message, task, of, same_direction task.direction directions.Receive (sym of.name))
+  only_received (commands.OnMachine machine sheet task) of =
       absurd (other_task (codes "receive") machine sheet task refl refl of)
-  only_message directions.Send other of = absurd (other_name (codes "send") other refl of)
-  only_message directions.Receive other of = absurd (other_name (codes "receive") other refl of)
+  only_received other of = absurd (other_name (codes "receive") other refl of)
 
   pub only_table : (command : NamedCommand) → IsCommandOf (codes "table", rows) command
       → (sheet : List ℕ) × (form : TableForm) × (language : Option Language)
@@ -297,6 +356,8 @@ no_task_with said table sheet look send receive typing none (commands.OnMachine 
     none machine its_sheet task of
 no_task_with said table sheet look send receive typing none (commands.Message machine its_sheet message task) of =
     no_message said.0 task.direction send receive of.name
+no_task_with said table sheet look send receive typing none (commands.Orders machine its_sheet orders task) of =
+    send of.name
 no_task_with said table sheet look send receive typing none (commands.TypingPage machine language) of = typing of.name
 no_task_with said table sheet look send receive typing none (commands.Table its_sheet form language) of = table of.name
 no_task_with said table sheet look send receive typing none (commands.Sheet its_table options) of = sheet of.name

@@ -1,7 +1,7 @@
 -- A command line means at most one command.
 use Rattle.std.proofs.Common.{get_or}
 use Rattle.std.proofs.lemmas.Fmt.{decimal_injective}
-use Rattle.std.specs.Prelude.{nat_eq}
+use Rattle.std.specs.Prelude.{◌≤◌, length, nat_eq}
 use Rattle.kd_curator_command.proofs.Prelude.{[], ◌∷◌, ◌≡◌, ℕ, false, List, Option, Some, None, Row, NamedCommand, IsMeant, codes}
 use Rattle.kd_curator_command.proofs.Prelude.{HasDay, HasDays, HasLanguage}
 use Rattle.kd_curator_command.proofs.Prelude.{IsCommandOf, IsTaskOf}
@@ -11,9 +11,9 @@ use Rattle.kd_curator_command.specs.Days.{days_named}
 use Rattle.kd_curator_command.specs.declared.command.Task.{Task}
 use Rattle.kd_curator_command.specs.declared.command.Task.TheVariants as tasks
 use Rattle.kd_curator_command.proofs.CommandLines.{apart, message_apart, missing, name_of, name_said, same_direction}
-use Rattle.clap.specs.Words.{first_of}
-use Rattle.kd_tables.specs.Direction.{direction_word}
+use Rattle.clap.specs.Words.{all_of}
 use Rattle.kd_tables.specs.declared.direction.Direction.{Direction}
+use Rattle.kd_tables.specs.declared.direction.Direction.TheVariants as directions
 use Rattle.kd_curator_command.specs.declared.command.MessageTask.{MessageTask}
 use Rattle.kd_curator_command.specs.Locale.{language_code}
 use Rattle.kd_pictures.specs.declared.language.Language.{Language}
@@ -21,7 +21,7 @@ use Rattle.kd_pictures.specs.declared.language.Language.TheVariants.{English, Ge
 use Rattle.kd_curator_command.specs.declared.command.Command.TheVariants as commands
 use Rattle.kd_pictures.specs.declared.results.Results.{Results}
 use Rattle.kd_pictures.specs.declared.results.Results.TheVariants.{LeftOpen, Shown}
-use Rattle.kd_curator_command.specs.CommandLine.{HasForm, HasResults, IsEmptySheetOf, IsSheetOf}
+use Rattle.kd_curator_command.specs.CommandLine.{HasForm, HasMessage, HasResults, IsEmptySheetOf, IsSheetOf}
 use Rattle.kd_spreadsheet.specs.Options.{OptionTexts}
 use Rattle.kd_tables.specs.Tables.{model_text}
 use Rattle.kd_sheet.proofs.ReadBack.Described.KeyValues.{model_found}
@@ -90,6 +90,27 @@ same_message : (machine other sheet more message last : List ℕ) (task next : M
     → ◌≡◌ {A = NamedCommand} (commands.Message machine sheet message task) (commands.Message other more last next)
 same_message machine other sheet more message last task next is are too same = cc
 
+one_message : (rows : List Row) (direction : Direction) (message last : List ℕ) → HasMessage rows direction message
+    → HasMessage rows direction last → message ≡ last
+one_message rows directions.Send message last first second =
+    ap (λ l. get_or l 0 []) (same_Some _ _ (sym first ∙ second))
+one_message rows directions.Receive message last first second = same_Some _ _ (sym first ∙ second)
+
+same_orders : (machine other sheet more : List ℕ) (orders others : List (List ℕ)) (task next : MessageTask)
+    → machine ≡ other → sheet ≡ more → orders ≡ others → task ≡ next
+    → ◌≡◌ {A = NamedCommand} (commands.Orders machine sheet (record { items = orders }) task)
+    (commands.Orders other more (record { items = others }) next)
+same_orders machine other sheet more orders others task next is are too same =
+    λ i. commands.Orders (is i) (are i) (record { items = too i }) (same i)
+
+-- one order isn't several orders
+one_or_several : (rows : List Row) (message : List ℕ) (orders : List (List ℕ)) (direction : Direction)
+    → HasMessage rows direction message → direction ≡ directions.Send → all_of (codes "ORDER") rows ≡ Some orders
+    → 2 ≤ length orders → ⊥
+one_or_several rows message orders direction has same are several =
+    let one = subst (λ d. HasMessage rows d message) same has in
+    let alike = ap length (same_Some _ _ (sym one ∙ are)) in absurd (omega (arith, alike, several))
+
 same_form : (rows : List Row) (one other : TableForm) → HasForm rows one → HasForm rows other → one ≡ other
 same_form rows forms.Page forms.Page first second = refl
 same_form rows forms.Page forms.Csv first second = absurd (first second)
@@ -140,13 +161,27 @@ same_command said (commands.OnMachine machine sheet task) (commands.OnMachine ot
     (same_Some _ _ (sym first.sheet ∙ second.sheet)) (same_task said.1 said.0 task next first.task second.task)
 same_command said (commands.Message machine sheet message task) (commands.Message other more last next) first second =
     let same = same_direction task.direction next.direction (sym first.name ∙ second.name) in
-    let named = subst (λ d. first_of (direction_word d) said.1 ≡ Some message) same first.message in
+    let named = subst (λ d. HasMessage said.1 d message) same first.message in
     same_message machine other sheet more message last task next
     (same_Some _ _ (sym first.machine ∙ second.machine)) (same_Some _ _ (sym first.sheet ∙ second.sheet))
-    (same_Some _ _ (sym named ∙ second.message))
+    (one_message said.1 next.direction message last named second.message)
     (same_work task next same (same_day said.1 task.day next.day first.day second.day)
     (same_results said.1 task.results next.results first.results second.results)
     (same_language said.1 task.language next.language first.language second.language))
+same_command said (commands.Orders machine sheet orders task) (commands.Orders other more others next) first second =
+    same_orders machine other sheet more orders.items others.items task next
+    (same_Some _ _ (sym first.machine ∙ second.machine)) (same_Some _ _ (sym first.sheet ∙ second.sheet))
+    (same_Some _ _ (sym first.orders ∙ second.orders))
+    (same_work task next (first.task.same ∙ sym second.task.same)
+    (same_day said.1 task.day next.day first.task.day second.task.day)
+    (same_results said.1 task.results next.results first.task.results second.task.results)
+    (same_language said.1 task.language next.language first.task.language second.task.language))
+same_command said (commands.Message machine sheet message task) (commands.Orders other more orders next) first second =
+    absurd (one_or_several said.1 message orders.items task.direction first.message
+    (same_direction task.direction directions.Send (sym first.name ∙ second.name)) second.orders second.several)
+same_command said (commands.Orders machine sheet orders task) (commands.Message other more message next) first second =
+    absurd (one_or_several said.1 message orders.items next.direction second.message
+    (same_direction next.direction directions.Send (sym second.name ∙ first.name)) first.orders first.several)
 same_command said (commands.TypingPage machine language) (commands.TypingPage other also) first second =
     same_typing_page machine other language also (same_Some _ _ (sym first.machine ∙ second.machine))
     (same_language said.1 language also first.language second.language)

@@ -3,13 +3,13 @@
 -- Code: `grammar` builds the grammar by calls of the library `clap`.
 -- Test: tests/cases/curator-words.toml
 use Rattle.std.specs.Prelude.{codes, decimal, ◌≡◌, ◌≢◌, ℕ, Bool, true, false, List, [], ◌∷◌, ◌++◌, Option, Some, None}
-use Rattle.std.specs.Prelude.{◌&&◌, ◌==◌, IsSome, IsSomeAnd, IsTrue, filter_map, fold, length, map, option_and_then}
+use Rattle.std.specs.Prelude.{◌&&◌, ◌==◌, ◌≤◌, IsSome, IsSomeAnd, IsTrue, filter_map, fold, length, map, option_and_then}
 use Rattle.std.specs.Prelude.{option_map, unwrap_or}
 use Rattle.std.specs.Borrow.{Bor}
 use Rattle.clap.specs.declared.builder.command.Command.{Command as Grammar, out-Command}
 use Rattle.clap.specs.declared.error.kind.ErrorKind.{ErrorKind}
 use Rattle.clap.specs.declared.error.kind.ErrorKind.TheVariants.{DisplayHelp, DisplayVersion, OutOfMemory}
-use Rattle.clap.specs.Words.{App, app_of, IsAmong, Row, Rule, Shape, first_of, fault_of, new_rule, subcommand_of}
+use Rattle.clap.specs.Words.{App, all_of, app_of, IsAmong, Row, Rule, Shape, first_of, fault_of, new_rule, subcommand_of}
 use Rattle.clap.specs.Simple.{new_shape, with_subcommand}
 use Rattle.kd_state.specs.SheetDay.{IsDayNumber}
 use Rattle.kd_curator_command.specs.Days.{AreDays}
@@ -17,10 +17,11 @@ use Rattle.kd_curator_command.specs.Locale.{language_code}
 use Rattle.kd_pictures.specs.declared.language.Language.{Language}
 use Rattle.kd_pictures.specs.declared.results.Results.{Results}
 use Rattle.kd_pictures.specs.declared.results.Results.TheVariants.{LeftOpen, Shown}
-use Rattle.clap.specs.declared.builder.action.ArgAction.TheVariants.{SetTrue}
-use Rattle.kd_tables.specs.Direction.{direction_name, direction_word}
+use Rattle.clap.specs.declared.builder.action.ArgAction.TheVariants.{Append, SetTrue}
+use Rattle.kd_tables.specs.Direction.{direction_name}
 use Rattle.kd_tables.specs.Tables.{model_text}
 use Rattle.kd_tables.specs.declared.direction.Direction.{Direction}
+use Rattle.kd_tables.specs.declared.direction.Direction.TheVariants.{Receive, Send}
 use Rattle.kd_tables.specs.declared.model.Model.{Model}
 use Rattle.kd_spreadsheet.specs.Options.{OptionTexts, texts_of}
 use Rattle.kd_printed_sheet.specs.declared.table_file.TableForm.{TableForm}
@@ -40,6 +41,10 @@ use Rattle.kd_curator_command.specs.declared.grammar.ArgumentSort.TheVariants as
 -- an argument that has to be given
 abbrev pub needed : List ℕ → Rule
 needed name = record (new_rule name) { required = true }
+
+-- an argument that has to be given, and may have several values
+abbrev pub several : List ℕ → Rule
+several name = record (needed name) { action = Some Append }
 
 abbrev pub command_shape : List ℕ → Rule → Shape
 command_shape name last = record (new_shape name) {
@@ -107,7 +112,7 @@ message_shape name message =
     language_option) output_option
 
 abbrev pub send_shape : Shape
-send_shape = message_shape (codes "send") (needed (codes "ORDER"))
+send_shape = message_shape (codes "send") (several (codes "ORDER"))
 
 abbrev pub receive_shape : Shape
 receive_shape = message_shape (codes "receive") (needed (codes "FORM"))
@@ -154,6 +159,8 @@ abbrev pub unborrowed_command : Command (Bor (List ℕ)) → NamedCommand
 unborrowed_command (commands.OnMachine machine sheet task) = commands.OnMachine machine.now sheet.now task
 unborrowed_command (commands.Message machine sheet message task) =
     commands.Message machine.now sheet.now message.now task
+unborrowed_command (commands.Orders machine sheet orders task) =
+    commands.Orders machine.now sheet.now (record { items = unborrowed_names orders.items }) task
 unborrowed_command (commands.TypingPage machine language) = commands.TypingPage machine.now language
 unborrowed_command (commands.Table sheet form language) = commands.Table sheet.now form language
 unborrowed_command (commands.Sheet table options) = commands.Sheet table.now (texts_of options)
@@ -211,6 +218,11 @@ abbrev pub HasResults : List Row → Results → Type 0
 HasResults rows LeftOpen = IsUsed (codes "blank") rows
 HasResults rows Shown = ¬ (IsUsed (codes "blank") rows)
 
+-- The arguments in `rows` name this one message: an order to send, or a form to receive.
+abbrev pub HasMessage : List Row → Direction → List ℕ → Type 0
+HasMessage rows Send order = all_of (codes "ORDER") rows ≡ Some (order ∷ [])
+HasMessage rows Receive form = first_of (codes "FORM") rows ≡ Some form
+
 -- The command's name and arguments in `said` mean the command `send` or `receive`, with the task `its_task` and the
 -- files `machine_file`, `key_sheet` and `its_message`.
 pub record IsMessageOf (said : List ℕ × List Row) (machine_file key_sheet its_message : List ℕ) (its_task : MessageTask)
@@ -218,10 +230,29 @@ pub record IsMessageOf (said : List ℕ × List Row) (machine_file key_sheet its
   pub name : said.0 ≡ direction_name its_task.direction
   pub machine : first_of (codes "MACHINE") said.1 ≡ Some machine_file
   pub sheet : first_of (codes "SHEET") said.1 ≡ Some key_sheet
-  pub message : first_of (direction_word its_task.direction) said.1 ≡ Some its_message
+  pub message : HasMessage said.1 its_task.direction its_message
   pub day : HasDay said.1 its_task.day
   pub results : HasResults said.1 its_task.results
   pub language : HasLanguage said.1 its_task.language
+
+-- The arguments in `rows` ask for this task, for a message in this direction.
+pub record IsMessageTask (rows : List Row) (direction : Direction) (task : MessageTask) : Type 0 where
+  pub same : task.direction ≡ direction
+  pub day : HasDay rows task.day
+  pub results : HasResults rows task.results
+  pub language : HasLanguage rows task.language
+
+-- The command's name and arguments in `said` mean the command `send` for 2 to 32 orders, with the files `machine_file`,
+-- `key_sheet` and `its_orders`.
+pub record IsOrdersOf (said : List ℕ × List Row) (machine_file key_sheet : List ℕ) (its_orders : List (List ℕ))
+    (its_task : MessageTask) : Type 0 where
+  pub name : said.0 ≡ codes "send"
+  pub machine : first_of (codes "MACHINE") said.1 ≡ Some machine_file
+  pub sheet : first_of (codes "SHEET") said.1 ≡ Some key_sheet
+  pub orders : all_of (codes "ORDER") said.1 ≡ Some its_orders
+  pub several : 2 ≤ length its_orders
+  pub few : length its_orders ≤ 32
+  pub task : IsMessageTask said.1 Send its_task
 
 -- The command's name and arguments in `said` mean the command `type`, with `machine_file` and `its_language`.
 pub record IsTypingPageOf (said : List ℕ × List Row) (machine_file : List ℕ) (its_language : Option Language)
@@ -294,6 +325,7 @@ pub record IsLookOf (said : List ℕ × List Row) (its_files : List (List ℕ)) 
 abbrev pub IsCommandOf : List ℕ × List Row → NamedCommand → Type 0
 IsCommandOf said (commands.OnMachine machine sheet task) = IsTaskWith said machine sheet task
 IsCommandOf said (commands.Message machine sheet message task) = IsMessageOf said machine sheet message task
+IsCommandOf said (commands.Orders machine sheet orders task) = IsOrdersOf said machine sheet orders.items task
 IsCommandOf said (commands.TypingPage machine language) = IsTypingPageOf said machine language
 IsCommandOf said (commands.Table sheet form language) = IsTableOf said sheet form language
 IsCommandOf said (commands.Sheet table options) = IsSheetOf said table options
@@ -351,6 +383,7 @@ HasNoCommand words NoMemory = Unit {0}
 -- the rule for an argument that has the name `name` and the given sort
 abbrev pub rule_of_sort : List ℕ → ArgumentSort → Rule
 rule_of_sort name sorts.Needed = needed name
+rule_of_sort name sorts.Several = several name
 rule_of_sort name sorts.Optional = new_rule name
 rule_of_sort name (sorts.Valued value) = option_rule name
 rule_of_sort name (sorts.Lettered letter value) = lettered name letter
@@ -371,13 +404,6 @@ with_commands app commands = fold (λ a words. with_subcommand a (shape_of words
 pub record IsMadeOf (grammar : Grammar) (shape : Shape) : Type 0 where
   pub made : app_of grammar ≡ record { top = shape; subs = [] }
   pub local : (out-Command grammar).has_globals ≡ false
-
--- The arguments in `rows` ask for the task `task`, for a message in the direction `direction`.
-pub record IsMessageTask (rows : List Row) (direction : Direction) (task : MessageTask) : Type 0 where
-  pub same : task.direction ≡ direction
-  pub day : HasDay rows task.day
-  pub results : HasResults rows task.results
-  pub language : HasLanguage rows task.language
 
 -- For an error of the kind `kind` from `clap`, the program may give this `NoCommand` as the reason why there is no
 -- command.

@@ -1,9 +1,8 @@
 //! The commands, and the parser of the command line.
 ghost use Rattle.std.specs.Prelude.{IsFalse, IsTrue, ◌≡◌, ◌≢◌, ◌≤◌, ◌<◌, ◌+◌, ◌++◌, ℕ, List, Option, None, codes, map, option_map};
-ghost use Rattle.std.specs.Prelude.{option_to_list, IfErr, IfOk, IfSome, IsErr};
+ghost use Rattle.std.specs.Prelude.{[], ◌∷◌, length, option_to_list, IfErr, IfOk, IfSome, IsErr};
 ghost use Rattle.arrayvec.specs.ArrayVec.{array_vec_len};
 ghost use Rattle.clap.specs.Words.{app_of, first_of, found_of, kind_of, rows_of, subcommand_rows_of};
-ghost use Rattle.kd_tables.specs.Direction.{direction_name};
 ghost use Rattle.kd_curator_command.specs.CommandLine.{curator_grammar};
 ghost use Rattle.kd_spreadsheet.specs.Options.{texts_of};
 ghost use Rattle.kd_curator_command.specs.CommandLine.{HasDay, HasDays, HasForm, HasLanguage, HasNoCommand, HasResults, IsCommandLineOf};
@@ -48,6 +47,17 @@ pub enum Command<T> {
         /// The order or the form.
         message: T,
         /// The task: what to do with the message. It also has the message's day, and the language of the page.
+        task: MessageTask,
+    },
+    /// Writes how to encipher several orders by hand, in one file.
+    Orders {
+        /// The machine file.
+        machine: T,
+        /// The key sheet.
+        sheet: T,
+        /// The orders: at least two.
+        orders: ArrayVec<T, 32>,
+        /// The direction `Send`, the day, and the language of the page.
         task: MessageTask,
     },
     /// Writes a page for typing on a machine.
@@ -201,6 +211,9 @@ const NO_MONTH: &str =
 /// The error for an argument DAY that isn't the number of a day.
 const NO_DAY: &str = "the day is a number from 1 to 31";
 
+/// The error for more than 32 arguments ORDER.
+const MANY_ORDERS: &str = "send takes at most 32 orders";
+
 /// The error for an option `--in` whose value isn't a language's code.
 const NO_LANGUAGE: &str = "--in takes de or en";
 
@@ -213,6 +226,7 @@ fn why_not(matches: &ArgMatches<'_>) -> &'static str {
         Some(("sheet", _)) => NO_MONTH,
         Some(("list", _)) => NO_DAY,
         Some((_, words)) if language_asked(words).is_err() => NO_LANGUAGE,
+        Some(("send", words)) if day_asked(words).is_some() => MANY_ORDERS,
         Some(("send" | "receive", _)) => NO_DAY,
         _ => NO_DAYS,
     }
@@ -281,24 +295,81 @@ fn command_of<'a>(name: &str, words: &ArgMatches<'a>) -> Option<NamedCommand<'a>
         "table" => table_of(words),
         "sheet" => sheet_of(words),
         "look" => look_of(words),
-        "send" => message_of(words, Direction::Send),
-        "receive" => message_of(words, Direction::Receive),
+        "send" => send_of(words),
+        "receive" => receive_of(words),
         "type" => typing_page_of(words),
         _ => task_with_files(name, words),
     }
 }
 
-/// The command `send` or `receive` with the arguments in `words`. `None` if an argument has a wrong value.
-fn message_of<'a>(words: &ArgMatches<'a>, direction: Direction) -> Option<NamedCommand<'a>>
+/// The command `send` with the arguments in `words`. `None` if an argument has a wrong value, or there are too many
+/// orders.
+fn send_of<'a>(words: &ArgMatches<'a>) -> Option<NamedCommand<'a>>
     ensures said { IfSome result (λ command.
-        IsCommandOf (direction_name direction, rows_of (found_of words.now)) (unborrowed_command command)) }
+        IsCommandOf (codes "send", rows_of (found_of words.now)) (unborrowed_command command)) }
     ensures none { result ≡ None → (command : NamedCommand)
-        → ¬ (IsCommandOf (direction_name direction, rows_of (found_of words.now)) command) }
+        → ¬ (IsCommandOf (codes "send", rows_of (found_of words.now)) command) }
 {
     let machine = words.get_str("MACHINE")?;
     let sheet = words.get_str("SHEET")?;
-    let message = words.get_str(direction.file_word())?;
-    let task = message_task(words, direction)?;
+    let orders = words.get_strs("ORDER")?;
+    let task = message_task(words, Direction::Send)?;
+    match only_name(orders) {
+        Some(message) => Some(Command::Message {
+            machine,
+            sheet,
+            message,
+            task,
+        }),
+        None => {
+            let several = several_names(orders)?;
+            Some(Command::Orders {
+                machine,
+                sheet,
+                orders: several,
+                task,
+            })
+        }
+    }
+}
+
+/// The name in `names`, if there is only one.
+fn only_name<'a>(names: &[&'a str]) -> Option<&'a str>
+    ensures said { IfSome result (λ name. unborrowed_names names.now ≡ name.now ∷ []) }
+    ensures none { result ≡ None → length names.now ≢ 1 }
+{
+    match names {
+        [name] => Some(*name),
+        _ => None,
+    }
+}
+
+/// A copy of `names`, if there are 2 to 32 of them.
+fn several_names<'a>(names: &[&'a str]) -> Option<ArrayVec<&'a str, 32>>
+    ensures said { IfSome result (λ listed. listed.items ≡ names.now) }
+    ensures many { IfSome result (λ listed. 2 ≤ length names.now) }
+    ensures few { IfSome result (λ listed. length names.now ≤ 32) }
+    ensures none { result ≡ None → 2 ≤ length names.now → 32 < length names.now }
+{
+    if names.len() < 2 || names.len() > 32 {
+        return None;
+    }
+    let mut listed = ArrayVec::new();
+    listed.try_extend_from_slice(names).unwrap();
+    Some(listed)
+}
+
+/// The command `receive` with the arguments in `words`. `None` if an argument has a wrong value.
+fn receive_of<'a>(words: &ArgMatches<'a>) -> Option<NamedCommand<'a>>
+    ensures said { IfSome result (λ command.
+        IsCommandOf (codes "receive", rows_of (found_of words.now)) (unborrowed_command command)) }
+    ensures none { result ≡ None → (command : NamedCommand)
+        → ¬ (IsCommandOf (codes "receive", rows_of (found_of words.now)) command) }
+{
+    let machine = words.get_str("MACHINE")?;
+    let sheet = words.get_str("SHEET")?;
+    let message = words.get_str("FORM")?;
+    let task = message_task(words, Direction::Receive)?;
     Some(Command::Message {
         machine,
         sheet,

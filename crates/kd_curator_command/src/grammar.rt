@@ -2,7 +2,7 @@
 ghost use Rattle.std.specs.Prelude.{◌≡◌, false, IfOk};
 ghost use Rattle.clap.specs.Words.{App, app_of, new_rule, rule_of};
 ghost use Rattle.kd_curator_command.specs.CommandLine.{IsMadeOf, curator_grammar, flag, lettered, needed, option_rule, program_alone};
-ghost use Rattle.kd_curator_command.specs.CommandLine.{rule_of_argument, shape_of, with_commands};
+ghost use Rattle.kd_curator_command.specs.CommandLine.{rule_of_argument, several, shape_of, with_commands};
 
 use clap::{Arg, ArgAction, Command as Grammar};
 use std::alloc::{AllocError, Global};
@@ -15,6 +15,8 @@ const VERSION: &str = "1.0";
 pub(crate) enum ArgumentSort<'a> {
     /// An argument that has to be given.
     Needed,
+    /// An argument that has to be given, and may have several values.
+    Several,
     /// An argument that may be left out.
     Optional,
     /// An option with a value. The string is the value's name in the help.
@@ -110,8 +112,8 @@ static COMMANDS: [CommandWords; 8] = [
             DAY,
             Argument {
                 name: "ORDER",
-                sort: ArgumentSort::Needed,
-                help: "The order, as desk send takes it",
+                sort: ArgumentSort::Several,
+                help: "The order, as desk send takes it; or up to 32 orders, one page after another",
             },
             BLANK,
             LANGUAGE,
@@ -261,6 +263,7 @@ fn argument_of<'a>(alloc: Global, argument: &Argument<'a>) -> Arg<'a>
 {
     match argument.sort {
         ArgumentSort::Needed => needed(alloc, argument.name, argument.help),
+        ArgumentSort::Several => several(alloc, argument.name, argument.help),
         ArgumentSort::Optional => optional(alloc, argument.name, argument.help),
         ArgumentSort::Valued(value) => option(alloc, argument.name, value, argument.help),
         ArgumentSort::Lettered(letter, value) => {
@@ -276,6 +279,17 @@ fn needed<'a>(alloc: Global, name: &'a str, help: &'a str) -> Arg<'a>
     ensures local { result.global ≡ false }
 {
     Arg::new(alloc, name).required(true).help(help)
+}
+
+/// An argument that has to be given, and may have several values.
+fn several<'a>(alloc: Global, name: &'a str, help: &'a str) -> Arg<'a>
+    ensures rule { rule_of result ≡ several name.entry.now }
+    ensures local { result.global ≡ false }
+{
+    Arg::new(alloc, name)
+        .required(true)
+        .action(ArgAction::Append)
+        .help(help)
 }
 
 /// An argument that may be left out.

@@ -7,10 +7,10 @@ use std::marker::Model;
 /// The file names that a program asked for, in order. A flag beside each name says whether the file could be read or
 /// opened.
 ///
-/// There are at most three names: no command names more files.
+/// There are at most 34 names: no command names more files.
 #[derive(Drop)]
 pub struct AskedNames<'n> {
-    names: ArrayVec<(&'n str, bool), 3>,
+    names: ArrayVec<(&'n str, bool), 34>,
 }
 
 impl<'n> Model for AskedNames<'n> {
@@ -34,7 +34,7 @@ impl<'n> AskedNames<'n> {
 
     /// Records that the program asked for `name`; `had` says whether the file could be read or opened.
     pub fn add(&mut self, name: &'n str, had: bool)
-        requires { length self.old < 3 }
+        requires { length self.old < 34 }
         ensures { self.new ≡ self.old ++ (name.now, had) ∷ [] }
     {
         self.names.push((name, had));

@@ -28,9 +28,9 @@ pub trait Files<'n> {
     /// Reads the file `name` whole.
     ///
     /// Returns `Device` if the file can't be opened, or a read fails. Returns `ReadTooLong` if the file has more than
-    /// 1,048,576 bytes. A program may ask for at most three names.
+    /// 1,048,576 bytes. A program may ask for at most 34 names.
     fn read_content(&mut self, alloc: Global, name: &'n str) -> Result<Content, FileFault>
-        requires { length (asked self.old) < 3 }
+        requires { length (asked self.old) < 34 }
         ensures content { IfSome (known self.old)
             (λ held. AgreesOrNoMemory FileFault.NoMemory (content_of (held name.now)) result) }
         ensures asked { asked self.new ≡ asked self.old ++ (name.now, is_ok result) ∷ [] }
@@ -38,9 +38,9 @@ pub trait Files<'n> {
 
     /// Opens the file `name` for streaming.
     ///
-    /// Returns `Device` if the file can't be opened. A program may ask for at most three names.
+    /// Returns `Device` if the file can't be opened. A program may ask for at most 34 names.
     fn open(&mut self, name: &'n str) -> Result<Self::Opened, FileFault>
-        requires { length (asked self.old) < 3 }
+        requires { length (asked self.old) < 34 }
         ensures opened { IfSome (known self.old) (λ held.
             IsOpenAnswer (opening_of (held name.now))
             (known_file Self.Opened.remaining Self.Opened.has_failed) result) }

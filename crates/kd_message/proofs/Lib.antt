@@ -7,3 +7,4 @@ pub mod ReceivedRows
 pub mod WholeForms
 pub mod PagesWhole
 pub mod ReadAgain
+pub mod Booklets

@@ -27,8 +27,8 @@ use Rattle.kd_part_sheet.specs.Rows.{pieces}
 use Rattle.kd_part_sheet.proofs.Pieces.{pieces-next, pieces-none}
 use Rattle.kd_pictures.specs.declared.results.Results.{Results}
 use Rattle.kd_message.specs.FormSheet.{form_part}
-use Rattle.kd_message.specs.SendPage.{AreKeysOfText, AreMade, AreWorks, IsSendPage, IsSendRefusal, form_parts}
-use Rattle.kd_message.specs.SendPage.{part_name, part_sheets, send_sheet, text_pieces}
+use Rattle.kd_message.specs.SendPage.{AreKeysOfText, AreMade, AreOrderSheets, AreWorks, IsSendPage, IsSendRefusal, form_parts}
+use Rattle.kd_message.specs.SendPage.{name_in_place, part_sheets, send_sheet, sheets_text, text_pieces}
 unfoldable use Rattle.kd_message.specs.SendPage.{send_text}
 use Rattle.kd_message.proofs.Orders.{parts_of_order}
 
@@ -92,14 +92,14 @@ none_left s part parts keys text none are =
 
 module _ {W : Type 0} {taken : W → Option (List ℕ)} {failed : W → Bool} {old mid new : W} (results : Results)
     (l : Language) (s : Day) (part parts : ℕ) where
-  pub sheets_next : {all : List Keys} {allp : List (List ℕ)} {k : Keys} {keys : List Keys} {piece : List ℕ}
+  pub sheets_next : (place : Option ℕ) {all : List Keys} {allp : List (List ℕ)} {k : Keys} {keys : List Keys} {piece : List ℕ}
       {pieces : List (List ℕ)} (work : Work) → all ≡ k ∷ keys → allp ≡ piece ∷ pieces → IsWork s k piece work
-      → Draws taken failed old mid (send_sheet l s (part_name results s part parts) work)
+      → Draws taken failed old mid (send_sheet l s (name_in_place results s place part parts) work)
       → ((works : List Work) × AreWorks s keys pieces works
-      × Draws taken failed mid new (part_sheets results l s (part + 1) parts works))
+      × Draws taken failed mid new (part_sheets results l s place (part + 1) parts works))
       → (works : List Work) × AreWorks s all allp works
-      × Draws taken failed old new (part_sheets results l s part parts works)
-  sheets_next work same cut is one (more, are, two) =
+      × Draws taken failed old new (part_sheets results l s place part parts works)
+  sheets_next place work same cut is one (more, are, two) =
       (work ∷ more, rw (same, cut) (work, more, is, are, refl), both one two)
 
   pub parts_next : {all : List Keys} {allp : List (List ℕ)} {k : Keys} {keys : List Keys} {piece : List ℕ}
@@ -144,12 +144,12 @@ texts_made s part parts (k ∷ keys) (piece ∷ pieces) made (one, more, is, are
 texts_made s part parts [] (piece ∷ pieces) made are = absurd are
 texts_made s part parts (k ∷ keys) [] made are = absurd are
 
-pub page_made : (results : Results) (l : Language) (s : Day) (order form head text : List ℕ) (keys : List Keys)
-    (works : List Work) (made : List Part) → IsFormOf s order form → IsOrder s order keys head text
+pub sheets_made : (results : Results) (l : Language) (s : Day) (place : Option ℕ) (order form head text : List ℕ)
+    (keys : List Keys) (works : List Work) (made : List Part) → IsFormOf s order form → IsOrder s order keys head text
     → AreWorks s keys (text_pieces s text) works
     → AreMade s 1 (length keys) keys (text_pieces s text) made
-    → IsSendPage results l s order form (send_text results l s (length keys) works made)
-page_made results l s order form head text keys works made is read worked are =
+    → AreOrderSheets results l s place order form (sheets_text results l s place (length keys) works made)
+sheets_made results l s place order form head text keys works made is read worked are =
     let has = parts_of_order s order form is in
     let (same, heads, same_text) = one_order s order keys has.parts.keys head has.parts.head text has.parts.text
     read has.is_order in
@@ -167,7 +167,7 @@ page_made results l s order form head text keys works made is read worked are =
       made = made;
       are_made = mine;
       is_form = cc one;
-      is_page = rw same refl;
+      are_sheets = rw same refl;
     }
 
 -- ---- The answer.
@@ -189,13 +189,12 @@ pub begins : (front : List ℕ) (byte : ℕ) (more : List ℕ)
 begins [] byte more = (_, (_, refl))
 begins (first ∷ front) byte more = (_, (_, refl))
 
-page_begins : (results : Results) (l : Language) (s : Day) (parts : ℕ) (works : List Work) (made : List Part)
-    → (first : ℕ) × ((rest : List ℕ) × (send_text results l s parts works made ≡ first ∷ rest))
+page_begins : (l : Language) (s : Day) (sheets : List ℕ)
+    → (first : ℕ) × ((rest : List ℕ) × (send_text l s sheets ≡ first ∷ rest))
 unfolding send_text
-page_begins results l s parts works made = begins _ _ _
+page_begins l s sheets = begins _ _ _
 
 -- a page isn't empty
 pub shown_begins : (results : Results) (l : Language) (s : Day) (order form page : List ℕ) → IsSendPage results l s order form page
     → (first : ℕ) × ((rest : List ℕ) × (page ≡ first ∷ rest))
-shown_begins results l s order form page shown =
-    rw shown.is_page (page_begins results l s (length shown.parts.keys) shown.works shown.made)
+shown_begins results l s order form page shown = rw shown.is_page (page_begins l s shown.sheets)

@@ -10,3 +10,4 @@ TemplatesTakeTheirValues =
     × Takes texts.LISTED_UNREAD 2 × Takes texts.TEXT_SHEET 2 × Takes texts.TEXT_PART 4 × Takes texts.ASK 1
     × Takes texts.COPIES_DIFFER 1 × Takes texts.KEY_LETTER_LOST 1 × Takes texts.FORM 2 × Takes texts.FORM_PART 7
     × Takes texts.LONE_AFTER 1 × Takes texts.NOTE_PART 2 × Takes texts.LONE_HEAD_END 2
+    × Takes texts.ORDERS 3

@@ -14,9 +14,18 @@ use Rattle.kd_pictures.specs.declared.results.Results.TheVariants.{LeftOpen, Sho
 use Rattle.kd_message.specs.declared.texts.TheConstants as texts
 use Rattle.kd_part_sheet.specs.Rows.{pieces}
 
+-- What stands after `form` in the name of a form's sheet. `place` is the order's number in a file of several orders; it
+-- is `None` in a file of one order.
+abbrev pub form_number : Option ℕ → List ℕ
+form_number None = []
+form_number (Some number) = filled texts.FORM_NUMBER.now (decimal number ∷ [])
+
+abbrev pub form_title : Language → Day → List ℕ
+form_title l s = filled (text_in l texts.FORM) (model_name (day_model s) ∷ decimal (day_number s) ∷ [])
+
 -- the head of the sheet with the form: a title that gives the model and the day, and fields to fill in
-abbrev pub form_head : Language → Day → List ℕ
-form_head l s = filled (text_in l texts.FORM) (model_name (day_model s) ∷ decimal (day_number s) ∷ [])
+abbrev pub form_head : Language → Option ℕ → Day → List ℕ
+form_head l place s = texts.FORM_ID.now ++ form_number place ++ form_title l s
 
 -- the head of a part: its number, the number of parts, the model, the day, and the number of the part's letters
 abbrev pub part_head : Language → Model → ℕ → ℕ → ℕ → ℕ → List ℕ

@@ -2,6 +2,7 @@ pub mod Checked
 pub mod ReceivedWork
 pub mod FormSheet
 pub mod SendPage
+pub mod SendBooklet
 pub mod TextSheet
 pub mod LoneParts
 pub mod Notes

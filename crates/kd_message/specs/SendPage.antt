@@ -1,6 +1,6 @@
 -- The page for sending an order.
-use Rattle.std.specs.Prelude.{◌≡◌, ◌⊎◌, decimal, ℕ, ◌+◌, ◌==◌, ◌||◌, if◌then◌else◌, List, [], ◌∷◌, ◌++◌, flat_map, length}
-use Rattle.std.specs.Prelude.{◌≤◌, All, Bool, true, false, Result, Ok, Err, is_err, OnErr}
+use Rattle.std.specs.Prelude.{◌≡◌, ◌⊎◌, decimal, ℕ, ◌+◌, ◌*◌, ◌==◌, ◌||◌, if◌then◌else◌, List, [], ◌∷◌, ◌++◌, flat_map, length}
+use Rattle.std.specs.Prelude.{◌≤◌, All, Bool, true, false, Option, Some, None, Result, Ok, Err, is_err, OnErr}
 use Rattle.std.specs.List.{range_with_len}
 use Rattle.kd_tables.specs.Ports.{Port}
 use Rattle.kd_tables.specs.Writing.{Writes}
@@ -33,7 +33,7 @@ use Rattle.kd_part_sheet.specs.PartWork.{IsWork, Work}
 use Rattle.kd_part_sheet.specs.Rows.{pieces}
 use Rattle.kd_tables.specs.declared.ports.write_fault.WriteFault.{WriteFault}
 use Rattle.kd_tables.specs.declared.ports.write_fault.WriteFault.TheVariants.{Device, Unwritten}
-use Rattle.kd_message.specs.FormSheet.{form_head, form_part}
+use Rattle.kd_message.specs.FormSheet.{form_head, form_number, form_part}
 
 -- the head of the file; `title` is the template of its title
 unfoldable pub title_text : Language → List ℕ → Day → List ℕ
@@ -46,17 +46,24 @@ abbrev pub listed_sheet : Language → ℕ → ℕ → ℕ → List ℕ
 listed_sheet l sheet part parts =
     filled (text_in l texts.LISTED_PART) (decimal sheet ∷ decimal part ∷ decimal parts ∷ [])
 
+-- The number of a part's sheet, to which links lead. `place` is the order's number in a file of several orders; it is
+-- `None` in a file of one order.
+abbrev pub sheet_number : Option ℕ → ℕ → ℕ
+sheet_number None part = part
+sheet_number (Some number) part = number * 100 + part
+
 -- a line in the list of the sheets: a part to send
-abbrev pub listed_text : Language → ℕ → ℕ → List ℕ
-listed_text l parts part = listed_sheet l part part parts
+abbrev pub listed_text : Language → Option ℕ → ℕ → ℕ → List ℕ
+listed_text l place parts part = listed_sheet l (sheet_number place part) part parts
 
 abbrev pub list_head : Language → ℕ → List ℕ
 list_head l parts = if parts == 1 then text_in l texts.LIST_OF_ONE else text_in l texts.LIST_OF_SEVERAL
 
 -- the list of the sheets: the parts, and the form
-unfoldable pub list_text : Language → ℕ → List ℕ
-list_text l parts =
-    list_head l parts ++ flat_map (listed_text l parts) (range_with_len 1 parts) ++ text_in l texts.LIST_END_WITH_FORM
+unfoldable pub list_text : Language → Option ℕ → ℕ → List ℕ
+list_text l place parts =
+    list_head l parts ++ flat_map (listed_text l place parts) (range_with_len 1 parts) ++ texts.LISTED_FORM.now
+    ++ form_number place ++ text_in l texts.LIST_END_WITH_FORM
 
 abbrev pub part_name : Results → Day → ℕ → ℕ → PartName
 part_name results s part parts = record {
@@ -67,6 +74,9 @@ part_name results s part parts = record {
   parts = parts;
   results = results;
 }
+
+abbrev pub name_in_place : Results → Day → Option ℕ → ℕ → ℕ → PartName
+name_in_place results s place part parts = record (part_name results s part parts) { sheet = sheet_number place part }
 
 abbrev pub sheet_to_send : Model → Sheet
 sheet_to_send model = if is_converter model then PinSend else RotorSend
@@ -80,20 +90,25 @@ abbrev pub send_sheet : Language → Day → PartName → Work → List ℕ
 send_sheet l s name work = part_sheet l (sheet_to_send (day_model s)) s name no_warnings work
 
 -- the sheets of the parts from number `part` on
-abbrev pub part_sheets : Results → Language → Day → ℕ → ℕ → List Work → List ℕ
-part_sheets results l s part parts [] = []
-part_sheets results l s part parts (work ∷ works) =
-    send_sheet l s (part_name results s part parts) work ++ part_sheets results l s (part + 1) parts works
+abbrev pub part_sheets : Results → Language → Day → Option ℕ → ℕ → ℕ → List Work → List ℕ
+part_sheets results l s place part parts [] = []
+part_sheets results l s place part parts (work ∷ works) =
+    send_sheet l s (name_in_place results s place part parts) work
+    ++ part_sheets results l s place (part + 1) parts works
 
 -- all parts of the form, as the sheet with the form shows them
 abbrev pub form_parts : Results → Language → Day → List Part → List ℕ
 form_parts results l s made = flat_map (form_part results l (day_model s) (day_number s)) made
 
--- the file: a sheet for each part, then the form
-unfoldable pub send_text : Results → Language → Day → ℕ → List Work → List Part → List ℕ
-send_text results l s parts works made =
-    title_text l (text_in l texts.TITLE_TO_SEND) s ++ list_text l parts
-    ++ part_sheets results l s 1 parts works ++ form_head l s ++ form_parts results l s made ++ texts.ARTICLE_END.now ++ page_texts.FOOT.now
+-- the sheets of an order: the list of the sheets, a sheet for each part, then the form
+unfoldable pub sheets_text : Results → Language → Day → Option ℕ → ℕ → List Work → List Part → List ℕ
+sheets_text results l s place parts works made =
+    list_text l place parts ++ part_sheets results l s place 1 parts works ++ form_head l place s
+    ++ form_parts results l s made ++ texts.ARTICLE_END.now
+
+-- the file of one order
+unfoldable pub send_text : Language → Day → List ℕ → List ℕ
+send_text l s sheets = title_text l (text_in l texts.TITLE_TO_SEND) s ++ sheets ++ page_texts.FOOT.now
 
 -- ---- What is worked for an order, and its form.
 
@@ -120,9 +135,11 @@ AreMade s part parts (k ∷ keys) [] made = ⊥
 abbrev pub text_pieces : Day → List ℕ → List (List ℕ)
 text_pieces s text = pieces (part_size s) (text_letters s text)
 
--- `page` is the page for sending `order`, in language `l`. The page has a sheet for each part, and the parts of the
--- order's form. If `results` is `LeftOpen`, the page has neither the ciphertext nor the windows after a row.
-pub record IsSendPage (results : Results) (l : Language) (s : Day) (order form page : List ℕ) : Type 0 where
+-- `sheets` are the sheets of the order, in language `l`: a sheet for each part, and the parts of the order's form. If
+-- `results` are left open, the sheets have neither the ciphertext nor the windows after a row. `place` is the order's
+-- number in a file of several orders; it is `None` in a file of one order.
+pub record AreOrderSheets (results : Results) (l : Language) (s : Day) (place : Option ℕ) (order form sheets : List ℕ)
+    : Type 0 where
   pub parts : OrderParts
   pub read : IsReadAnswer s order (Ok parts)
   pub works : List Work
@@ -130,7 +147,13 @@ pub record IsSendPage (results : Results) (l : Language) (s : Day) (order form p
   pub made : List Part
   pub are_made : AreMade s 1 (length parts.keys) parts.keys (text_pieces s parts.text) made
   pub is_form : form ≡ flat_map part_text made
-  pub is_page : page ≡ send_text results l s (length parts.keys) works made
+  pub are_sheets : sheets ≡ sheets_text results l s place (length parts.keys) works made
+
+-- `page` is the page for sending the order, in language `l`. It has the sheets of the order.
+pub record IsSendPage (results : Results) (l : Language) (s : Day) (order form page : List ℕ) : Type 0 where
+  pub sheets : List ℕ
+  pub are_sheets : AreOrderSheets results l s None order form sheets
+  pub is_page : page ≡ send_text l s sheets
 
 -- ---- What `write_send_page` answers.
 
@@ -153,11 +176,11 @@ pub data IsSendPageAnswer (results : Results) (l : Language) (m : Parts) (s : Da
   Refused : (fault : FormFault) → IsSendRefusal m s order fault → answer ≡ Err (Unwritten fault) → IsUntouched sink
       → IsSendPageAnswer results l m s order sink answer
 
--- ---- What the code holds. No public contract cites these definitions.
-
 -- The order has a form, so `send` doesn't refuse it.
 abbrev pub HasForm : Day → List ℕ → Type 0
 HasForm s order = (form : List ℕ) × IsFormOf s order form
+
+-- ---- What the code holds. No public contract cites these definitions.
 
 -- `keys` are the keys of the parts from number `part` on, one item for each piece of the text. The keys are valid on
 -- the day.

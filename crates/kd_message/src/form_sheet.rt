@@ -3,24 +3,55 @@ ghost use Rattle.std.specs.Prelude.{◌≡◌, ◌≤◌, flat_map, length};
 ghost use Rattle.kd_form.specs.PartMaking.{part_of};
 ghost use Rattle.kd_pictures.specs.Drawing.{Draws};
 ghost use Rattle.kd_part_sheet.specs.Rows.{pieces};
-ghost use Rattle.kd_message.specs.FormSheet.{form_group, form_head, form_part, indicator_text, keys_text};
+ghost use Rattle.kd_message.specs.FormSheet.{form_group, form_head, form_number, form_part, form_title};
+ghost use Rattle.kd_message.specs.FormSheet.{indicator_text, keys_text};
 ghost use Rattle.kd_message.specs.FormSheet.{letters_with, part_head, part_note};
 
 use crate::texts::{
-    FORM, FORM_GROUND, FORM_GROUP, FORM_GROUP_END, FORM_GROUPS, FORM_KEY, FORM_KEY_END, FORM_PART,
-    FORM_PIN_NOTE, FORM_ROTOR_NOTE, OPEN_LETTER,
+    FORM, FORM_GROUND, FORM_GROUP, FORM_GROUP_END, FORM_GROUPS, FORM_ID, FORM_KEY, FORM_KEY_END,
+    FORM_NUMBER, FORM_PART, FORM_PIN_NOTE, FORM_ROTOR_NOTE, OPEN_LETTER,
 };
 use kd_form::heading::Indicator;
 use kd_part_sheet::cutting::first_piece;
 use kd_part_sheet::part_sheet::PartName;
-use kd_pictures::template::{Value, draw_letters, fill_in};
+use kd_pictures::template::{Value, draw_letters, fill, fill_in};
 use kd_pictures::{Language, Results, draw, draw_in};
 use kd_state::SheetDay;
 use kd_tables::{Letter, Sink};
 
 /// Writes the head of the sheet with the form: a title that gives the model and the day, and fields to fill in.
-pub(crate) fn draw_form_head<W: Sink>(sink: &mut W, language: Language, day: &SheetDay)
-    ensures { Draws W.taken W.has_failed sink.old sink.new (form_head language day.now) }
+///
+/// `place` is the order's number in a file of several orders, and `None` in a file of one order.
+pub(crate) fn draw_form_head<W: Sink>(
+    sink: &mut W,
+    language: Language,
+    place: Option<u8>,
+    day: &SheetDay,
+)
+    ensures { Draws W.taken W.has_failed sink.old sink.new (form_head language place day.now) }
+{
+    draw(sink, FORM_ID);
+    draw_form_number(sink, language, place);
+    draw_form_title(sink, language, day);
+}
+
+/// Writes what stands after `form` in the name of a form's sheet.
+pub(crate) fn draw_form_number<W: Sink>(sink: &mut W, language: Language, place: Option<u8>)
+    ensures { Draws W.taken W.has_failed sink.old sink.new (form_number place) }
+{
+    match place {
+        Some(number) => fill(
+            sink,
+            language,
+            FORM_NUMBER,
+            &[Value::Number(u16::from(number))],
+        ),
+        None => draw(sink, ""),
+    }
+}
+
+fn draw_form_title<W: Sink>(sink: &mut W, language: Language, day: &SheetDay)
+    ensures { Draws W.taken W.has_failed sink.old sink.new (form_title language day.now) }
 {
     fill_in(
         sink,

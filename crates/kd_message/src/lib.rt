@@ -1,6 +1,7 @@
 //! Pages that show, step by step, how an operator enciphers or deciphers a message by hand on the real machine.
 #![tactic(auto)]
 
+mod booklet;
 mod counted;
 mod form_sheet;
 mod groups;
@@ -15,6 +16,7 @@ mod text_sheet;
 pub mod texts;
 mod unread;
 
+pub use booklet::{OrderFault, OrderFile, write_send_booklet};
 pub use kd_pictures::Language;
 pub use receiving::write_receive_page;
 pub use sending::write_send_page;

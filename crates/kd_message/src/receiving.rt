@@ -406,7 +406,7 @@ fn name_at(results: Results, day: &SheetDay, place: u8, numbers: &PartNumbers) -
     PartName {
         model: day.model(),
         day: day.day(),
-        sheet: place,
+        sheet: u16::from(place),
         part: numbers.part,
         parts: numbers.parts,
         results,

@@ -10,15 +10,16 @@ ghost use Rattle.kd_pictures.specs.Drawing.{Draws};
 ghost use Rattle.kd_pictures.specs.Language.{in_language};
 ghost use Rattle.kd_part_sheet.specs.PartWork.{Work};
 ghost use Rattle.kd_message.specs.FormSheet.{form_part};
-ghost use Rattle.kd_message.specs.SendPage.{AreKeysOfText, AreMade, AreWorks, HasForm, IsSendPage, IsSendPageAnswer};
-ghost use Rattle.kd_message.specs.SendPage.{form_parts, list_head, list_text, listed_sheet, listed_text};
-ghost use Rattle.kd_message.specs.SendPage.{part_name, part_sheets, sheet_to_send};
-ghost use Rattle.kd_message.specs.SendPage.{send_text, text_pieces, title_text};
+ghost use Rattle.kd_message.specs.SendPage.{AreKeysOfText, AreMade, AreOrderSheets, AreWorks, HasForm, IsSendPage};
+ghost use Rattle.kd_message.specs.SendPage.{IsSendPageAnswer, form_parts, list_head, list_text, listed_sheet};
+ghost use Rattle.kd_message.specs.SendPage.{listed_text, name_in_place, part_name, part_sheets, sheet_number};
+ghost use Rattle.kd_message.specs.SendPage.{sheet_to_send, sheets_text, text_pieces, title_text};
 
-use crate::form_sheet::{draw_form_head, draw_form_part};
+use crate::form_sheet::{draw_form_head, draw_form_number, draw_form_part};
 use crate::order::{read_head, take_piece};
 use crate::texts::{
-    ARTICLE_END, LIST_END_WITH_FORM, LIST_OF_ONE, LIST_OF_SEVERAL, LISTED_PART, TITLE_TO_SEND,
+    ARTICLE_END, LIST_END_WITH_FORM, LIST_OF_ONE, LIST_OF_SEVERAL, LISTED_FORM, LISTED_PART,
+    TITLE_TO_SEND,
 };
 use kd_form::day_machine::DayMachine;
 use kd_form::keys::Keys;
@@ -79,17 +80,39 @@ fn draw_page<W: Sink>(
         → (page : List ℕ) × IsSendPage results language day.now order.now form page
         × Draws W.taken W.has_failed sink.old sink.new page }
 {
-    let mut reader = HeadReader::new();
-    let text = read_head(&mut reader, day, order);
-    draw_file(sink, language, results, day, reader.keys(), text);
+    draw_title(sink, language, TITLE_TO_SEND, day);
+    draw_sheets_of(sink, language, results, day, None, order);
+    draw(sink, FOOT);
 }
 
-/// Writes the page of an order that has the keys `keys` and the text `text`.
-fn draw_file<W: Sink>(
+/// Writes the sheets of an order that `send` accepts.
+///
+/// `place` is the order's number in a file of several orders, and `None` in a file of one order.
+pub(crate) fn draw_sheets_of<W: Sink>(
     sink: &mut W,
     language: Language,
     results: Results,
     day: &SheetDay,
+    place: Option<u8>,
+    order: &[u8],
+)
+    requires { HasForm day.now order.now }
+    ensures { (form : List ℕ) → IsFormOf day.now order.now form
+        → (sheets : List ℕ) × AreOrderSheets results language day.now place order.now form sheets
+        × Draws W.taken W.has_failed sink.old sink.new sheets }
+{
+    let mut reader = HeadReader::new();
+    let text = read_head(&mut reader, day, order);
+    draw_sheets(sink, language, results, day, place, reader.keys(), text);
+}
+
+/// Writes the sheets of an order that has the keys `keys` and the text `text`.
+fn draw_sheets<W: Sink>(
+    sink: &mut W,
+    language: Language,
+    results: Results,
+    day: &SheetDay,
+    place: Option<u8>,
     keys: &[Keys],
     text: &[u8],
 )
@@ -98,16 +121,14 @@ fn draw_file<W: Sink>(
         × AreWorks day.now keys.now (text_pieces day.now text.now) works
         × AreMade day.now 1 (length keys.now) keys.now (text_pieces day.now text.now) made
         × Draws W.taken W.has_failed sink.old sink.new
-        (send_text results language day.now (length keys.now) works made) }
+        (sheets_text results language day.now place (length keys.now) works made) }
 {
     let parts = keys.len() as u8;
-    draw_title(sink, language, TITLE_TO_SEND, day);
-    draw_list(sink, language, parts);
-    draw_part_sheets(sink, language, results, day, 1, parts, keys, text);
-    draw_form_head(sink, language, day);
+    draw_list(sink, language, place, parts);
+    draw_part_sheets(sink, language, results, day, place, 1, parts, keys, text);
+    draw_form_head(sink, language, place, day);
     draw_form_parts(sink, language, results, day, 1, parts, keys, text);
     draw(sink, ARTICLE_END);
-    draw(sink, FOOT);
 }
 
 /// Writes the head of the file; `title` is the template of its title.
@@ -131,12 +152,14 @@ pub(crate) fn draw_title<W: Sink>(sink: &mut W, language: Language, title: Text,
 }
 
 /// Writes the list of the sheets.
-fn draw_list<W: Sink>(sink: &mut W, language: Language, parts: u8)
+fn draw_list<W: Sink>(sink: &mut W, language: Language, place: Option<u8>, parts: u8)
     requires { parts ≤ 99 }
-    ensures { Draws W.taken W.has_failed sink.old sink.new (list_text language parts) }
+    ensures { Draws W.taken W.has_failed sink.old sink.new (list_text language place parts) }
 {
     draw(sink, list_head(language, u16::from(parts)));
-    draw_listed(sink, language, 1, parts, parts);
+    draw_listed(sink, language, place, 1, parts, parts);
+    draw(sink, LISTED_FORM);
+    draw_form_number(sink, language, place);
     draw_in(sink, language, LIST_END_WITH_FORM);
 }
 
@@ -152,14 +175,33 @@ pub(crate) fn list_head(language: Language, parts: u16) -> &'static str
 }
 
 /// Writes the lines for `count` parts in the list of the sheets, from part number `part` on.
-fn draw_listed<W: Sink>(sink: &mut W, language: Language, part: u8, parts: u8, count: u8)
+fn draw_listed<W: Sink>(
+    sink: &mut W,
+    language: Language,
+    place: Option<u8>,
+    part: u8,
+    parts: u8,
+    count: u8,
+)
     requires { part + count ≤ 100 }
     ensures { Draws W.taken W.has_failed sink.old sink.new
-        (flat_map (listed_text language parts) (range_with_len part count)) }
+        (flat_map (listed_text language place parts) (range_with_len part count)) }
 {
     if count > 0 {
-        draw_listed_part(sink, language, part, part, parts);
-        draw_listed(sink, language, part + 1, parts, count - 1);
+        draw_listed_part(sink, language, sheet_number(place, part), part, parts);
+        draw_listed(sink, language, place, part + 1, parts, count - 1);
+    }
+}
+
+/// The number of a part's sheet, to which links lead.
+///
+/// An order has at most 99 parts, so no two sheets in a file have the same number.
+fn sheet_number(place: Option<u8>, part: u8) -> u16
+    ensures { result ≡ sheet_number place part }
+{
+    match place {
+        Some(number) => u16::from(number) * 100 + u16::from(part),
+        None => u16::from(part),
     }
 }
 
@@ -167,7 +209,7 @@ fn draw_listed<W: Sink>(sink: &mut W, language: Language, part: u8, parts: u8, c
 pub(crate) fn draw_listed_part<W: Sink>(
     sink: &mut W,
     language: Language,
-    sheet: u8,
+    sheet: u16,
     part: u8,
     parts: u8,
 )
@@ -179,7 +221,7 @@ pub(crate) fn draw_listed_part<W: Sink>(
         language,
         LISTED_PART,
         &[
-            Value::Number(u16::from(sheet)),
+            Value::Number(sheet),
             Value::Number(u16::from(part)),
             Value::Number(u16::from(parts)),
         ],
@@ -192,6 +234,7 @@ fn draw_part_sheets<W: Sink>(
     language: Language,
     results: Results,
     day: &SheetDay,
+    place: Option<u8>,
     part: u8,
     parts: u8,
     keys: &[Keys],
@@ -200,7 +243,7 @@ fn draw_part_sheets<W: Sink>(
     requires { AreKeysOfText day.now part parts keys.now text.now }
     ensures { (works : List Work) × AreWorks day.now keys.now (text_pieces day.now text.now) works
         × Draws W.taken W.has_failed sink.old sink.new
-        (part_sheets results language day.now part parts works) }
+        (part_sheets results language day.now place part parts works) }
 {
     if let [first, rest @ ..] = keys {
         let (piece, later) = take_piece(day, text);
@@ -210,11 +253,21 @@ fn draw_part_sheets<W: Sink>(
             language,
             sheet_to_send(day.model()),
             day,
-            part_name(results, day, part, parts),
+            name_in_place(results, day, place, part, parts),
             NO_WARNINGS,
             &work,
         );
-        draw_part_sheets(sink, language, results, day, part + 1, parts, rest, later);
+        draw_part_sheets(
+            sink,
+            language,
+            results,
+            day,
+            place,
+            part + 1,
+            parts,
+            rest,
+            later,
+        );
     }
 }
 
@@ -242,10 +295,26 @@ pub(crate) fn part_name(results: Results, day: &SheetDay, part: u8, parts: u8) -
     PartName {
         model: day.model(),
         day: day.day(),
-        sheet: part,
+        sheet: u16::from(part),
         part,
         parts,
         results,
+    }
+}
+
+/// The values in the head of a part's sheet. `place` is the order's number in a file of several orders.
+fn name_in_place(
+    results: Results,
+    day: &SheetDay,
+    place: Option<u8>,
+    part: u8,
+    parts: u8,
+) -> PartName
+    ensures { result ≡ name_in_place results day.now place part parts }
+{
+    PartName {
+        sheet: sheet_number(place, part),
+        ..part_name(results, day, part, parts)
     }
 }
 

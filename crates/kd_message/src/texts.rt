@@ -66,11 +66,13 @@ pub const LONE_ASK: Text = (
     "<label><input type=checkbox> diesen Teil wiederholen lassen: <b>",
 );
 
-/// The end of the list of the sheets, with a link to the form. The next text is the list's end with a link to the
-/// message's text.
+/// The end of the list of the sheets, with a link to the form. The text after `#form` stands between these two texts.
+/// The next text is the list's end with a link to the message's text.
+pub const LISTED_FORM: &str = "<li><a href=\"#form";
+
 pub const LIST_END_WITH_FORM: Text = (
-    "<li><a href=\"#form\">Form</a>\n</ul>\n</nav>\n",
-    "<li><a href=\"#form\">Funkspruch</a>\n</ul>\n</nav>\n",
+    "\">Form</a>\n</ul>\n</nav>\n",
+    "\">Funkspruch</a>\n</ul>\n</nav>\n",
 );
 
 pub const LIST_END_WITH_TEXT: Text = (
@@ -304,10 +306,13 @@ pub const NO_INTERNAL_KEY: Text = (
     "Die Kennbuchstaben ergeben keinen inneren Schlüssel.",
 );
 
-/// The head of the sheet with the form for the radio. The values are the model and the day.
+/// The head of the sheet with the form for the radio. The text after `id=form` stands between these two texts. The
+/// values are the model and the day.
+pub const FORM_ID: &str = "<article id=form";
+
 pub const FORM: Text = (
-    "<article id=form class=form>\n<header>\n<h1>~, day ~: form for the radio</h1>\n<p class=fields><span>To</span><span>From</span><span>Time</span><span>Sent by</span></p>\n</header>\n",
-    "<article id=form class=form>\n<header>\n<h1>~, Tag ~: Funkspruch</h1>\n<p class=fields><span>An</span><span>Von</span><span>Uhrzeit</span><span>Befördert durch</span></p>\n</header>\n",
+    " class=form>\n<header>\n<h1>~, day ~: form for the radio</h1>\n<p class=fields><span>To</span><span>From</span><span>Time</span><span>Sent by</span></p>\n</header>\n",
+    " class=form>\n<header>\n<h1>~, Tag ~: Funkspruch</h1>\n<p class=fields><span>An</span><span>Von</span><span>Uhrzeit</span><span>Befördert durch</span></p>\n</header>\n",
 );
 
 /// The head of a part of the form. The first values are the part's number, the number of parts, the model, and the day.
@@ -349,6 +354,29 @@ pub const FORM_PIN_NOTE: Text = (
 
 /// The end of the sheet with the form, and of the sheet with the text.
 pub const ARTICLE_END: &str = "</article>\n";
+
+// ---- A file of several orders.
+
+/// In a file of several orders, the text after `form` in the name of a form's sheet. The value is the order's number.
+pub const FORM_NUMBER: &str = "-~";
+
+/// The start of the list of the orders. The values are the model, the day, and the number of orders.
+pub const ORDERS: Text = (
+    "<nav class=days aria-label=\"Orders\">\n<p>~, day ~: ~ orders</p>\n<ul>\n",
+    "<nav class=days aria-label=\"Aufträge\">\n<p>~, Tag ~: ~ Aufträge</p>\n<ul>\n",
+);
+
+/// An order in the list of the orders: the text before its name, and the text after it. The value is the order's
+/// number.
+pub const LISTED_ORDER: &str = "<li><a href=\"#order-~\">";
+
+pub const LISTED_ORDER_END: &str = "</a>\n";
+
+/// The start of an order's page: the text before the order's name, and the text after it. The value is the order's
+/// number.
+pub const ORDER_PAGE: &str = "<article id=order-~>\n<h1>";
+
+pub const ORDER_NAME_END: &str = "</h1>\n";
 
 // ---- What is told on standard error.
 

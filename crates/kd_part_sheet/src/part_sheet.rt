@@ -36,9 +36,8 @@ pub struct PartName {
     pub model: Model,
     /// The day's number.
     pub day: u8,
-    /// The number of the part's sheet, by which links find the sheet. If the parts are of one message, this is the
-    /// part's number. Otherwise it is the part's place in the order of arrival.
-    pub sheet: u8,
+    /// The number of the part's sheet, to which links lead. No two sheets in a file have the same number.
+    pub sheet: u16,
     /// The part's number, counted from 1.
     pub part: u8,
     /// How many parts the message has.
@@ -127,7 +126,7 @@ fn draw_head<W: Sink>(sink: &mut W, language: Language, sheet: Sheet, name: Part
         language,
         sheet.text(language, HEAD),
         &[
-            Value::Number(u16::from(name.sheet)),
+            Value::Number(name.sheet),
             Value::Model(name.model),
             Value::Number(u16::from(name.day)),
             Value::Number(u16::from(name.part)),

@@ -10,6 +10,9 @@ returns-in-Sheet-clause-untouched g c = not_device _ c.make_sheet.ensures.untouc
 pub returns-in-OnMachine-clause-untouched : goal.returns-in-OnMachine-clause-untouched
 returns-in-OnMachine-clause-untouched g c = not_device _ c.do_task.ensures.untouched
 
+pub returns-in-Orders-clause-untouched : goal.returns-in-Orders-clause-untouched
+returns-in-Orders-clause-untouched g c = not_device _ c.send_orders.ensures.untouched
+
 pub returns-in-TypingPage-clause-untouched : goal.returns-in-TypingPage-clause-untouched
 returns-in-TypingPage-clause-untouched g c = not_device _ c.run_type.ensures.untouched
 

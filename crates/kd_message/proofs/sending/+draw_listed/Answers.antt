@@ -6,4 +6,4 @@ use Rattle.kd_message.proofs.sending.+draw_listed.Goals as goal
 
 pub returns-then-count-gt0 : goal.returns-then-count-gt0
 returns-then-count-gt0 g t c =
-    joined c.draw_listed_part.ensures c.draw_listed.ensures (grind (arith, common_steps, range_first))
+    joined (rw c.sheet_number.ensures at c.draw_listed_part.ensures) c.draw_listed.ensures (grind (arith, common_steps, range_first))

@@ -33,7 +33,7 @@ returns-in-len1-up g t c =
     (later_keys c.args.keys.now) c.args.text.now c.take_piece-piece.result.0.items c.take_piece-piece.result.1.now
     split c.take_piece-piece.ensures.piece
     c.take_piece-piece.ensures.rest c.requires in
-    sheets_next _ _ _ _ _ c.work_of-work.result split next.cut
+    sheets_next _ _ _ _ _ _ c.work_of-work.result split next.cut
     (rw c.as_slice.ensures.value at c.work_of-work.ensures.work)
-    (rw (c.part_name.ensures, c.sheet_to_send.ensures, c.model.ensures.value) at c.draw_part_sheet.ensures)
+    (rw (c.name_in_place.ensures, c.sheet_to_send.ensures, c.model.ensures.value) at c.draw_part_sheet.ensures)
     c.draw_part_sheets.ensures

@@ -7,5 +7,5 @@ use Rattle.kd_message.proofs.sending.draw_list.Goals as goal
 pub returns : goal.returns
 unfolding list_text
 returns g c =
-    joined (both c.draw.ensures c.draw_listed.ensures) c.draw_in.ensures
+    joined (both (both (both c.draw.ensures c.draw_listed.ensures) c.draw-2.ensures) c.draw_form_number.ensures) c.draw_in.ensures
     (grind (arith, common_steps))

@@ -1,14 +1,14 @@
-use Rattle.kd_message.proofs.SendPages.{keys_of_text, page_made}
+use Rattle.std.proofs.Common.{arith, refl}
+use Rattle.std.proofs.lemmas.Grind.{common_steps}
+use Rattle.kd_pictures.proofs.Drawings.{both, joined}
+unfoldable use Rattle.kd_message.specs.SendPage.{send_text}
 use Rattle.kd_message.proofs.sending.draw_page.Goals as goal
 
-pub draw_file-requires : goal.draw_file-requires
-draw_file-requires g c =
-    let (form, is) = c.requires in
-    let (head, read) = c.read_head-text.ensures in
-    rw c.keys.ensures (keys_of_text _ _ form head _ _ is read)
-
 pub returns : goal.returns
+unfolding send_text
 returns g c = λ form is.
-    let (head, read) = c.read_head-text.ensures in
-    let (works, made, worked, are, draws) = rw c.keys.ensures at c.draw_file.ensures in
-    (_, page_made _ _ _ _ form head _ _ works made is read worked are, draws)
+    let (sheets, are, draws) = c.draw_sheets_of.ensures form is in (
+      _,
+      record { sheets = sheets; are_sheets = are; is_page = refl },
+      both (both c.draw_title.ensures draws) c.draw.ensures,
+    )

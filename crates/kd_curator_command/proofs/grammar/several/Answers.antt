@@ -1,0 +1,14 @@
+use Rattle.kd_curator_command.proofs.Prelude.{ap, ◌∙◌, rule_of, Rule, Some, true}
+use Rattle.clap.specs.declared.builder.action.ArgAction.TheVariants.{Append}
+use Rattle.kd_curator_command.proofs.grammar.several.Goals as goal
+
+abbrev required_rule : Rule → Rule
+required_rule rule = record rule { required = true }
+
+abbrev append_rule : Rule → Rule
+append_rule rule = record rule { action = Some Append }
+
+pub returns-clause-rule : goal.returns-clause-rule
+returns-clause-rule c =
+    ap rule_of c.help.ensures ∙ ap rule_of c.action.ensures
+    ∙ ap append_rule (ap rule_of c.required.ensures ∙ ap required_rule c.new.ensures.rule)
