@@ -1,4 +1,4 @@
--- How often a column is compared with a row while `n` trees give `n` rows their columns.
+-- How often `assign` compares a column with a row. It grows a tree for each of `n` rows.
 use Rattle.std.specs.Prelude.{ℕ, zero, suc, ◌+◌, ◌-◌, ◌*◌, ◌/◌, ◌≤◌}
 
 -- `scans`, the number of comparisons, is at least `n * n`: one for each cell of the table. `scans` is at most 1 + 4 +

@@ -1,4 +1,4 @@
--- Laws of cards: their texts, the prices that bound the length of lists, and cards that prove themselves.
+-- Laws of cards: their texts, how few settings can suffice, and cards that prove themselves.
 use Rattle.kd_card.specs.Proving.{AreSettingsNeeded, AreModelPrices, ProvesByNumber, Proves, priced_count}
 use Rattle.kd_card.specs.Shortest.{IsShortest, LeadsToTheDay, ShowShortest}
 use Rattle.kd_card.specs.declared.prices.Version.TheVariants.{ByKind}

@@ -1,4 +1,4 @@
-//! Laws of cards: their texts, how short a list can be, and cards that prove themselves.
+//! Laws of cards: their texts, how few settings can suffice, and cards that prove themselves.
 ghost use Rattle.kd_card.specs.Laws.{TextsDetermineCards, NoCardBeginsAnother, ReadingGivesCards, CardsHaveNoFault};
 ghost use Rattle.kd_card.specs.Laws.{OneCardFault, LooseThingsAreCounted, AsFewAreNeeded, FittingPricesBoundLists};
 ghost use Rattle.kd_card.specs.Laws.{ProvingCardsAreAsLong, ProvingCardsAreShortest, ProvingPricesAreTight};

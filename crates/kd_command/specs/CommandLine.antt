@@ -128,7 +128,8 @@ pub record HaveSheetAndDay (rows : List Row) (sheet : List ℕ) (day : ℕ) : Ty
   pub day_word : first_of (codes "DAY") rows ≡ Some (decimal day)
   pub of_month : IsDayNumber day
 
--- If the task needs a third file, such as CARD for `check`, the arguments in the rows give this file's name.
+-- If the task needs a third file, such as CARD for `check`, one of the arguments has this file's
+-- name.
 abbrev pub HasTaskFile : List Row → NamedTask → Type 0
 HasTaskFile rows tasks.Card = Unit {0}
 HasTaskFile rows (tasks.Check card) = first_of (codes "CARD") rows ≡ Some card

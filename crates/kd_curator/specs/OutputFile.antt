@@ -37,8 +37,9 @@ pub record IsRunToFile (l : Language) (words : List (List ℕ)) (known : Option 
   pub fresh : written.had_failed ≡ false
   pub run : IsRun l words known asked written (Unit {0}) errors left answer
 
--- Why there is no output file `name`, though a new file was begun. `before` are the files before the call. If the whole
--- output was written, the new file couldn't get its name. Otherwise a write to the new file has failed (`failed`).
+-- Why there is no output file `name` after a new file was begun. `before` are the files before the
+-- call. If the whole output was written, the new file couldn't be renamed to `name`. Otherwise, a
+-- write to the new file failed, and `failed` is true.
 abbrev pub IsWhyUnwritten : Option FilesByName → List ℕ → Bool → Bool → NewFileFault → Type 0
 IsWhyUnwritten before name true failed fault = IsWhyUnnamed before name fault
 IsWhyUnwritten before name false failed fault = (failed ≡ true) × (fault ≡ new_files.Device)
@@ -98,10 +99,10 @@ pub data RunsTo (l : Language) (words : List (List ℕ)) (known : Option (List �
 abbrev pub IsMeantBySome : NamedCommand → Type 0
 IsMeantBySome command = (words : List (List ℕ)) × IsCommandLineOf words command
 
--- How a command that wrote `bytes` to a new file changes the files. The first truth value, `failed`, says whether a
--- write failed. The second says whether the whole output was written. If it was written, and the result is `Ok`, there
--- is a new file `name` with these bytes. Otherwise, the files are as before. A fault in the result says why there is no
--- new file.
+-- How a command that wrote `bytes` to a new file changes the files. The first truth value,
+-- `failed`, says whether a write failed. The second says whether the whole output was written. If
+-- so, and if the result is `Ok`, there is a new file `name` with `bytes`. Otherwise, the files are
+-- as before. A fault in the result says why there is no new file.
 abbrev pub EndsFile : Option FilesByName → Option FilesByName → List ℕ → Option (List ℕ) → Bool → Bool
     → Result (Unit {0}) NewFileFault → Type 0
 EndsFile before after name bytes failed true (Ok done) = AddsFile before after name bytes

@@ -79,7 +79,7 @@ refused_message fault = refused_order 2 fault
 abbrev pub refused_among : OrderFault → Refused
 refused_among fault = refused_order (fault.place + 2) fault.why
 
--- the fault of a refusal, for each reason why a day can't be planned
+-- the fault in the refusal of a day; the argument says why the day can't be planned
 abbrev pub fault_of_plan : NoPlan → PageFault
 fault_of_plan plans.NoSuchDay = faults.NoSuchDay
 fault_of_plan plans.OtherModel = faults.OtherModel
@@ -133,8 +133,8 @@ has_written (Err refused) = comes_after_writing refused.fault
 
 -- ---- What inner functions answer. No public contract cites these definitions.
 
--- the refusal for the fault of a call with output; if nothing was written, the function in the first argument gives
--- this refusal
+-- the refusal after a call that writes: `Device` if a write failed; otherwise, the first argument
+-- turns the call's fault into the refusal
 abbrev pub refused_by : {F : Type 0} → (F → Refused) → WriteFault F → Refused
 refused_by refused (Unwritten fault) = refused fault
 refused_by refused Device = refused_device

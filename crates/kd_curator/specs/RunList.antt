@@ -14,9 +14,9 @@ use Rattle.kd_curator.specs.declared.fault.Refused.{Refused}
 
 -- The cases of `run_list`, for the day `number`:
 -- - `NoList`: the day can't be planned, and the answer says why.
--- - `Settings`: the settings of a plan for the day were written, in the order of a page. If the sink failed, only a
---   prefix of their text was written. The plan leads from machine `m` to machine `n`. If the whole text was written,
---   reading the text gives these settings.
+-- - `Settings`: the settings of a plan for the day were written, in the order of the day's page. If
+--   the sink failed, only a prefix of their text was written. The plan leads from machine `m` to
+--   machine `n`. If the whole text was written, reading the text gives these settings.
 pub data WritesList (month : List (Option Day)) (m : Parts) (number : ℕ) (sink : Port)
     (answer : Result (Unit {0}) Refused) : Type 0 where
   NoList : (fault : DayFault) → IsDayFault (model_of m) month number fault

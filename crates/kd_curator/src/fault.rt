@@ -136,8 +136,8 @@ impl Refused {
         }
     }
 
-    /// The refusal of the command `send` for several orders that names this fault. The first order is the command's
-    /// third file.
+    /// The refusal of the command `send` with several orders, for the fault `fault`. The first
+    /// order is the command's third file.
     pub(crate) fn of_orders(fault: WriteFault<OrderFault>) -> Refused
         ensures { result ≡ refused_by refused_among fault }
     {

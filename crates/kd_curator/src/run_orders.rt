@@ -24,8 +24,8 @@ use std::alloc::Global;
 /// Writes a file with a page for each of `orders`, for sending on the machine in the file `machine`. The machine must
 /// be on the key of the day `number` of the sheet `sheet`.
 ///
-/// Faults are tested in the order of `run_send`, the orders one after another. For all faults but `Device`, nothing is
-/// written. For `Device`, only a prefix of the file is written.
+/// Faults are tested as in `run_send`, and the orders are tested one after another. For all faults
+/// but `Device`, nothing is written. For `Device`, only a prefix of the file is written.
 pub fn run_orders<W: Sink>(
     alloc: Global,
     language: Language,

@@ -45,9 +45,9 @@ IsStreamedOn m s message source sink answer = IsAnswered (StreamsOnKey m s messa
 abbrev pub Sends : Parts → Day → Port → Port → Result (Unit {0}) DeskFault → Type 0
 Sends m s order sink answer = IsStreamedOn m s (order_message s) order sink answer
 
--- How the forms and the orders of day `s` agree. If a form is made from an order, the form's text is the text that the
--- receiver must get. No form made from an order has a fault. If no further bytes can change a form's fault, no form
--- made from an order begins with this form.
+-- How the forms and the orders of day `s` agree. If a form is made from an order, the form's text
+-- is the text that the receiver must get. A form made from an order has no fault. No prefix of this
+-- form has a fault that stays whatever bytes follow.
 pub record FormsAgreeWithOrders (s : Day) : Type 0 where
   pub back : (form text order given : List ℕ) → IsTextOf s form text → IsFormOf s order form
       → IsPlaintextOf s order given → text ≡ given

@@ -29,8 +29,8 @@ abbrev pub IsEachOnItsWheel : List ℕ → Type 0
 IsEachOnItsWheel letters = (wheel : ℕ) → 1 ≤ wheel → wheel ≤ 6
     → Contains (ring_of wheel) (slice_index letters (wheel - 1))
 
--- The place of a letter on pin wheel `wheel`, counted from 0. This letter is letter number `wheel` of the list
--- `letters`, counted from 1. The place is 0 if the wheel lacks the letter.
+-- The place on pin wheel `wheel` of the wheel's letter, counted from 0. `letters` has each wheel's
+-- letter, from wheel 1 on. The place is 0 if the wheel lacks the letter.
 abbrev pub shown_place : List ℕ → ℕ → ℕ
 shown_place letters wheel = unwrap_or (place_on (ring_of wheel) (slice_index letters (wheel - 1))) 0
 

@@ -26,7 +26,7 @@ abbrev pub next_part_start : PartStart → ℕ → List ℕ → PartStart
 next_part_start p count part = record
     { number = p.number + 1; expected = Some count; bytes_before = p.bytes_before + length part }
 
--- the type of statements such as `IsAnswerAt`: about a form's unread parts, and the place where these parts start
+-- the type of statements about a form's unread parts and their start, such as `IsAnswerAt`
 abbrev pub PartsProperty : Type 1
 PartsProperty = PartStart → List (List ℕ) → Type 0
 

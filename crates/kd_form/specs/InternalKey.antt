@@ -7,7 +7,7 @@ use Rattle.std.specs.Prelude.{◌≡◌, ◌++◌, Contains, ◌⊎◌, ℕ, ◌
 use Rattle.kd_tables.specs.Rings.{ring_of}
 use Rattle.kd_state.specs.Machine.{AreOnWheels}
 
--- The places rise strictly. Each place is at least `first` and below `end`.
+-- The places of the picked letters rise strictly. Each place is at least `first` and below `end`.
 abbrev pub AreRising : ℕ → ℕ → List ℕ → Type 0
 AreRising first end [] = Unit {0}
 AreRising first end (place ∷ places) = (first ≤ place) × (place < end) × AreRising (place + 1) end places
@@ -26,8 +26,9 @@ pub record ArePicked (letters places picked : List ℕ) : Type 0 where
   pub taken : picked ≡ map (λ place. slice_index letters place) places
   pub on_wheels : AreOnWheels picked
 
--- `key` is the internal key, picked from `letters`: each wheel in turn takes the next letter that is on the wheel. So
--- the six places of the picked letters are the lexicographically first that `ArePicked` allows.
+-- `key` is the internal key, picked from `letters`: each wheel in turn takes the next letter that
+-- is on the wheel. So the letters' six places are the lexicographically first list of places that
+-- `ArePicked` allows.
 pub record IsInternalKey (letters key : List ℕ) : Type 0 where
   pub places : List ℕ
   pub picked : ArePicked letters places key

@@ -71,8 +71,8 @@ HasBeenFed m new bytes text (Ok _) = HasReadSoFar m new bytes text
 HasBeenFed m new bytes text (Err (Refused fault)) = HasFaultForGood m bytes text fault
 HasBeenFed m new bytes text (Err Device) = IsPrefixOfDue m bytes text
 
--- A call fed bytes to the reader. `bytes` are all bytes of the message up to the end of the call. `text` had been
--- written before the call. In the call, the reader's further output was written to `sink`.
+-- A call fed the reader, and wrote the reader's output to `sink`. `bytes` are all bytes of the
+-- message so far, with the call's bytes. `text` had been written before the call.
 pub record IsFed (m : Message) (new : List ℕ → List ℕ → Type 0) (bytes text : List ℕ) (sink : Port)
     (answer : Result (Unit {0}) Interruption) : Type 0 where
   pub made : List ℕ

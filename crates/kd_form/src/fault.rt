@@ -10,7 +10,7 @@ use thiserror::Error;
 /// Why a typed text, an order or a form is refused. Bytes and parts are counted from 1.
 #[derive(Clone, Copy, Debug, PartialEq, Eq, Error)]
 pub enum FormFault {
-    /// A slot of the machine is empty, or a cable has one letter.
+    /// A slot of the machine is empty, or a cable has only one letter.
     NotReady,
     /// A read from the source or a write to the sink failed.
     Device,
@@ -29,7 +29,7 @@ pub enum FormFault {
     /// This part's group isn't one of the day's groups. On the Converter M-209, this part's list letters aren't the
     /// day's.
     WrongGroup(u8),
-    /// The twelve letters from which this part's internal key is picked don't give each wheel a letter.
+    /// This part's chosen and external letters give no internal key.
     IndicatorSpent(u8),
     /// This part doesn't begin with a valid heading for the day's model.
     BadHeading(u8),

@@ -1,4 +1,4 @@
--- Why a file can't be read or opened, and the text of this refusal.
+-- The faults of reading or opening a file, and the text of each fault.
 -- Test: readers_give_what_they_have_or_fail, tests/cases/desk-program.toml
 use Rattle.std.specs.Prelude.{ℕ, List}
 use Rattle.std.specs.declared.io.ErrorKind.{ErrorKind}

@@ -1,4 +1,5 @@
--- The known bytes of files. A file is either read whole, or opened and then streamed.
+-- Files as contracts see them: their bytes, if known. A file is either read whole, or opened and
+-- then streamed.
 -- Code: `read_whole` reads a file chunk by chunk, into a vector that grows.
 -- Test: tests/cases/desk-program.toml, tests/cases/desk-messages.toml
 use Rattle.std.specs.Prelude.{◌≡◌, ℕ, ◌+◌, ◌≤◌, nat_le, Bool, true, false, IsTrue, List, [], ◌∷◌, ◌++◌, map}

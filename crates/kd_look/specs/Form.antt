@@ -1,6 +1,6 @@
--- The first fault of a form, among the faults of its headings, its signs and its counts. The faults come in the order
--- of `desk receive`, but for those that the day or the machine shows, or the indicators. Indexes are counted from 0,
--- and parts from 1.
+-- The first fault of a form's headings, of its signs, or of its numbers of letters and parts.
+-- Faults are tested in the order of `desk receive`. Faults that only the day, the machine or the
+-- indicators show are left out. Indexes are counted from 0, and parts from 1.
 -- Test: tests/cases/curator-look.toml
 use Rattle.std.specs.Prelude.{codes, ℕ, suc, zero, ◌+◌, ◌-◌, ◌==◌, ◌&&◌, nat_le, not, Bool, false, List}
 use Rattle.std.specs.Prelude.{Option, Some, None, Result, Ok, Err, count_by, find, is_ok, length, option_map}
@@ -40,7 +40,7 @@ unfoldable pub heading_follows : List ℕ → ℕ → Bool
 heading_follows text index = fits_at text 10 index && is_ok (marks_end text (codes "PART ") (index + 1))
     && option_map_or (λ byte. nat_le 48 byte && nat_le byte 57) (slice_get text (index + 6)) false
 
--- the index after the body that begins at `body`: of the next heading line, or the form's length
+-- the end of the body that begins at `body`: the next heading line's index, or the form's length
 abbrev pub body_end : List ℕ → ℕ → ℕ
 body_end text body = option_map_or (λ index. index + 1)
     (find (heading_follows text) (range_with_len (body - 1) (length text - (body - 1)))) (length text)
@@ -51,7 +51,7 @@ body_signs text body end = option_map_or
     (λ place. Err (record { index = body + place; fault = BadByte (body + place + 1); reason = reasons.BodySign }))
     (wrong_sign (slice_range text body end)) (Ok tt)
 
--- whether the heading has the part's number, and as many parts as the first heading
+-- whether the heading gives part number `number`, and as many parts as the first heading gives
 abbrev pub has_due_numbers : Option FormHeading → ℕ → FormHeading → Bool
 has_due_numbers None number heading = heading.part == number
 has_due_numbers (Some first) number heading = heading.part == number && heading.parts == first.parts
@@ -77,7 +77,7 @@ part_at text first number index = do
       (record { index = index; fault = CountWrong number; reason = reasons.BodyCount })
   Ok (record { heading = heading; end = end })
 
--- the first heading of a form with the heading `own`, if `first` is the first heading before it
+-- the form's first heading: `first`, or `own` if no heading stands before `own`
 abbrev pub first_or : FormHeading → Option FormHeading → FormHeading
 first_or own None = own
 first_or own (Some first) = first

@@ -16,7 +16,7 @@ abbrev pub with_byte : Number → ℕ → Number
 with_byte number byte = if nat_le 48 byte && nat_le byte 57
     then record { value = number.value * 10 + (byte - 48); end = number.end + 1 } else number
 
--- the number with the digit after it appended; if no digit follows, the number itself
+-- the number, extended by the digit that follows it; if no digit follows, the number itself
 abbrev pub with_digit : List ℕ → Number → Number
 with_digit text number = option_map_or (with_byte number) (slice_get text number.end) number
 
@@ -24,15 +24,15 @@ with_digit text number = option_map_or (with_byte number) (slice_get text number
 unfoldable pub digits_at : List ℕ → ℕ → Number
 digits_at text index = with_digit text (with_digit text (with_digit text (record { value = 0; end = index })))
 
--- the number at `index`, which has at most three digits and doesn't begin with 0; or the byte that begins no number,
--- for which the mark is `#`
+-- the number at `index`, which has at most three digits and doesn't begin with 0; if no valid
+-- number is there, the wrong byte at `index`, with the mark `#`
 unfoldable pub number_at : List ℕ → ℕ → Result Number WrongByte
 number_at text index = if (digits_at text index).value == 0 then Err (record { index = index; mark = 35 })
     else if fits_at text 48 index then Err (record { index = index; mark = 35 })
     else Ok (digits_at text index)
 
--- the form of the machine's keys, by what follows the number of letters in a heading: nothing on a Converter, a word of
--- four letters on an M4
+-- the machine that a heading is for, shown by what follows the number of letters: nothing for a
+-- Converter, a word of four letters for an M4
 unfoldable pub heading_keys : List ℕ → ℕ → KeyLine
 heading_keys text index = if fits_at text 32 index
     then (if fits_at text 95 (index + 1) && fits_at text 95 (index + 2) && (fits_at text 95 (index + 3)
@@ -45,7 +45,7 @@ keys_pattern lines.ThreeSlots = codes " ___ ___"
 keys_pattern lines.FourSlots = codes " ____ ____"
 keys_pattern lines.Converter = []
 
--- the index after the end of a heading line at `index`; the form may end there
+-- the index after the line end at `index`; if the form ends at `index`, `index` itself
 unfoldable pub heading_end : List ℕ → ℕ → Result ℕ WrongByte
 heading_end text index = if index == length text then Ok index else end_of_line text index
 
@@ -59,8 +59,9 @@ abbrev pub is_letter_count : KeyLine → ℕ → Bool
 is_letter_count lines.Converter count = nat_le 25 count && nat_le count 520 && count % 5 == 0
 is_letter_count form count = nat_le 6 count && nat_le count 250
 
--- The heading at `index`, or the first byte that is wrong there. A number out of range is wrong at its first byte.
--- `first` has the form of the keys in the form's first heading, if there is an earlier heading.
+-- The heading at `index`, or the first byte that is wrong there. A number out of range is wrong at
+-- its first byte. `first` says which machine the form's first heading is for, if there is an
+-- earlier heading.
 unfoldable pub heading_at : List ℕ → Option KeyLine → ℕ → Result FormHeading WrongByte
 heading_at text first index = do
   start ← marks_end text (codes "PART ") index

@@ -1,5 +1,5 @@
--- What `look` says about an order or a form: the first fault that shows without a machine or, without such a fault,
--- what the message is.
+-- What `look` says about an order or a form. It names the first fault that shows without a machine.
+-- If no fault shows, it says what the message is.
 -- Test: tests/cases/curator-look.toml
 use Rattle.std.specs.Prelude.{codes, ℕ, ◌+◌, ◌++◌, ◌&&◌, nat_eq, nat_le, Bool, false, List, [], ◌∷◌, Option, Some, None}
 use Rattle.std.specs.Prelude.{Result, Ok, Err, slice_get, slice_index, take, if◌then◌else◌}
@@ -24,7 +24,7 @@ use Rattle.kd_look.specs.declared.message.order_head.KeyLine.TheVariants as line
 abbrev pub is_message : List ℕ → Bool
 is_message text = bytes_eq (take 5 text) (codes "PART ")
 
--- whether an order or a form is a form: a digit follows `PART `
+-- whether a message is a form: a digit follows `PART `; every other message is an order
 abbrev pub is_form : List ℕ → Bool
 is_form text = nat_le 48 (slice_index text 5) && nat_le (slice_index text 5) 57
 
@@ -83,7 +83,7 @@ unfoldable pub form_tests : List ℕ
 form_tests =
     codes ", without a fault in its headings, its signs and its counts\nnot looked at: whether its groups and indicators suit the day\n"
 
--- the machines for which an order or a form is, by the form of its keys
+-- the machines that an order or a form is for, in words
 unfoldable pub machine_name : KeyLine → List ℕ
 machine_name lines.ThreeSlots = codes "an Enigma I or an M3"
 machine_name lines.FourSlots = codes "an M4"
@@ -119,9 +119,9 @@ kind_words name kind keys tests = name ++ kind ++ machine_name keys ++ tests
 unfoldable pub number_line : List ℕ → ℕ → List ℕ
 number_line title number = titled title number ++ codes "\n"
 
--- The lines about an order without a fault that shows without a machine: the machine that the order is for, what was
--- looked at, how many parts the order makes, how many letters of text it has, and the group of each part. The text
--- begins at `start`.
+-- The lines about an order in which no fault was found: the machine that the order is for, what was
+-- looked at, how many parts the order makes, how many letters of text it has, and the group of each
+-- part. The text begins at `start`.
 unfoldable pub order_lines : List ℕ → List ℕ → ℕ → List ℕ
 order_lines name text start =
     kind_words name (codes ": an order for ") (key_line_of text) order_tests
@@ -129,19 +129,19 @@ order_lines name text start =
     ++ number_line (codes "letters of text: ") (letter_count text (key_line_of text) start)
     ++ flat_map (group_words text (key_line_of text)) (range_with_len 0 start)
 
--- the lines about an order, by what reading the order answers
+-- the lines about an order, made from the answer of reading the order
 abbrev pub order_words_for : List ℕ → List ℕ → Result ℕ MessageFault → List ℕ
 order_words_for name text (Ok start) = order_lines name text start
 order_words_for name text (Err found) = fault_line name text found
 
--- The lines about a form without a fault that shows without a machine: the machine that the form is for, what was
+-- The lines about a form in which no fault was found: the machine that the form is for, what was
 -- looked at, and how many parts the form has. `first` is the form's first heading.
 unfoldable pub form_lines : List ℕ → FormHeading → List ℕ
 form_lines name first =
     kind_words name (codes ": a form for ") first.keys form_tests
     ++ number_line (codes "parts: ") first.parts
 
--- the lines about a form, by what reading the form answers
+-- the lines about a form, made from the answer of reading the form
 abbrev pub form_words_for : List ℕ → List ℕ → Result FormHeading MessageFault → List ℕ
 form_words_for name text (Ok first) = form_lines name first
 form_words_for name text (Err found) = fault_line name text found

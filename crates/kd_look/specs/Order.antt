@@ -1,6 +1,6 @@
--- The first fault of an order, among the faults that show without a machine. The faults come in the order of
--- `desk send`, but for those that only the day or the machine shows: a wrong group, and keys without an internal key.
--- Indexes are counted from 0.
+-- The first fault that an order shows without a machine. Faults are tested in the order of
+-- `desk send`. Faults that only the day or the machine shows are left out: a wrong group, and keys
+-- that give no internal key. Indexes are counted from 0.
 -- Test: tests/cases/curator-look.toml
 use Rattle.std.specs.Prelude.{ℕ, ◌+◌, ◌-◌, ◌==◌, ◌&&◌, ◌||◌, nat_le, nat_lt, not, Bool, false, List}
 use Rattle.std.specs.Prelude.{Result, Ok, Err, count_by, drop, find, is_some, length, slice_get, take, if◌then◌else◌}

@@ -18,8 +18,8 @@ pattern_of lines.Converter = codes "PART _ ______"
 unfoldable pub has_four_letters : List ℕ → Bool
 has_four_letters text = fits_at text 95 5 && fits_at text 95 6 && (fits_at text 95 7 && fits_at text 95 8)
 
--- The machine for which an order is, by its first word of keys: one letter on a Converter, four letters on an M4. The
--- order is taken to be for a machine with three slots if the word is anything else.
+-- The machine that an order is for, shown by its first word of keys: one letter for a Converter,
+-- four letters for an M4. Any other word means a machine with three slots.
 unfoldable pub key_line_of : List ℕ → KeyLine
 key_line_of text =
     if fits_at text 32 6 then lines.Converter else if has_four_letters text then lines.FourSlots else lines.ThreeSlots

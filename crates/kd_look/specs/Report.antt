@@ -39,7 +39,7 @@ abbrev pub outcome_without : Bool → List ℕ → SheetFault → Outcome
 outcome_without true bytes fault = message_outcome bytes
 outcome_without false bytes fault = outcomes.Faulty (founds.File fault)
 
--- the outcome for a file, by the file's document or the fault of a file that isn't a document
+-- the outcome for a file, made from the file's document or, if the file isn't a document, its fault
 abbrev pub outcome_by : List ℕ → Result Members SheetFault → Outcome
 outcome_by bytes (Ok document) = outcome_of (file_in document)
 outcome_by bytes (Err fault) = outcome_without (is_message bytes) bytes fault

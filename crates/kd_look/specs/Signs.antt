@@ -34,6 +34,7 @@ marks_end text [] index = Ok index
 marks_end text (mark ∷ marks) index =
     if fits_at text mark index then marks_end text marks (index + 1) else Err (record { index = index; mark = mark })
 
--- the index after the line from `index` on, or the first byte that doesn't fit the line's pattern `marks`
+-- the index after the line that begins at `index`, or the first byte that doesn't fit the line's
+-- pattern `marks`
 abbrev pub line_end : List ℕ → List ℕ → ℕ → Result ℕ WrongByte
 line_end text marks index = marks_end text marks index >>= end_of_line text

@@ -88,8 +88,9 @@ fn no_lines(alloc: Global, findings: &[Finding]) -> Result<Vec<Option<usize>>, A
     Ok(lines)
 }
 
-/// For each of `findings`, the number of its line; `None` if this line ends after the byte at `index`. `lines` has the
-/// numbers of the lines that end before this byte.
+/// For each of `findings`, the number of its line, if the line's last byte is at `index` or before.
+///
+/// `lines` has only the numbers of lines whose last byte is before `index`.
 fn lines_after(
     alloc: Global,
     text: &[u8],

@@ -17,9 +17,9 @@ pub enum Outcome {
 /// A fault that was found in a file.
 #[derive(Clone, Copy, Debug, PartialEq, Eq)]
 pub enum FoundFault {
-    /// In a machine file or a key sheet, or in a file that is neither.
+    /// A fault in a file that is neither an order nor a form, such as a key sheet.
     File(SheetFault),
-    /// In an order or a form.
+    /// A fault in an order or a form.
     Message(FormFault),
 }
 

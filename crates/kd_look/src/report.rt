@@ -74,7 +74,7 @@ fn message_report(alloc: Global, bytes: &[u8], name: &str) -> Result<Report, All
     }
 }
 
-/// The outcome for an order or a form, by what reading it answers.
+/// The outcome for an order or a form, made from the answer of reading it.
 fn answer_outcome<A>(answer: &Result<A, MessageFault>) -> Outcome
     ensures { result ≡ answer_outcome answer.now }
 {

@@ -10,7 +10,7 @@ use kd_state::SheetDay;
 use kd_tables::Model;
 use std::alloc::AllocError;
 
-/// A sort of days: the days for one model, or the days of rotor machines that have no groups.
+/// A sort of days: the days for one model, or the rotor machines' days without groups.
 #[derive(Clone, Copy)]
 pub enum DaySort {
     /// The days for a model.

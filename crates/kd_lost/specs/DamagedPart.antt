@@ -110,9 +110,10 @@ IsDamagedTextAnswer s part = IsDamagedLinesAnswer s (first_line part) (body_of p
 
 -- ---- What the text of a part is, for all completions.
 
--- `shown` has the text of `part`, with `None` for each lost letter. A completion of `part` has some letter in place of
--- each lost letter. At least one completion has a heading and a text (`IsPartText`). Wherever no letter was lost,
--- `shown` has the letters of each of these texts. The group and the list letters aren't tested.
+-- `shown` has the text of `part`, with `None` for each lost letter. A completion of `part` has
+-- some letter in place of each lost letter. At least one completion has a heading and a text
+-- (`IsPartText`). Wherever no letter was lost, each completion's text has the letters of `shown`.
+-- The group and the list letters aren't tested.
 pub record IsPartShown (s : Day) (part : List ℕ) (shown : DamagedText) : Type 0 where
   pub whole : List ℕ
   pub heading : Heading

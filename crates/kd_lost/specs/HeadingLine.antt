@@ -16,14 +16,15 @@ abbrev pub after_blanks : List ℕ → List ℕ
 after_blanks [] = []
 after_blanks (byte ∷ bytes) = if is_blank byte then after_blanks bytes else byte ∷ bytes
 
--- the number of places of `word` at which the first line of `bytes` has the same sign; small letters mean capitals
+-- how many signs of `word` stand at the same place in the first line of `bytes`; small letters mean
+-- capitals
 unfoldable pub right_signs : List ℕ → List ℕ → ℕ
 right_signs (letter ∷ word) (byte ∷ bytes) =
     if byte == 10 then 0 else (if meant_byte byte == letter then 1 else 0) + right_signs word bytes
 right_signs [] bytes = 0
 right_signs (letter ∷ word) [] = 0
 
--- the number of places of `word` at which the first line of `bytes` has the same sign or a lost sign
+-- how many signs of `word` stand, or are lost, at the same place in the first line of `bytes`
 unfoldable pub fitting_signs : List ℕ → List ℕ → ℕ
 fitting_signs (letter ∷ word) (byte ∷ bytes) =
     if byte == 10 then 0

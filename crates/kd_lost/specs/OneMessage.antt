@@ -123,8 +123,9 @@ may_repeat one other =
 
 -- ---- The parts of a form.
 
--- Whether two headings can be of one message: both give the same number of parts, and their part numbers differ. If
--- `agree` is true, the part numbers may also be equal.
+-- Whether two headings can be of one message: both give the same number of parts, and their part
+-- numbers differ. If `agree` says that the parts may be one part, sent twice, the part numbers may
+-- also be equal.
 abbrev pub numbers_agree : PartNumbers → PartNumbers → Bool → Bool
 numbers_agree one other agree =
     one.parts == other.parts && (not (one.part == other.part) || agree)

@@ -10,7 +10,8 @@ use Rattle.kd_lost.specs.Texts.{is_of_other_day, lost_in, shown_text, text_withi
 
 -- ---- Numbers. Only a heading gives them: a part with a damaged heading has no number.
 
--- the number of parts that a heading gives; if the heading is damaged, `later`, the number that later headings give
+-- the number of parts that a heading gives; if the heading is damaged, the number `later` from
+-- later headings
 abbrev pub parts_or : ℕ → Option PartNumbers → ℕ
 parts_or later (Some numbers) = numbers.parts
 parts_or later None = later
@@ -49,7 +50,8 @@ times_of parts number = count_by (λ part. is_number number part.numbers) parts
 -- Whether the text `other` is better than the text `one`. It is better in these cases:
 -- - There is a text `other`, but no text `one`.
 -- - `other` has fewer lost letters.
--- - Both have equally many lost letters, and `counted` is true: only `other` was read with the heading's count.
+-- - Both have equally many lost letters, and `counted` says that only `other` was read with the
+--   heading's count.
 abbrev pub is_text_worse : Bool → Option DamagedText → Option DamagedText → Bool
 is_text_worse counted (Some one) (Some other) =
     nat_lt (lost_in other) (lost_in one) || (counted && lost_in other == lost_in one)
@@ -90,7 +92,8 @@ is_covered_by parts text (Some numbers) = text_within text (text_in (shown_under
 abbrev pub is_covered : List DamagedPart → DamagedPart → Bool
 is_covered parts part = is_covered_by parts (shown_text part) part.numbers
 
--- whether the letters of each part in `parts` are in the part of `all` that is shown under the same number
+-- whether the part shown under a number has all letters of each part in `parts` with this number;
+-- the shown part is one of `all`
 abbrev pub are_covered : List DamagedPart → List DamagedPart → Bool
 are_covered all [] = true
 are_covered all (part ∷ parts) = is_covered all part && are_covered all parts

@@ -12,8 +12,8 @@ use Rattle.kd_form.specs.PartMaking.{cipher_from, enciphered_choice}
 use Rattle.kd_form.specs.PartReading.{HasHeading}
 use Rattle.kd_form.specs.Sending.{letters_from}
 
--- The first two letters are equal. The first eight letters, the keys, stand again after the text, before the last two
--- letters.
+-- In the Converter's body `letters`, the first two letters are equal. The first eight letters, the
+-- keys, stand again after the text, before the last two letters.
 pub record HasKeysAround (letters : List ℕ) : Type 0 where
   pub again : take 8 letters ≡ take 8 (drop (length letters - 10) letters)
   pub twice : slice_index letters 0 ≡ slice_index letters 1

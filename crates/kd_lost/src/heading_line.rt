@@ -227,7 +227,8 @@ fn are_right(least: usize, word: &[u8], bytes: &[u8]) -> bool
     right_signs(word, bytes) >= least
 }
 
-/// Whether `word` has at least `least` places at which the first line of `bytes` has the same sign or a lost sign.
+/// Whether at least `least` signs of `word` stand, or are lost, at the same place in `bytes`.
+/// Only the first line of `bytes` counts.
 fn are_fitting(least: usize, word: &[u8], bytes: &[u8]) -> bool
     ensures { result ≡ nat_le least (fitting_signs word.now bytes.now) }
 {
@@ -249,7 +250,7 @@ fn right_signs(word: &[u8], bytes: &[u8]) -> usize
     0
 }
 
-/// The number of places of `word` at which the first line of `bytes` has the same sign or a lost sign.
+/// How many signs of `word` stand, or are lost, at the same place in the first line of `bytes`.
 fn fitting_signs(word: &[u8], bytes: &[u8]) -> usize
     ensures signs { result ≡ fitting_signs word.now bytes.now }
     ensures few { result ≤ length word.now }

@@ -14,7 +14,7 @@ use crate::received::is_lost;
 use crate::texts::{is_of_other_day, shown_text};
 use kd_tables::Letter;
 
-/// Whether any two of the parts can be of one message.
+/// Whether every two of the parts can be of one message.
 pub fn are_of_one_message(parts: &[DamagedPart]) -> bool
     ensures { result ≡ are_of_one_message parts.now }
 {

@@ -108,7 +108,8 @@ pub fn is_one_message(parts: &[DamagedPart]) -> bool
     are_of_one_message(parts) && are_covered(parts, parts)
 }
 
-/// Whether the letters of each part in `parts` are in the part of `all` that is shown under the same number.
+/// Whether the part shown under a number has all letters of each part in `parts` with this number.
+/// The shown part is one of `all`.
 fn are_covered(all: &[DamagedPart], parts: &[DamagedPart]) -> bool
     ensures { result ≡ are_covered all.now parts.now }
 {
@@ -118,7 +119,8 @@ fn are_covered(all: &[DamagedPart], parts: &[DamagedPart]) -> bool
     }
 }
 
-/// Whether the letters of `part` are in the part of `all` that is shown under the same number.
+/// Whether the part shown under the number of `part` has all letters of `part`.
+/// The shown part is one of `all`.
 fn is_covered(all: &[DamagedPart], part: &DamagedPart) -> bool
     ensures { result ≡ is_covered all.now part.now }
 {

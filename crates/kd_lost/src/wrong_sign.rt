@@ -59,10 +59,9 @@ fn line_after(line: usize, byte: u8) -> usize
     if byte == b'\n' { line + 1 } else { line }
 }
 
-/// The number that a letter just after `byte` has on its line. Letters are counted from 1.
+/// The place of a letter just after `byte` among the letters of its line, counted from 1.
 ///
-/// `letter` is the number of `byte`. If `byte` isn't a letter, `letter` is the number that a letter in place of `byte`
-/// would have.
+/// A letter in place of `byte` would have the place `letter` on its line.
 fn letter_after(letter: usize, byte: u8) -> usize
     requires { letter < 2 ^ 63 + 2 }
     ensures { result ≡ (if byte == 10 then 1

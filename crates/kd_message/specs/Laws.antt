@@ -87,9 +87,9 @@ HasLettersOf text other =
     (place letter : ℕ) → slice_get other.letters.items place ≡ Some (Some letter)
     → slice_get text.letters.items place ≡ Some (Some letter)
 
--- Suppose that a part has a text, or only a text by count. Then the page shows a text under the part's number. The
--- shown text has each letter of the part's text, and at most as many lost letters. In `read.alone`, each part was read
--- without the other parts.
+-- Suppose that a part has a text, or only a text by count. Then the page shows a text under the
+-- part's number. The shown text has each letter of the part's text, and has no more lost letters
+-- than the part's text. In `read.alone`, each part was read without the other parts.
 abbrev pub NothingReadIsHidden : Type 0
 NothingReadIsHidden =
     (l : Language) (s : Day) (form : List ℕ) (parts : List DamagedPart) (read : AreFormParts s form parts)

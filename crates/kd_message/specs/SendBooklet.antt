@@ -64,7 +64,7 @@ pub record IsOrderPage (results : Results) (l : Language) (s : Day) (number : �
   pub are_sheets : AreOrderSheets results l s (Some number) order.bytes form sheets
   pub is_page : page ≡ order_page number order.name sheets
 
--- `pages` are the pages of the orders, in the same order. The first order has the number `number`.
+-- `pages` has the page of each order, in sequence. The first order has the number `number`.
 abbrev pub AreOrderPages : Results → Language → Day → ℕ → List OrderText → List (List ℕ) → Type 0
 AreOrderPages results l s number [] pages = pages ≡ []
 AreOrderPages results l s number (order ∷ orders) pages =
@@ -84,8 +84,8 @@ pub record IsSendBooklet (results : Results) (l : Language) (s : Day) (orders : 
 abbrev pub CanBeSent : Parts → Day → List ℕ → Type 0
 CanBeSent m s order = IsReadyOnKey m s × HasForm s order
 
--- `fault` names the first order of a list that `send` may refuse, and says why. The list's first order has the place
--- `place`.
+-- `fault` names the first order that `send` may refuse, and says why. Places in the list are
+-- counted from `place`.
 abbrev pub IsFirstRefusal : Parts → Day → ℕ → List OrderText → OrderFault → Type 0
 IsFirstRefusal m s place [] fault = ⊥
 IsFirstRefusal m s place (order ∷ orders) fault =

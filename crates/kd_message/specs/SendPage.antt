@@ -46,8 +46,8 @@ abbrev pub listed_sheet : Language → ℕ → ℕ → ℕ → List ℕ
 listed_sheet l sheet part parts =
     filled (text_in l texts.LISTED_PART) (decimal sheet ∷ decimal part ∷ decimal parts ∷ [])
 
--- The number of a part's sheet, to which links lead. `place` is the order's number in a file of several orders; it is
--- `None` in a file of one order.
+-- The number by which links find a part's sheet. `place` is the order's number in a file of several
+-- orders; it is `None` in a file of one order.
 abbrev pub sheet_number : Option ℕ → ℕ → ℕ
 sheet_number None part = part
 sheet_number (Some number) part = number * 100 + part

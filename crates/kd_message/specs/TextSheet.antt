@@ -137,10 +137,11 @@ abbrev pub run_length : List (List (Option ℕ)) → ℕ
 run_length [] = 0
 run_length (group ∷ groups) = if has_lost group then run_length groups + 1 else 0
 
--- The words for the groups that lost letters. Successive groups are named together, as *groups 3 to 5*. The list begins
--- with group `number`. `first` stands before the first words, and commas stand between the words. If `before` is true,
--- the group just before the list lost letters. The words for this group also name the groups at the start of the list
--- that lost letters, so these groups are left out.
+-- The words for groups with lost letters. Successive groups are named together, as *groups 3 to 5*.
+-- The list begins with group `number`. `first` stands before the first words, and commas stand
+-- between the words. `before` says whether the group just before the list has lost letters. If so,
+-- that group's words also cover the groups with lost letters at the start of the list, and these
+-- groups are left out.
 abbrev pub lost_groups : Language → List ℕ → Bool → ℕ → List (List (Option ℕ)) → List ℕ
 lost_groups l first before number [] = []
 lost_groups l first before number (group ∷ groups) =
@@ -179,7 +180,8 @@ abbrev pub is_copy_lost : Option LostCopies → Bool
 is_copy_lost None = false
 is_copy_lost (Some copies) = copies.at_start || copies.at_end
 
--- whether the day couldn't be tested: a letter of the group is lost, or a list letter is lost in both copies
+-- whether the day couldn't be tested: a letter of the indicator group is lost, or a list letter is
+-- lost in both copies
 abbrev pub is_not_tested : GroupTest → Bool
 is_not_tested tests.Right = false
 is_not_tested tests.Wrong = false
@@ -205,7 +207,7 @@ ask_for_lost l name letters =
     then ask_text l name.part (lost_groups l [] false (first_text_group name.model) (pieces 5 letters))
     else []
 
--- a line to write on, `_`; for a lost letter, `?`
+-- `?` for a lost letter, otherwise `_`, a line to write on
 abbrev pub open_byte : Option ℕ → ℕ
 open_byte (Some letter) = 95
 open_byte None = 63
@@ -335,12 +337,12 @@ unfoldable pub unread_text : Language → PartName → List ℕ → List ℕ →
 unread_text l name reason words =
     text_in l texts.UNREAD ++ reason ++ texts.REASON_END.now ++ ask_text l name.part words
 
--- the only warning of a part that isn't read: its group or its list letters are of another day
+-- the only possible warning about a part that isn't read: that the part is of another day
 abbrev pub unread_warnings : GroupTest → Warnings
 unread_warnings group =
     record { letters_lost = false; copies_lost = false; wrong_day = is_wrong_day group; not_tested = false }
 
--- the paragraph about a part that isn't read, and the warning if the part's group is of another day
+-- the paragraph about a part that isn't read, and the warning if the part is of another day
 abbrev pub damage_text : Language → Sheet → PartName → DamagedPart → PartDamage → List ℕ
 damage_text l sheet name part damage =
     unread_text l name (reason_text l part damage) (asked_words l part damage)

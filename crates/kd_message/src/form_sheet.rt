@@ -35,7 +35,7 @@ pub(crate) fn draw_form_head<W: Sink>(
     draw_form_title(sink, language, day);
 }
 
-/// Writes what stands after `form` in the name of a form's sheet.
+/// Writes what stands after `form` in the HTML id of a form's sheet.
 pub(crate) fn draw_form_number<W: Sink>(sink: &mut W, language: Language, place: Option<u8>)
     ensures { Draws W.taken W.has_failed sink.old sink.new (form_number place) }
 {
@@ -132,7 +132,7 @@ fn draw_keys<W: Sink>(sink: &mut W, language: Language, results: Results, indica
     draw(sink, FORM_KEY_END);
 }
 
-/// Writes `letters`. If `results` are left open, writes a line to write on in place of each letter.
+/// Writes `letters`. If `results` are left open, writes an underscore in place of each letter.
 fn draw_letters_with<W: Sink>(sink: &mut W, results: Results, letters: &[Letter])
     ensures { Draws W.taken W.has_failed sink.old sink.new (letters_with results letters.now) }
 {

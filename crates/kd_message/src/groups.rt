@@ -21,10 +21,12 @@ pub(crate) fn has_lost(letters: &[Option<Letter>]) -> bool
     }
 }
 
-/// Writes which groups of `letters` lost letters. `first` stands before the first group that is named.
+/// Writes which groups of `letters` have lost letters. `first` stands before the first named
+/// group.
 ///
-/// If `before` is true, the group just before `letters` lost letters. The words for this group also name the groups at
-/// the start of `letters` that lost letters, so these groups are left out.
+/// `before` says whether the group just before `letters` has lost letters. If so, that group's
+/// words also cover the groups with lost letters at the start of `letters`, and these groups are
+/// left out.
 pub(crate) fn draw_lost_groups<W: Sink>(
     sink: &mut W,
     language: Language,

@@ -288,7 +288,8 @@ fn draw_lone_after<W: Sink>(
     }
 }
 
-/// Whether a part has no number, and `before`, the last part number before this part, equals `after`.
+/// Whether a part has no number, and comes after part number `after`. `before` is the last part
+/// number before this part.
 fn is_lone_after(after: u8, before: u8, numbers: &Option<PartNumbers>) -> bool
     ensures { result ≡ (is_none numbers.now && before == after) }
 {

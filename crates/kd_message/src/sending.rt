@@ -193,7 +193,7 @@ fn draw_listed<W: Sink>(
     }
 }
 
-/// The number of a part's sheet, to which links lead.
+/// The number by which links find a part's sheet.
 ///
 /// An order has at most 99 parts, so no two sheets in a file have the same number.
 fn sheet_number(place: Option<u8>, part: u8) -> u16

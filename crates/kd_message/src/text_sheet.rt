@@ -250,7 +250,7 @@ fn draw_open_text<W: Sink>(sink: &mut W, letters: &[Option<Letter>])
     }
 }
 
-/// A line to write on, `_`; for a lost letter, `?`.
+/// `?` for a lost letter, otherwise `_`, a line to write on.
 fn open_sign(letter: &Option<Letter>) -> &'static str
     ensures { result.now ≡ open_byte letter.now ∷ [] }
 {
@@ -304,7 +304,7 @@ fn is_copy_lost(copies: &Option<LostCopies>) -> bool
     }
 }
 
-/// The only possible warning about a part that isn't read: the part's group or list letters are of another day.
+/// The only possible warning about a part that isn't read: that the part is of another day.
 pub(crate) fn unread_warnings(group: GroupTest) -> Warnings
     ensures { result ≡ unread_warnings group }
 {
@@ -316,7 +316,8 @@ pub(crate) fn unread_warnings(group: GroupTest) -> Warnings
     }
 }
 
-/// Whether the day couldn't be tested: a letter of the group is lost, or a list letter is lost in both copies.
+/// Whether the day couldn't be tested. This is so if a letter of the indicator group is lost, or a
+/// list letter is lost in both copies.
 fn is_not_tested(group: GroupTest) -> bool
     ensures { result ≡ is_not_tested group }
 {

@@ -45,8 +45,8 @@ pub const LONE_FIRST: Text = (
     "Ein Teil ohne Nummer, am Anfang",
 );
 
-/// In the list of the sheets, a part without a number: the markup before the part's words. The next text stands after
-/// these words.
+/// The markup before the words for a part without a number, in the list of the sheets. The next
+/// text stands after these words.
 pub const LISTED_LONE: &str = "<li><a href=\"#text\">";
 
 pub const LISTED_LONE_END: Text = ("</a>, not read\n", "</a>, nicht lesbar\n");
@@ -66,8 +66,8 @@ pub const LONE_ASK: Text = (
     "<label><input type=checkbox> diesen Teil wiederholen lassen: <b>",
 );
 
-/// The end of the list of the sheets, with a link to the form. The text after `#form` stands between these two texts.
-/// The next text is the list's end with a link to the message's text.
+/// The link to the form, at the end of the list of the sheets. An order's number may stand between
+/// this text and the next. The third text is the list's end with a link to the message's text.
 pub const LISTED_FORM: &str = "<li><a href=\"#form";
 
 pub const LIST_END_WITH_FORM: Text = (
@@ -306,8 +306,8 @@ pub const NO_INTERNAL_KEY: Text = (
     "Die Kennbuchstaben ergeben keinen inneren Schlüssel.",
 );
 
-/// The head of the sheet with the form for the radio. The text after `id=form` stands between these two texts. The
-/// values are the model and the day.
+/// The head of the sheet with the form for the radio. An order's number may stand between this text
+/// and the next, whose values are the model and the day.
 pub const FORM_ID: &str = "<article id=form";
 
 pub const FORM: Text = (
@@ -357,7 +357,8 @@ pub const ARTICLE_END: &str = "</article>\n";
 
 // ---- A file of several orders.
 
-/// In a file of several orders, the text after `form` in the name of a form's sheet. The value is the order's number.
+/// In a file of several orders, the text after `form` in the HTML id of a form's sheet. The value
+/// is the order's number.
 pub const FORM_NUMBER: &str = "-~";
 
 /// The start of the list of the orders. The values are the model, the day, and the number of orders.
@@ -380,8 +381,9 @@ pub const ORDER_NAME_END: &str = "</h1>\n";
 
 // ---- What is told on standard error.
 
-/// The start of a note about a part. The values are the part's number and the number of parts. The next text stands
-/// before the words that say what to ask for. The three texts after it are ends of notes.
+/// The start of a note about a part. The values are the part's number and the number of parts. The
+/// next text stands before the words that say what to ask for. Then come three texts for the end of
+/// a note.
 pub const NOTE_PART: Text = ("Part ~ of ~: ", "Teil ~ von ~: ");
 
 pub const NOTE_ASK: Text = (" Ask for ", " Wiederholen lassen: ");

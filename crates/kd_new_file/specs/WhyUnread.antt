@@ -5,8 +5,9 @@ use Rattle.std.specs.declared.io.ErrorKind.TheVariants.{NotADirectory, NotFound,
 use Rattle.kd_new_file.specs.declared.why_unread.WhyUnread.{WhyUnread}
 use Rattle.kd_new_file.specs.declared.why_unread.WhyUnread.TheVariants as whys
 
--- The reason why a file can't be read, for an error of this kind: no file has this name, reading isn't permitted, or
--- another reason. If the name uses a file as a folder, no file has this name.
+-- The reason why a file can't be read, by the kind of the system's error: no file has this name,
+-- reading isn't permitted, or another reason. If the name uses a file as a folder, no file has this
+-- name.
 abbrev pub why_by_kind : ErrorKind → WhyUnread
 why_by_kind NotFound = whys.NotThere
 why_by_kind NotADirectory = whys.NotThere

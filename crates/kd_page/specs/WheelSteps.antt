@@ -21,7 +21,7 @@ use Rattle.kd_page.specs.Page.{Page}
 use Rattle.kd_page.specs.Spots.{count_at, step_spot}
 use Rattle.kd_page.specs.Steps.{idle_text, list_text, step_text}
 
--- `wheel` if the second argument, the slot that holds the wheel, is `None`; otherwise `None`
+-- `wheel`; `None` if the second argument is a slot that holds this wheel
 abbrev pub unless_held : Wheel → Option ℕ → Option Wheel
 unless_held wheel None = Some wheel
 unless_held wheel (Some slot) = None

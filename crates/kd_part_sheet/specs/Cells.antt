@@ -95,7 +95,7 @@ choice_cells taken chosen (letter ∷ printed) =
 abbrev pub open_cell : Cell → Cell
 open_cell cell = if cell.is_pressed then record cell { below = signs.Open; mark = marks.NoMark } else cell
 
--- the cell, with its result or, if the result is left open, as a worksheet has the cell
+-- the cell with its result; if the result is left open, the cell as on a worksheet
 abbrev pub cell_with : Results → Cell → Cell
 cell_with Shown cell = cell
 cell_with LeftOpen cell = open_cell cell

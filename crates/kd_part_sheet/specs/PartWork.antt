@@ -22,9 +22,10 @@ pub record Work : Type 0 where
   pub start : List ℕ
   pub body : List Cell
 
--- The letters on a part's sheet for a rotor machine. The windows first show the ground setting. The operator presses
--- the message key, and the lamps show the enciphered key for the heading. Then the operator sets the windows to the
--- message key, and presses the text. The operator copies the fillers and the group, without key presses.
+-- The letters on a part's sheet for a rotor machine. The windows first show the ground setting. The
+-- operator presses the message key, and the lamps show the enciphered key for the heading. Then the
+-- operator sets the windows to the message key, and presses the text. The operator copies the
+-- fillers and the indicator group, without key presses.
 abbrev pub rotor_work : Day → RotorKeys → List ℕ → Work
 rotor_work s k text = record {
   ground = k.ground_setting;

@@ -223,8 +223,8 @@ pub(crate) fn cells_with<const N: usize>(
     shown
 }
 
-/// `cell` with its result or, if `results` are left open, `cell` as a worksheet has it. If the cell's letter is
-/// pressed, a worksheet leaves the sign below the line open, and has no mark.
+/// `cell` with its result; if `results` are left open, `cell` as on a worksheet. If the cell's
+/// letter is pressed, a worksheet leaves the sign below the line open, and has no mark.
 fn cell_with(results: Results, cell: Cell) -> Cell
     ensures { result ≡ cell_with results cell }
 {

@@ -13,7 +13,8 @@ pub const ROW_BOX: &str = "</div>\n<label><input type=checkbox><b>~</b>";
 
 pub const ROW_END: &str = "</label></div>\n";
 
-/// The markup before the windows that follow a row: before the windows' letters, and before the windows' numbers.
+/// The markup before the letters that the machine shows after a row. The next text is the markup
+/// before the numbers of these letters.
 pub const ROW_LETTERS: &str = "<br>";
 
 pub const ROW_NUMBERS: &str = "<br>";

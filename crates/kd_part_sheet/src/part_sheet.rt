@@ -36,7 +36,8 @@ pub struct PartName {
     pub model: Model,
     /// The day's number.
     pub day: u8,
-    /// The number of the part's sheet, to which links lead. No two sheets in a file have the same number.
+    /// The number by which links find the part's sheet. No two sheets in a file have the same
+    /// number.
     pub sheet: u16,
     /// The part's number, counted from 1.
     pub part: u8,
@@ -102,9 +103,10 @@ pub struct Warnings {
     pub letters_lost: bool,
     /// A letter is lost in a copy of the indicators, and no list letter is lost in both copies.
     pub copies_lost: bool,
-    /// The form's group or list letters don't belong to the day.
+    /// The form's indicator group or list letters don't belong to the day.
     pub wrong_day: bool,
-    /// The day can't be tested: a letter of the group is lost, or a list letter is lost in both copies.
+    /// The day can't be tested. A letter of the indicator group is lost, or a list letter is lost
+    /// in both copies.
     pub not_tested: bool,
 }
 

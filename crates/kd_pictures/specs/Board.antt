@@ -109,7 +109,8 @@ abbrev pub moving_class : Plugs → Class
 moving_class Out = classes.Out
 moving_class In = classes.In
 
--- the class of a cable's line; the line is thick if, on machine `n`, cable `number` lacks a plug at a letter of `cable`
+-- the class of the line of cable `number`, plugged at the letters `cable`; the line is thick if
+-- machine `n` lacks one of these plugs
 abbrev pub line_class : Plugs → Parts → ℕ → Option ℕ × Option ℕ → Class
 line_class plugs n number cable =
     if end_moves n number cable.0 || end_moves n number cable.1 then moving_class plugs else classes.Plain

@@ -193,8 +193,8 @@ fn draw_line<W: Sink>(
     draw_cable_line(sink, language, class, lane, cable_of(machine, number));
 }
 
-/// The class of a cable's line. The line is thick if, on machine `other`, cable `number` lacks a plug at a letter of
-/// `cable`.
+/// The class of the line of cable `number`, plugged at the letters `cable`.
+/// The line is thick if machine `other` lacks one of these plugs.
 fn line_class(plugs: Plugs, other: &Machine, number: u8, cable: Cable) -> Class
     ensures { result ≡ line_class plugs other.now number cable }
 {

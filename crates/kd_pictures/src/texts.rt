@@ -431,8 +431,9 @@ pub const REFLECTOR_SHOWN: &str =
 pub const NEW_REFLECTOR: &str =
     "<rect class=\"set\" x=\"96\" y=\"~\" width=\"76\" height=\"122\"/>\n<text class=\"bold\" x=\"134\" y=\"~\" font-size=\"20\">~</text>\n";
 
-/// The texts for a slot: a text for an empty slot, and two for a slot with a wheel. Then come two texts for a ring, and
-/// two for a window. Of two texts, the first draws the wheel, the ring or the window as old, and the second as new.
+/// The texts for a slot: a text for an empty slot, and two for a slot with a wheel. Then come two
+/// texts for a ring, and two for a window. Each time, the first text draws the wheel, the ring or
+/// the window as old, and the second as new.
 pub const EMPTY: Text = (
     "<text x=\"~\" y=\"~\" font-size=\"18\">slot ~</text>\n<rect x=\"~\" y=\"~\" width=\"96\" height=\"122\"/>\n<text x=\"~\" y=\"~\" font-size=\"20\">empty</text>\n",
     "<text x=\"~\" y=\"~\" font-size=\"18\">Platz ~</text>\n<rect x=\"~\" y=\"~\" width=\"96\" height=\"122\"/>\n<text x=\"~\" y=\"~\" font-size=\"20\">leer</text>\n",

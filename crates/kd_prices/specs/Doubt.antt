@@ -19,7 +19,8 @@ PricesSuitMachine (Pin machine) (Bars row col) = Unit {0}
 PricesSuitMachine (Pin machine) (BarKinds row col) = Unit {0}
 PricesSuitMachine _ _ = ⊥
 
--- Row by row, the cell in row `i`, column `j` comes before the cell in row `row`, column `column`.
+-- In row-by-row order, the cell in row `i` and column `j` comes before the cell in row `row` and
+-- column `column`.
 abbrev pub CellComesBefore : ℕ → ℕ → ℕ → ℕ → Type 0
 CellComesBefore i j row column = (i < row) ⊎ ((i ≡ row) × (j < column))
 

@@ -4,7 +4,8 @@ use Rattle.std.specs.Prelude.{IsPermutation, List, Option, replicate, unsigned_a
 use Rattle.std.specs.{List.{Contains, Sorted.IsSorted}, Prelude.{All, map, ℤ, ◌∷◌, ◌≡◌, ◌≢◌, ◌≤◌}}
 use Rattle.kd_card.specs.{Kinds.{AreKinds, ComesAfter, KindFormat, expansion, key_cmp}, declared.kinds.KindOf.KindOf}
 
--- In `pairs`, a list of keys (letters, standings or readings) with their prices, equal keys have equal prices.
+-- `pairs` are keys (letters, standings or readings) with their prices. Equal keys have equal
+-- prices.
 abbrev pub HaveOnePriceEach : {X : Type 0} → List (X × ℤ) → Type 0
 HaveOnePriceEach {X} pairs =
     (key : X) (price other : ℤ) → Contains pairs (key, price) → Contains pairs (key, other) → price ≡ other
@@ -28,10 +29,11 @@ pub record CanBeKinds {K X : Type 0} (format : KindFormat K X) (pairs : List (X 
   pub one_price : HaveOnePriceEach pairs
   pub fine : All (IsValidKeyAndPrice format) pairs
 
--- The list `new` is the list `old`, followed by added kinds. A kind stands for as many copies of its key and price as
--- its count says. The added kinds stand for these copies, in order: first the copies that `kind` stands for, then
--- `pairs`. Suppose that the keys of `kind` and `pairs` can be grouped into valid kinds. Then the added kinds are valid
--- and strictly ascending. If the key of `kind` comes after the kind `last`, all added kinds come after `last`, too.
+-- The list `new` is the list `old`, followed by added kinds. The expansion of a kind repeats its
+-- key and price as often as its count says. The added kinds' expansion is the expansion of `kind`,
+-- and then `pairs`. Suppose that the keys of `kind` and `pairs` can be grouped into valid kinds.
+-- Then the added kinds are valid and strictly ascending. If the key of `kind` comes after the kind
+-- `last`, all added kinds come after `last`, too.
 pub record AppendsKinds {K X : Type 0} (format : KindFormat K X) (kind : KindOf X) (pairs : List (X × ℤ))
     (old new : List K) : Type 0 where
   pub made : List K

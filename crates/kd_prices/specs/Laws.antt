@@ -1,4 +1,4 @@
--- Laws of checked cards: the doubts about a card, the settings that remain while the card is carried out, and the
+-- Laws of checked cards: the doubts about a card, the settings left after its first lines, and the
 -- prices of equal cables or bars.
 use Rattle.std.specs.Prelude.{◌≡◌, ℕ, ◌-◌, ◌<◌, ◌≤◌, List, length, take, drop}
 use Rattle.kd_state.specs.{SheetDay.{Day, IsLegalDay}, declared.{machine.parts.Parts.Parts, setting.Setting.Setting}}

@@ -1,4 +1,4 @@
-//! Laws of checked cards: the doubts about a card, the settings that remain while the card is carried out, and the
+//! Laws of checked cards: the doubts about a card, the settings left after its first lines, and the
 //! prices of equal cables or bars.
 ghost use Rattle.kd_prices.specs.Laws.{ProvingCardsAreInNoDoubt, OneDoubt, RestIsShortest, AlikePricesAreEqual};
 

@@ -1,4 +1,4 @@
-//! Readers of parsed files, and of single keys, for programs that parse a file once, or test each key on its own.
+//! Parses a file once, and reads the whole file or single keys from the file's table.
 
 pub use crate::document::{find_at, parse_table};
 pub use crate::machine_reader::{box_letters_in, machine_in};

@@ -64,7 +64,9 @@ fn are_letters(bytes: &[u8]) -> bool {
     bytes.iter().all(|byte| byte.is_ascii_alphabetic())
 }
 
-/// Checks that the text at `key` has exactly `count` capital letters. The words `of` say what the letters stand for.
+/// Checks that the text at `key` has exactly `count` capital letters.
+///
+/// `of` says what the letters stand for.
 pub fn check_letters(
     alloc: Global,
     table: &Table,

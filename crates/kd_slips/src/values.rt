@@ -123,7 +123,7 @@ pub fn items_at(alloc: Global, table: &Table, key: Key) -> Result<&[Value], Slip
     items_of(alloc, value_at(alloc, table, key)?, key)
 }
 
-/// Checks that a list of `len` items has exactly `count` items. The words `of` say what the items are.
+/// Checks that a list of `len` items has exactly `count` items. `of` says what the items are.
 pub fn check_count(alloc: Global, key: Key, len: usize, count: usize, of: &str) -> Result<(), Slip>
     ensures same { OnOk result (len ≡ count) }
     ensures other { OnErr result (len ≢ count) }

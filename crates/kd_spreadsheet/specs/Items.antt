@@ -19,8 +19,8 @@ is_blank cell = list_all is_gap cell
 abbrev pub normal : ℕ → ℕ
 normal byte = if is_gap byte then 32 else capital byte
 
--- How a cell is split into words. `keeps` says which bytes stay unchanged instead of getting their normal form, even if
--- they are gaps. `alone` says which bytes are words by themselves.
+-- How a cell is split into words. `keeps` says which bytes stay unchanged; all other bytes get
+-- their normal form. `alone` says which bytes are words by themselves.
 pub record Bytes : Type 0 where
   pub keeps : ℕ → Bool
   pub alone : ℕ → Bool

@@ -32,12 +32,13 @@ unfoldable pub is_meant : Columns → List (List ℕ) → Cell → ℕ → Bool
 is_meant columns head cell place =
     not (is_column_read columns place) && is_near_column cell (cell_at (Some place) head)
 
--- of the `count` columns from `place` on, the first unread column whose name is nearly one of the names for the cell's
--- column
+-- the first unread column whose name is nearly one of the names for the cell's column; only the
+-- `count` columns from `place` on are searched
 unfoldable pub near_from : Columns → List (List ℕ) → Cell → ℕ → ℕ → Option ℕ
 near_from columns head cell place count = find (is_meant columns head cell) (range_with_len place count)
 
--- of the first 64 columns, the first unread column whose name is nearly one of the names for the cell's column
+-- the first unread column whose name is nearly one of the names for the cell's column; only the
+-- first 64 columns are searched
 abbrev pub near_column : Columns → List (List ℕ) → Cell → Option ℕ
 near_column columns head cell = near_from columns head cell 0 64
 

@@ -14,7 +14,7 @@ use arrayvec::ArrayVec;
 use kd_sheet::reading_of_text;
 use kd_tables::{Letter, Reading, Wheel, split_words};
 
-/// At most this many bytes are allowed in a cell, and at most this many words, and this many values.
+/// The greatest number of bytes, of words and of values that a cell may have.
 pub const CELL_LIMIT: usize = 192;
 
 /// The values in a cell, at most 192.
@@ -32,7 +32,7 @@ pub enum WordRule {
 }
 
 impl WordRule {
-    /// Whether `byte` stays unchanged instead of getting its normal form, even if it is a gap.
+    /// Whether `byte` stays unchanged; all other bytes get their normal form.
     fn is_kept(self, byte: u8) -> bool
         ensures { result ≡ (bytes_of self).keeps byte }
     {

@@ -1,5 +1,5 @@
--- The fewest settings after which a cable has the letters of a column, or a bar reads as a row. Code: `cable_cost` goes
--- through the alphabet; `bar_cost` tries the one or two standings that read as the row.
+-- The fewest settings that give a cable the letters of a day's pair, or a bar a reading of the day.
+-- Code: `cable_cost` goes through the alphabet; `bar_cost` tries each standing with the reading.
 -- Test: kd_trials/src/state.rt
 use Rattle.std.specs.Prelude.{ℕ, ◌+◌, ◌-◌, nat_eq, nat_lt, min, Bool, false, not, ◌&&◌, List, [], ◌∷◌, ◌++◌, length}
 use Rattle.std.specs.Prelude.{slice_index_or, map, filter, find, fold, zip, sum, count_by, replicate, Option, Some}

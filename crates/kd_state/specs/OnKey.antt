@@ -1,5 +1,6 @@
--- When a machine is set as a day says (on the day's key), and when it shows the day's letters.
--- Code: `on_key` sorts the cables of machine and day, or the bars' readings and the day's rows, and then compares.
+-- Whether a machine is set as a day says (on the key), and whether it shows the day's letters.
+-- Code: `on_key` compares sorted lists: the machine's cables with the day's, or the bars' readings
+-- with the day's rows.
 -- Test: tests/cases/desk-cards.toml
 use Rattle.std.specs.Prelude.{◌≡◌, ℕ, ◌-◌, List, ◌++◌, length, map, replicate, All, IsPermutation, Option, Some, None}
 use Rattle.std.specs.Option.{option_map, option_map_or}

@@ -128,8 +128,8 @@ pub record IsFirstIllegal (machine : Parts) (settings : List Setting) (line : �
 
 -- ---- What `carry` answers for machines of one sort. No public contract cites this definition.
 
--- The answer to a setting is right. If the answer is success, the machine has carried the setting out. If the answer is
--- a reason, it is the first reason to refuse, and the machine is unchanged.
+-- Either `answer` is success, and `machine` carries `setting` out and becomes `after`. Or `answer`
+-- is the first reason to refuse `setting`, and `after` is the unchanged `machine`.
 abbrev pub IsCarryAnswer : Parts → Setting → Parts → Result ⊤ Why → Type 0
 IsCarryAnswer machine setting after answer =
     MatchResult answer (λ _. Carries machine setting after) (λ why. Refuses machine setting why × (after ≡ machine))

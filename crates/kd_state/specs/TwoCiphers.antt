@@ -36,7 +36,7 @@ window_of (Pin machine) = machine.letters
 
 -- ---- The cipher of a machine, by its slots, cables and lugs, and of a day, by its wheels, pairs and rows.
 -- Source: the published accounts of the current's path; War Department TM 11-380.
--- Code: bars are counted by their readings, not by their lugs.
+-- Code: a Converter's engine is made from the bars' readings, not from their lugs.
 
 -- the key to which a rotor machine is set; cables with fewer than two letters are ignored
 abbrev pub key_of_rotor_parts : RotorParts → RotorKey

@@ -1,4 +1,4 @@
-//! Costs: the fewest settings after which a cable has the letters of a day's pair, or a bar reads as a row of the day.
+//! Costs: the fewest settings that give a cable a day's pair of letters, or a bar a day's reading.
 
 pub(crate) mod tables;
 

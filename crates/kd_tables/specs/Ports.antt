@@ -69,9 +69,9 @@ pub record FailsAlone (p other : Port) : Type 0 where
   pub failed : IsTrue p.has_failed
   pub well : KeepsFailureFlag other
 
--- The flag tells whether a call returned the error `Device`. If the flag is true, `source` or `sink` has failed, and
--- the call left the failure flag of the other port as it was. If the flag is false, the call left the failure flags of
--- both ports as they were.
+-- The failure flags of two ports agree with a call's answer. The last argument is true if the call
+-- returned the error `Device`. Then one port has failed, and the call left the other port's failure
+-- flag as it was. If the argument is false, the call left both failure flags as they were.
 abbrev pub FailureAgrees : Port → Port → Bool → Type 0
 FailureAgrees source sink false = KeepsFailureFlag source × KeepsFailureFlag sink
 FailureAgrees source sink true = FailsAlone source sink ⊎ FailsAlone sink source

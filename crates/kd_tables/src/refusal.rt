@@ -80,7 +80,7 @@ pub enum Refusal {
     KeyNotOnWheel,
     /// A part's group is none of the day's groups; or, on the Converter, a part's two list letters aren't the day's.
     WrongGroup,
-    /// The twelve letters enciphered for a part's internal key don't give each pin wheel a letter.
+    /// A part has no internal key: twelve enciphered letters don't give each pin wheel a letter.
     IndicatorSpent,
     /// A part doesn't begin with a heading of the day's model.
     BadHeading,

@@ -47,8 +47,8 @@ abbrev pub window_by : RotorTable → List ℕ → List ℕ
 window_by table window =
     with_last_moved (slice_index table.steps (26 * letter_in window 1 + letter_in window 0)) window
 
--- The letter that lights up for `key` while the windows show `window`. The current of `key` leaves the core at some
--- place. The current of the lit letter's own key enters the core at this place.
+-- The letter that lights up for `key` while the windows show `window`. The current of `key` leaves
+-- the core at some place. The key of the lit letter would send current into the core at this place.
 abbrev pub lamp_by : RotorTable → List ℕ → ℕ → ℕ
 lamp_by table window key =
     let into = slice_index_or table.into (letter_in window 0) [] in
@@ -100,7 +100,7 @@ unfoldable pub wheels_moved : List Wheel → ℕ → ℕ → ℕ
 wheels_moved wheels middle right =
     if is_at_notch wheels 1 middle then 3 else (if is_at_notch wheels 0 right then 2 else 1)
 
--- how many rows the core has
+-- how many rows the table has for the core
 abbrev pub core_size : RotorKey → ℕ
 core_size key = 26 ^ (length key.wheels - 1)
 

@@ -80,7 +80,7 @@ impl RotorRows {
         self.core_at(&letters[4 - self.slots()..])
     }
 
-    /// How many rows the core has.
+    /// How many rows the table has for the core.
     fn core_size(&self) -> u16
         ensures { result ≡ core_size self.now }
     {

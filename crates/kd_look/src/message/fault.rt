@@ -43,15 +43,15 @@ pub enum Reason {
     HeadingNumber,
     /// A slash is missing in a heading.
     HeadingSlash,
-    /// A heading has a greater number than the number of parts, or more than 99 parts.
+    /// A heading's part number is above its number of parts, or its number of parts is above 99.
     HeadingParts,
-    /// No body has the heading's number of letters.
+    /// A part can't have the number of letters that its heading gives.
     HeadingCount,
     /// A capital letter is missing in a heading.
     HeadingLetter,
     /// A space is missing in a heading.
     HeadingSpace,
-    /// A part has another number than its place, or another number of parts than the first.
+    /// A part is at the wrong place, or gives another number of parts than the first part.
     PartsMixed,
     /// The form has fewer parts than its headings say.
     PartsMissing,

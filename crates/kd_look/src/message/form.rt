@@ -1,4 +1,4 @@
-//! Reads a form as far as that is possible without a machine: its headings, its signs and its counts.
+//! Reads a form without a machine: its headings, its signs, and its numbers of letters and parts.
 ghost use Rattle.std.specs.Prelude.{◌≡◌, ◌≤◌, ◌<◌, ◌+◌, ◌-◌, count_by, find, length, option_map, IfOk, IfSome};
 ghost use Rattle.std.specs.List.{range_with_len};
 ghost use Rattle.kd_tables.specs.Text.{is_capital};
@@ -21,7 +21,7 @@ pub struct FormPart {
     pub end: usize,
 }
 
-/// The first heading of the form `text`, or the form's first fault among those of its headings, signs and counts.
+/// The first heading of the form `text`, or the first fault that the form shows without a machine.
 pub fn form_answer(text: &[u8]) -> Result<FormHeading, MessageFault>
     ensures { result ≡ form_answer text.now }
 {
@@ -65,7 +65,7 @@ fn form_from(
     Ok(heading)
 }
 
-/// The first heading of a form with the heading `own`, if `first` is the first heading before it.
+/// The form's first heading: `first`, or `own` if no heading stands before `own`.
 fn first_or(own: FormHeading, first: Option<FormHeading>) -> FormHeading
     ensures { result ≡ first_or own first }
 {
@@ -131,7 +131,7 @@ fn due_heading(
     }
 }
 
-/// The form of the keys in the first heading, if there is one.
+/// The machine that the first heading is for. `None` if there is no first heading.
 fn keys_of(first: Option<FormHeading>) -> Option<KeyLine>
     ensures { result ≡ option_map (λ heading. heading.keys) first }
 {
@@ -141,7 +141,7 @@ fn keys_of(first: Option<FormHeading>) -> Option<KeyLine>
     }
 }
 
-/// Whether `heading` has the part's number, and as many parts as the first heading.
+/// Whether `heading` gives part number `number`, and as many parts as the heading `first` gives.
 fn has_due_numbers(first: Option<FormHeading>, number: u8, heading: FormHeading) -> bool
     ensures { result ≡ has_due_numbers first number heading }
 {
@@ -178,7 +178,7 @@ fn heading_reason(mark: u8) -> Reason
     }
 }
 
-/// The index after the body that begins at `body`: of the next heading line, or the form's length.
+/// The end of the body that begins at `body`: the next heading line's index, or the form's length.
 fn body_end(text: &[u8], body: usize) -> usize
     requires { body ≤ length text.now }
     ensures value { result ≡ body_end text.now body }
@@ -191,7 +191,7 @@ fn body_end(text: &[u8], body: usize) -> usize
     }
 }
 
-/// The index of the first LF from `first` on that a heading line follows.
+/// The index of the first LF before a heading line, searched from `first` on.
 fn next_heading(text: &[u8], first: usize) -> Option<usize>
     ensures found { result ≡ find (heading_follows text.now)
         (range_with_len first (length text.now - first)) }

@@ -15,7 +15,7 @@ pub struct FormHeading {
     pub parts: usize,
     /// The number of letters in the body.
     pub letters: usize,
-    /// Which machine the form is for, by the heading's form.
+    /// Which machine the form is for, as the heading shows.
     pub keys: KeyLine,
     /// The index of the body's first byte.
     pub body: usize,
@@ -30,7 +30,7 @@ pub struct Number {
 
 /// The heading at `index`, or the first byte that is wrong there. A number out of range is wrong at its first byte.
 ///
-/// `first` has the form of the keys in the form's first heading, if there is an earlier heading.
+/// `first` says which machine the form's first heading is for, if there is an earlier heading.
 #[tactic(auto, unfolding(crate::specs::FormHeading::heading_at))]
 pub fn heading_at(
     text: &[u8],
@@ -72,8 +72,9 @@ pub fn heading_at(
     })
 }
 
-/// The number at `index`, which has at most three digits and doesn't begin with 0; or the byte that begins no number,
-/// for which the mark is `#`.
+/// The number at `index`, which has at most three digits and doesn't begin with 0.
+///
+/// If no valid number is there, the wrong byte at `index`, with the mark `#`.
 #[tactic(auto, unfolding(crate::specs::FormHeading::number_at))]
 fn number_at(text: &[u8], index: usize) -> Result<Number, WrongByte>
     requires { index ≤ length text.now }
@@ -104,7 +105,7 @@ fn digits_at(text: &[u8], index: usize) -> Number
     with_digit(text, two)
 }
 
-/// The number with the digit after it appended. If no digit follows, the number itself.
+/// The number, extended by the digit that follows it. If no digit follows, the number itself.
 fn with_digit(text: &[u8], number: Number) -> Number
     requires end { number.end ≤ length text.now }
     requires small { number.value < 100 }
@@ -121,7 +122,7 @@ fn with_digit(text: &[u8], number: Number) -> Number
     }
 }
 
-/// The form of the machine's keys, by what follows the number of letters in a heading.
+/// The machine that a heading is for, shown by what follows the number of letters.
 #[tactic(auto, unfolding(crate::specs::FormHeading::heading_keys))]
 fn heading_keys(text: &[u8], index: usize) -> KeyLine
     requires { index ≤ length text.now }
@@ -162,7 +163,7 @@ fn keys_pattern(keys: KeyLine) -> &'static [u8]
     }
 }
 
-/// The index after the end of a heading line at `index`. The form may end there.
+/// The index after the line end at `index`. If the form ends at `index`, `index` itself.
 #[tactic(auto, unfolding(crate::specs::FormHeading::heading_end))]
 fn heading_end(text: &[u8], index: usize) -> Result<usize, WrongByte>
     requires { index ≤ length text.now }

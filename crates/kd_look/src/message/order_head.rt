@@ -7,7 +7,7 @@ use super::signs::{WrongByte, fits_at, line_end};
 /// The greatest number of lines of keys in an order.
 pub const MOST_KEY_LINES: u8 = 99;
 
-/// The form of an order's lines of keys, by the machine that the order is for.
+/// How keys are written in an order or a form. This depends on the machine.
 #[derive(Clone, Copy)]
 pub enum KeyLine {
     /// For an Enigma I or an M3.
@@ -18,7 +18,7 @@ pub enum KeyLine {
     Converter,
 }
 
-/// The form of the lines of keys in the order `text`, by the first word of keys.
+/// The machine that the order `text` is for, shown by its first word of keys.
 #[tactic(auto, unfolding(crate::specs::OrderHead::key_line_of))]
 pub fn key_line_of(text: &[u8]) -> KeyLine
     ensures { result ≡ key_line_of text.now }

@@ -10,7 +10,8 @@ use kd_form::text_bytes::is_text_byte;
 pub struct WrongByte {
     /// The byte's index, or the length of the text if the byte is missing.
     pub index: usize,
-    /// What belongs there: `_` for any capital letter, LF for the line's end, and each other byte for itself.
+    /// What belongs at `index`: `_` means a capital letter, LF a line end, and `#`, `$` or `%` a
+    /// valid number. Any other byte means itself.
     pub mark: u8,
 }
 
@@ -22,7 +23,8 @@ pub fn wrong_sign(bytes: &[u8]) -> Option<usize>
     bytes.iter().position(|byte| !is_text_byte(*byte))
 }
 
-/// The index after the line from `index` on, or the first byte that doesn't fit the line's pattern `marks`.
+/// The index after the line that begins at `index`, or the first byte that doesn't fit the line's
+/// pattern `marks`.
 pub fn line_end(text: &[u8], marks: &[u8], index: usize) -> Result<usize, WrongByte>
     requires { index ≤ length text.now }
     ensures value { result ≡ line_end text.now marks.now index }

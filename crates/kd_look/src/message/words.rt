@@ -21,7 +21,7 @@ pub fn is_message(text: &[u8]) -> bool
     matches!(text, [b'P', b'A', b'R', b'T', b' ', ..])
 }
 
-/// Whether an order or a form is a form: a digit follows `PART `.
+/// Whether a message is a form: a digit follows `PART `. Every other message is an order.
 pub fn is_form(text: &[u8]) -> bool
     ensures { result ≡ is_form text.now }
 {
@@ -68,7 +68,7 @@ pub fn order_words(
     Ok(words)
 }
 
-/// Appends the lines about an order without a fault that shows without a machine. The order's text begins at `start`.
+/// Appends the lines about an order in which no fault was found. The text begins at `start`.
 #[tactic(auto, using(std::proofs::Common::append_assoc), unfolding(crate::specs::MessageWords::order_lines))]
 fn push_order(words: &mut String, name: &str, text: &[u8], start: usize) -> Result<(), AllocError>
     requires { start ≤ length text.now }
@@ -82,7 +82,7 @@ fn push_order(words: &mut String, name: &str, text: &[u8], start: usize) -> Resu
     push_groups(words, text, form, start)
 }
 
-/// Appends the lines about a form without a fault that shows without a machine. `first` is the form's first heading.
+/// Appends the lines about a form in which no fault was found. `first` is the form's first heading.
 #[tactic(auto, using(std::proofs::Common::append_assoc), unfolding(crate::specs::MessageWords::form_lines))]
 fn push_form(words: &mut String, name: &str, first: &FormHeading) -> Result<(), AllocError>
     ensures { OnOk result (string_bytes words.new
@@ -214,7 +214,7 @@ fn form_tests() -> &'static str
     ", without a fault in its headings, its signs and its counts\nnot looked at: whether its groups and indicators suit the day\n"
 }
 
-/// The machines for which an order or a form is, by the form of its keys.
+/// The machines that an order or a form is for, in words.
 #[tactic(auto, unfolding(crate::specs::MessageWords::machine_name))]
 fn machine_name(form: KeyLine) -> &'static str
     ensures { result.now ≡ machine_name form }
