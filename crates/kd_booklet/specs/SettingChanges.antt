@@ -36,9 +36,8 @@ WindowTurns (Rotor m) n number letter =
 WindowTurns (Pin m) n number letter =
     Becomes (machine_pin_letter (Pin m) number) (machine_pin_letter n number) (Some letter)
 
--- `m` is the machine before a list of settings, and `n` is the machine after the list. The setting sets one thing. On
--- `n`, this thing is as the setting says; on `m`, the thing is different. A page marks this difference, unless the
--- thing is a Converter's letter.
+-- The setting changes one thing: on the machine `m`, the thing isn't as the setting says; on the machine `n`, it is. A
+-- page marks this difference between `m` and `n`, unless the thing is a Converter's letter.
 abbrev pub Changes : Parts → Parts → Setting → Type 0
 Changes m n (RingTo wheel letter) = Becomes (machine_ring m wheel) (machine_ring n wheel) (Some letter)
 Changes m n (SeatReflector reflector) = Becomes (machine_reflector m) (machine_reflector n) (Some reflector)

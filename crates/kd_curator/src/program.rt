@@ -229,8 +229,8 @@ fn refused_unread<N: NewFiles>(
     }
 }
 
-/// Answers a command line that means no command. If the command line asks for help or for the version, writes the text
-/// that it asks for. Otherwise returns `none` as a `Stop`.
+/// Answers a command line that means no command. `none` says what it means instead. If it asks for help or for the
+/// version, writes the text that it asks for. Otherwise, turns `none` into a `Stop`.
 fn answer_other_words<W: Sink>(none: NoCommand, sink: &mut W) -> Result<(), Stop>
     ensures carried { (l : Language) (words : List (List ℕ)) (known : Option (List ℕ → Option (List ℕ)))
         → HasNoCommand words none

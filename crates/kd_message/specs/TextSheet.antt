@@ -168,7 +168,7 @@ unfoldable pub key_letter_groups : Language → ℕ → ℕ → List ℕ
 key_letter_groups l came number =
     group_words l (key_letter_group number) ++ COMMA.now ++ group_words l (came / 5 - 2 + key_letter_group number)
 
--- the words for the groups with the indicators, in a body of `came` letters: the first two and the last two
+-- the words for the groups that have the indicators: the first two and the last two groups of a body of `came` letters
 unfoldable pub indicator_groups : Language → ℕ → List ℕ
 indicator_groups l came =
     groups_words l 1 2 ++ COMMA.now ++ groups_words l (came / 5 - 1) (came / 5)
