@@ -47,21 +47,35 @@ pub struct PartName {
     pub results: Results,
 }
 
+/// What all steps of a part's sheet have in common, besides the day.
+#[derive(Clone, Copy)]
+pub struct PartPage {
+    /// The language of the sheet.
+    pub language: Language,
+    /// Which of the four sheets it is.
+    pub sheet: Sheet,
+    /// The part, and whether the sheet shows the results.
+    pub name: PartName,
+}
+
 /// Writes the sheet of a part.
 pub fn draw_part_sheet<W: Sink>(
     sink: &mut W,
-    language: Language,
-    sheet: Sheet,
+    page: PartPage,
     day: &SheetDay,
-    name: PartName,
     warnings: Warnings,
     work: &PartWork,
 )
     requires { IsWorkable day.now work.now }
     ensures { Draws W.taken W.has_failed sink.old sink.new
-        (part_sheet language sheet day.now name warnings work.now) }
+        (part_sheet page.language page.sheet day.now page.name warnings work.now) }
 {
-    draw_head(sink, language, sheet, name);
+    let PartPage {
+        language,
+        sheet,
+        name,
+    } = page;
+    draw_head(sink, page);
     draw_day_key(sink, language, day.entry());
     draw(sink, legend(language, sheet, name.results));
     draw_if(
@@ -69,8 +83,8 @@ pub fn draw_part_sheet<W: Sink>(
         warnings.letters_lost,
         sheet.text(language, LOST_LETTER),
     );
-    draw_key_step(sink, language, sheet, day, name, work);
-    draw_text_step(sink, language, sheet, day, name, warnings, work);
+    draw_key_step(sink, page, day, work);
+    draw_text_step(sink, page, day, warnings, work);
     draw(sink, note(language, sheet, name.model));
     draw(sink, SHEET_END);
 }
@@ -120,13 +134,15 @@ pub fn draw_warnings<W: Sink>(sink: &mut W, language: Language, sheet: Sheet, wa
     draw_if(sink, warnings.not_tested, sheet.text(language, NOT_TESTED));
 }
 
-fn draw_head<W: Sink>(sink: &mut W, language: Language, sheet: Sheet, name: PartName)
-    ensures { Draws W.taken W.has_failed sink.old sink.new (head_text language sheet name) }
+fn draw_head<W: Sink>(sink: &mut W, page: PartPage)
+    ensures { Draws W.taken W.has_failed sink.old sink.new
+        (head_text page.language page.sheet page.name) }
 {
+    let name = page.name;
     fill(
         sink,
-        language,
-        sheet.text(language, HEAD),
+        page.language,
+        page.sheet.text(page.language, HEAD),
         &[
             Value::Number(name.sheet),
             Value::Model(name.model),
@@ -177,32 +193,22 @@ fn draw_rotor_key<W: Sink>(sink: &mut W, language: Language, entry: &RotorEntry)
 }
 
 /// Writes the first step, in which the message key or the internal key is found.
-fn draw_key_step<W: Sink>(
-    sink: &mut W,
-    language: Language,
-    sheet: Sheet,
-    day: &SheetDay,
-    name: PartName,
-    work: &PartWork,
-)
+fn draw_key_step<W: Sink>(sink: &mut W, page: PartPage, day: &SheetDay, work: &PartWork)
     requires { IsWorkable day.now work.now }
     ensures { Draws W.taken W.has_failed sink.old sink.new
-        (key_step language sheet day.now name work.now) }
+        (key_step page.language page.sheet day.now page.name work.now) }
 {
+    let PartPage {
+        language,
+        sheet,
+        name,
+    } = page;
     let ground = work.ground.as_slice();
     let key = cells_with(name.results, &work.key);
     fill_name(sink, language, sheet.text(language, KEY_STEP), name);
     draw_windows(sink, language, is_converter(name.model), ground);
     draw(sink, sheet.text(language, KEY_WORDS));
-    draw_rows(
-        sink,
-        language,
-        name.results,
-        day,
-        ground,
-        BEGINNING,
-        key.as_slice(),
-    );
+    draw_rows(sink, page, day, ground, BEGINNING, key.as_slice());
     draw(sink, sheet.text(language, KEY_STEP_END));
 }
 
@@ -233,42 +239,34 @@ fn fill_name<W: Sink>(sink: &mut W, language: Language, template: &str, name: Pa
 /// Writes the second step, in which the text is enciphered or deciphered.
 fn draw_text_step<W: Sink>(
     sink: &mut W,
-    language: Language,
-    sheet: Sheet,
+    page: PartPage,
     day: &SheetDay,
-    name: PartName,
     warnings: Warnings,
     work: &PartWork,
 )
     requires { IsWorkable day.now work.now }
     ensures { Draws W.taken W.has_failed sink.old sink.new
-        (text_step language sheet day.now name warnings work.now) }
+        (text_step page.language page.sheet day.now page.name warnings work.now) }
 {
     let start = work.start.as_slice();
-    let body = cells_with(name.results, &work.body);
-    draw_text_head(sink, language, sheet, name, body.len());
-    draw_start(sink, language, sheet, name, start);
-    draw_warnings(sink, language, sheet, warnings);
-    draw_text_rows(sink, language, sheet, day, name, start, body.as_slice());
+    let body = cells_with(page.name.results, &work.body);
+    draw_text_head(sink, page, body.len());
+    draw_start(sink, page, start);
+    draw_warnings(sink, page.language, page.sheet, warnings);
+    draw_text_rows(sink, page, day, start, body.as_slice());
 }
 
 /// Writes the picture of the windows that are set before the text. On a worksheet, writes nothing if the operator finds
 /// out these windows in the first step.
-fn draw_start<W: Sink>(
-    sink: &mut W,
-    language: Language,
-    sheet: Sheet,
-    name: PartName,
-    start: &[Letter],
-)
+fn draw_start<W: Sink>(sink: &mut W, page: PartPage, start: &[Letter])
     requires { length start.now ≤ 6 }
     ensures { Draws W.taken W.has_failed sink.old sink.new
-        (start_text language sheet name start.now) }
+        (start_text page.language page.sheet page.name start.now) }
 {
-    if name.results.are_open() && !has_given_start(sheet) {
+    if page.name.results.are_open() && !has_given_start(page.sheet) {
         draw(sink, "");
     } else {
-        draw_windows(sink, language, is_converter(name.model), start);
+        draw_windows(sink, page.language, is_converter(page.name.model), start);
     }
 }
 
@@ -283,21 +281,16 @@ fn has_given_start(sheet: Sheet) -> bool
     }
 }
 
-fn draw_text_head<W: Sink>(
-    sink: &mut W,
-    language: Language,
-    sheet: Sheet,
-    name: PartName,
-    letters: usize,
-)
+fn draw_text_head<W: Sink>(sink: &mut W, page: PartPage, letters: usize)
     requires { letters ≤ 520 }
     ensures { Draws W.taken W.has_failed sink.old sink.new
-        (text_head language sheet name letters) }
+        (text_head page.language page.sheet page.name letters) }
 {
+    let name = page.name;
     fill(
         sink,
-        language,
-        sheet.text(language, TEXT_STEP),
+        page.language,
+        page.sheet.text(page.language, TEXT_STEP),
         &[
             Value::Number(letters as u16),
             Value::Model(name.model),
@@ -311,30 +304,20 @@ fn draw_text_head<W: Sink>(
 /// Writes the rows of the text. Rows that don't fit on the first sheet of paper go onto a second sheet.
 fn draw_text_rows<W: Sink>(
     sink: &mut W,
-    language: Language,
-    sheet: Sheet,
+    page: PartPage,
     day: &SheetDay,
-    name: PartName,
     start: &[Letter],
     body: &[Cell],
 )
     requires window { IsWindow (sheet_key day.now) start.now }
     requires few { length body.now ≤ 520 }
     ensures { Draws W.taken W.has_failed sink.old sink.new
-        (text_rows language sheet day.now name start.now body.now) }
+        (text_rows page.language page.sheet day.now page.name start.now body.now) }
 {
-    let (first, rest) = body.split_at(body.len().min(first_sheet(name.model)));
-    draw_rows(sink, language, name.results, day, start, BEGINNING, first);
-    draw_next_sheet(
-        sink,
-        language,
-        sheet,
-        day,
-        name,
-        start,
-        progress_after(BEGINNING, first),
-        rest,
-    );
+    let (first, rest) = body.split_at(body.len().min(first_sheet(page.name.model)));
+    draw_rows(sink, page, day, start, BEGINNING, first);
+    let progress = progress_after(BEGINNING, first);
+    draw_next_sheet(sink, page, day, start, progress, rest);
 }
 
 /// How many letters of a body fit on the first sheet of paper.
@@ -347,10 +330,8 @@ fn first_sheet(model: Model) -> usize
 /// Writes the rows of `cells` onto a second sheet of paper. Writes nothing if there are no cells.
 fn draw_next_sheet<W: Sink>(
     sink: &mut W,
-    language: Language,
-    sheet: Sheet,
+    page: PartPage,
     day: &SheetDay,
-    name: PartName,
     start: &[Letter],
     progress: Progress,
     cells: &[Cell],
@@ -359,13 +340,14 @@ fn draw_next_sheet<W: Sink>(
     requires presses { progress.presses ≤ progress.letters }
     requires few { progress.letters + length cells.now ≤ 520 }
     ensures { Draws W.taken W.has_failed sink.old sink.new
-        (next_sheet language sheet day.now name start.now progress cells.now) }
+        (next_sheet page.language page.sheet day.now page.name start.now progress cells.now) }
 {
     if cells.is_empty() {
         draw(sink, "");
     } else {
-        fill_name(sink, language, sheet.text(language, NEXT_STEP), name);
-        draw_rows(sink, language, name.results, day, start, progress, cells);
+        let template = page.sheet.text(page.language, NEXT_STEP);
+        fill_name(sink, page.language, template, page.name);
+        draw_rows(sink, page, day, start, progress, cells);
     }
 }
 

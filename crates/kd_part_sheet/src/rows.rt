@@ -17,10 +17,11 @@ use crate::markup::{
     ABOVE_END, GROUP, GROUP_END, MARKS, MARKS_END, ROW, ROW_BOX, ROW_END, ROW_LETTERS, ROW_NUMBERS,
     SMALL, SMALL_END, SPACE, TWO_SPACES,
 };
+use crate::part_sheet::PartPage;
 use crate::words::draw_shown;
+use kd_pictures::draw;
 use kd_pictures::template::{Value, fill};
 use kd_pictures::words::is_converter;
-use kd_pictures::{Language, Results, draw};
 use kd_state::SheetDay;
 use kd_tables::{Letter, Sink};
 
@@ -35,8 +36,7 @@ pub(crate) struct Progress {
 /// step, the machine shows `start`.
 pub(crate) fn draw_rows<W: Sink>(
     sink: &mut W,
-    language: Language,
-    results: Results,
+    page: PartPage,
     day: &SheetDay,
     start: &[Letter],
     progress: Progress,
@@ -46,13 +46,13 @@ pub(crate) fn draw_rows<W: Sink>(
     requires presses { progress.presses ≤ progress.letters }
     requires few { progress.letters + length cells.now ≤ 520 }
     ensures { Draws W.taken W.has_failed sink.old sink.new
-        (rows_after results day.now start.now progress (pieces 50 cells.now)) }
+        (rows_after page.name.results day.now start.now progress (pieces 50 cells.now)) }
 {
     if !cells.is_empty() {
         let (row, rest) = first_piece(cells, 50);
         let progress = progress_after(progress, row);
-        draw_row(sink, language, results, day, start, progress, row);
-        draw_rows(sink, language, results, day, start, progress, rest);
+        draw_row(sink, page, day, start, progress, row);
+        draw_rows(sink, page, day, start, progress, rest);
     }
 }
 
@@ -79,8 +79,7 @@ fn pressed_count(row: &[Cell]) -> usize
 /// Writes a row. `progress` counts the letters of all rows so far, this row included.
 fn draw_row<W: Sink>(
     sink: &mut W,
-    language: Language,
-    results: Results,
+    page: PartPage,
     day: &SheetDay,
     start: &[Letter],
     progress: Progress,
@@ -90,13 +89,13 @@ fn draw_row<W: Sink>(
     requires presses { progress.presses ≤ progress.letters }
     requires few { progress.letters ≤ 520 }
     ensures { Draws W.taken W.has_failed sink.old sink.new
-        (row_text results day.now start.now progress row.now) }
+        (row_text page.name.results day.now start.now progress row.now) }
 {
     draw(sink, ROW);
     draw_groups(sink, row);
     let number = row_number(is_converter(day.model()), progress);
-    fill(sink, language, ROW_BOX, &[Value::Number(number)]);
-    let is_hidden = results.are_open() || pressed_count(row) == 0;
+    fill(sink, page.language, ROW_BOX, &[Value::Number(number)]);
+    let is_hidden = page.name.results.are_open() || pressed_count(row) == 0;
     draw_windows_after(sink, day, start, progress.presses, is_hidden);
     draw(sink, ROW_END);
 }
