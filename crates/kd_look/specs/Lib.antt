@@ -2,6 +2,7 @@ pub mod FaultWords
 pub mod File
 pub mod Form
 pub mod FormHeading
+pub mod Laws
 pub mod Line
 pub mod Look
 pub mod MachineWords

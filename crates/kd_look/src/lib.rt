@@ -6,6 +6,7 @@ mod day_lines;
 mod fault_words;
 mod few_days;
 mod file;
+pub mod laws;
 mod line;
 mod looking;
 mod machine_words;
