@@ -6,6 +6,7 @@ ghost use Rattle.kd_message.specs.SendBooklet.{AreOrderPages, CanBeSent, IsBookl
 ghost use Rattle.kd_message.specs.SendBooklet.{IsSendBooklet, OrderText, booklet_head, listed_orders, order_text};
 ghost use Rattle.kd_message.specs.SendPage.{HasForm};
 
+use crate::page_options::PageOptions;
 use crate::sending::{draw_sheets_of, draw_title};
 use crate::texts::{
     ARTICLE_END, LISTED_ORDER, LISTED_ORDER_END, ORDER_NAME_END, ORDER_PAGE, ORDERS, TITLE_TO_SEND,
@@ -14,7 +15,7 @@ use kd_form::{FormFault, send};
 use kd_pictures::sheet_name::draw_sheet_name;
 use kd_pictures::template::{Value, fill, fill_in};
 use kd_pictures::texts::{FOOT, NAV_END};
-use kd_pictures::{Language, Results, draw};
+use kd_pictures::{Language, draw};
 use kd_state::{Machine, SheetDay};
 use kd_tables::{Sink, WriteFault};
 use std::alloc::Global;
@@ -34,29 +35,29 @@ pub struct OrderFault {
     pub why: FormFault,
 }
 
-/// Writes a file with a page for each order, in `language`. A page shows how to encipher its order by hand on
-/// `machine`, as `write_send_page` does. Each page begins on a new sheet of paper, with the name of the order's file.
+/// Writes a file with a page for each order. A page shows how to encipher its order by hand on
+/// `machine`, as `write_send_page` does. Each page begins on a new sheet of paper, with the name of
+/// the order's file.
 ///
 /// If an order is refused, nothing is written. The fault is `Device`, or names the first order that `send` refuses.
 pub fn write_send_booklet<W: Sink>(
     alloc: Global,
-    language: Language,
-    results: Results,
+    options: PageOptions,
     machine: &Machine,
     day: &SheetDay,
     orders: &[OrderFile<'_>],
     sink: &mut W,
 ) -> Result<(), WriteFault<OrderFault>>
     requires { length orders.now ≤ 32 }
-    ensures pages { IsBookletAnswer results language machine.now day.now (map order_text orders.now)
-        (port W.taken W.has_failed sink.old sink.new) result }
+    ensures pages { IsBookletAnswer options.results options.language machine.now day.now
+        (map order_text orders.now) (port W.taken W.has_failed sink.old sink.new) result }
     ensures untouched { IsErr result → is_device result ≡ false → sink.new ≡ sink.old }
     ensures failed { W.has_failed sink.new ≡ (W.has_failed sink.old || is_device result) }
 {
     if let Err(fault) = check_orders(alloc, machine, day, 0, orders) {
         return Err(WriteFault::Unwritten(fault));
     }
-    draw_booklet(sink, language, results, day, orders);
+    draw_booklet(sink, options, day, orders);
     if sink.failed() {
         Err(WriteFault::Device)
     } else {
@@ -90,18 +91,18 @@ fn check_orders(
 /// Writes the file of orders that `send` accepts.
 fn draw_booklet<W: Sink>(
     sink: &mut W,
-    language: Language,
-    results: Results,
+    options: PageOptions,
     day: &SheetDay,
     orders: &[OrderFile<'_>],
 )
     requires good { All (λ (order : OrderText). HasForm day.now order.bytes) (map order_text orders.now) }
     requires few { length orders.now ≤ 32 }
-    ensures { (text : List ℕ) × IsSendBooklet results language day.now (map order_text orders.now) text
+    ensures { (text : List ℕ)
+        × IsSendBooklet options.results options.language day.now (map order_text orders.now) text
         × Draws W.taken W.has_failed sink.old sink.new text }
 {
-    draw_booklet_head(sink, language, day, orders);
-    draw_order_pages(sink, language, results, day, 1, orders);
+    draw_booklet_head(sink, options.language, day, orders);
+    draw_order_pages(sink, options, day, 1, orders);
     draw(sink, FOOT);
 }
 
@@ -160,8 +161,7 @@ fn draw_listed_orders<W: Sink>(
 /// Writes the pages of orders that `send` accepts, from order number `number` on.
 fn draw_order_pages<W: Sink>(
     sink: &mut W,
-    language: Language,
-    results: Results,
+    options: PageOptions,
     day: &SheetDay,
     number: u8,
     orders: &[OrderFile<'_>],
@@ -169,12 +169,13 @@ fn draw_order_pages<W: Sink>(
     requires good { All (λ (order : OrderText). HasForm day.now order.bytes) (map order_text orders.now) }
     requires few { number + length orders.now ≤ 33 }
     ensures { (pages : List (List ℕ))
-        × AreOrderPages results language day.now number (map order_text orders.now) pages
+        × AreOrderPages options.results options.language day.now number
+        (map order_text orders.now) pages
         × Draws W.taken W.has_failed sink.old sink.new (flat_map (λ page. page) pages) }
 {
     if let Some((order, rest)) = orders.split_first() {
-        draw_order_page(sink, language, results, day, number, order);
-        draw_order_pages(sink, language, results, day, number + 1, rest);
+        draw_order_page(sink, options, day, number, order);
+        draw_order_pages(sink, options, day, number + 1, rest);
     } else {
         draw(sink, "");
     }
@@ -183,24 +184,24 @@ fn draw_order_pages<W: Sink>(
 /// Writes the page of an order that `send` accepts: its name, and then its sheets.
 fn draw_order_page<W: Sink>(
     sink: &mut W,
-    language: Language,
-    results: Results,
+    options: PageOptions,
     day: &SheetDay,
     number: u8,
     order: &OrderFile<'_>,
 )
     requires { HasForm day.now order.now.bytes.now }
-    ensures { (page : List ℕ) × IsOrderPage results language day.now number (order_text order.now) page
+    ensures { (page : List ℕ)
+        × IsOrderPage options.results options.language day.now number (order_text order.now) page
         × Draws W.taken W.has_failed sink.old sink.new page }
 {
     fill(
         sink,
-        language,
+        options.language,
         ORDER_PAGE,
         &[Value::Number(u16::from(number))],
     );
     draw_sheet_name(sink, order.name);
     draw(sink, ORDER_NAME_END);
-    draw_sheets_of(sink, language, results, day, Some(number), order.bytes);
+    draw_sheets_of(sink, options, day, Some(number), order.bytes);
     draw(sink, ARTICLE_END);
 }

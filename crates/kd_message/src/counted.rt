@@ -11,8 +11,7 @@ use crate::texts::{
 };
 use crate::unread::{draw_count_asked, draw_counts, draw_line_words};
 use kd_lost::{DamagedPart, DamagedText, PartDamage};
-use kd_part_sheet::part_sheet::PartName;
-use kd_part_sheet::sheet::Sheet;
+use kd_part_sheet::part_sheet::PartPage;
 use kd_pictures::template::{Value, fill_in};
 use kd_pictures::{Language, draw, draw_in};
 use kd_state::SheetDay;
@@ -21,22 +20,21 @@ use kd_tables::Sink;
 /// Writes what is wrong with the part's letter count, then the text that is read by count, and then what to ask for.
 pub(crate) fn draw_counted_text<W: Sink>(
     sink: &mut W,
-    language: Language,
-    sheet: Sheet,
+    page: PartPage,
     day: &SheetDay,
-    name: PartName,
     part: &DamagedPart,
     damage: PartDamage,
     shown: &DamagedText,
 )
     ensures { Draws W.taken W.has_failed sink.old sink.new
-        (counted_text language sheet day.now name part.now damage shown.now) }
+        (counted_text page.language page.sheet day.now page.name part.now damage shown.now) }
 {
+    let PartPage { language, name, .. } = page;
     draw_in(sink, language, BY_COUNT);
     draw_counted_reason(sink, language, part, damage);
     draw_groups_told(sink, language, part.came, part.short_group);
     draw(sink, REASON_END);
-    draw_read_text(sink, language, sheet, day, name, shown);
+    draw_read_text(sink, page, day, shown);
     fill_in(sink, language, ASK, &[Value::Number(u16::from(name.part))]);
     draw_count_asked(sink, language, damage, part.short_group);
     draw(sink, ASK_END);

@@ -9,6 +9,7 @@ pub mod laws;
 mod lone_parts;
 mod notes;
 mod order;
+mod page_options;
 mod received_work;
 mod receiving;
 mod sending;
@@ -18,5 +19,6 @@ mod unread;
 
 pub use booklet::{OrderFault, OrderFile, write_send_booklet};
 pub use kd_pictures::Language;
+pub use page_options::PageOptions;
 pub use receiving::write_receive_page;
 pub use sending::write_send_page;

@@ -18,6 +18,7 @@ ghost use Rattle.kd_lost.specs.Texts.{shown_text};
 use crate::counted::draw_counted_text;
 use crate::lone_parts::{draw_listed_lone, draw_lone_text};
 use crate::notes::{draw_lone_note, draw_missing_note, draw_part_note, draw_several_note};
+use crate::page_options::PageOptions;
 use crate::received_work::received_work;
 use crate::sending::{draw_listed_part, draw_title, list_head, part_name};
 use crate::text_sheet::{
@@ -31,7 +32,7 @@ use kd_lost::{
     read_damaged_form, shown_text, shown_under, times_of, total_of,
 };
 use kd_part_sheet::markup::SECTION_END;
-use kd_part_sheet::part_sheet::{PartName, draw_if, draw_part_sheet, note};
+use kd_part_sheet::part_sheet::{PartName, PartPage, draw_if, draw_part_sheet, note};
 use kd_part_sheet::sheet::Sheet;
 use kd_pictures::template::{Value, fill_in};
 use kd_pictures::texts::FOOT;
@@ -41,25 +42,25 @@ use kd_state::SheetDay;
 use kd_tables::{Model, Sink, WriteFault};
 use std::alloc::Global;
 
-/// Writes the page in `language` that has the text of `form`, and shows how to decipher `form` by hand. The machine is
-/// on the day's key. If `results` are left open, the page has worksheets, and not the text.
+/// Writes the page that has the text of `form`, and shows how to decipher `form` by hand. The
+/// machine is on the day's key. If `options` leave the results open, the page has worksheets, and
+/// not the text.
 ///
 /// Writes to `notes` what is wrong with the form, and what to ask for. Returns whether the form is one whole message of
 /// the day, with no letter of its text lost.
 pub fn write_receive_page<W: Sink, E: Sink>(
     alloc: Global,
-    language: Language,
-    results: Results,
+    options: PageOptions,
     day: &SheetDay,
     form: &[u8],
     sink: &mut W,
     notes: &mut E,
 ) -> Result<bool, WriteFault<DamagedFormFault>>
-    ensures page { IsReceivePageAnswer results language day.now form.now
+    ensures page { IsReceivePageAnswer options.results options.language day.now form.now
         (port W.taken W.has_failed sink.old sink.new) result }
     ensures untouched { IsErr result → is_device result ≡ false → sink.new ≡ sink.old }
     ensures failed { W.has_failed sink.new ≡ (W.has_failed sink.old || is_device result) }
-    ensures noted { IsFormNoted language day.now form.now
+    ensures noted { IsFormNoted options.language day.now form.now
         (λ text. Draws E.taken E.has_failed notes.old notes.new text) result }
     ensures quiet { IsErr result → is_device result ≡ false → notes.new ≡ notes.old }
 {
@@ -67,8 +68,8 @@ pub fn write_receive_page<W: Sink, E: Sink>(
         Ok(parts) => parts,
         Err(fault) => return Err(WriteFault::Unwritten(fault)),
     };
-    draw_page(sink, language, results, day, parts.as_slice());
-    draw_notes(notes, language, day, parts.as_slice());
+    draw_page(sink, options, day, parts.as_slice());
+    draw_notes(notes, options.language, day, parts.as_slice());
     if sink.failed() {
         Err(WriteFault::Device)
     } else {
@@ -102,18 +103,13 @@ impl Section {
 }
 
 /// Writes the page of a form with the parts `parts`.
-fn draw_page<W: Sink>(
-    sink: &mut W,
-    language: Language,
-    results: Results,
-    day: &SheetDay,
-    parts: &[DamagedPart],
-)
+fn draw_page<W: Sink>(sink: &mut W, options: PageOptions, day: &SheetDay, parts: &[DamagedPart])
     requires few { length parts.now ≤ 255 }
     requires workable { AreWorkable day.now parts.now }
     ensures { Draws W.taken W.has_failed sink.old sink.new
-        (receive_text results language day.now parts.now) }
+        (receive_text options.results options.language day.now parts.now) }
 {
+    let PageOptions { language, results } = options;
     draw_title(sink, language, TITLE_TO_RECEIVE, day);
     draw(sink, list_head(language, sheet_count(parts)));
     draw_section(sink, Section::Listed, language, day, parts);
@@ -165,44 +161,38 @@ fn draw_section<W: Sink>(
     ensures { Draws W.taken W.has_failed sink.old sink.new
         (section_text section language day.now parts.now) }
 {
+    let page = PageSection { section, language };
     if is_one_message(parts) {
-        draw_by_number(sink, section, language, day, parts);
+        draw_by_number(sink, page, day, parts);
     } else {
-        draw_as_they_came(sink, section, language, day, 1, 0, parts);
+        draw_as_they_came(sink, page, day, 1, 0, parts);
     }
 }
 
-/// Writes what section `section` has for the parts of one message, in the order of their numbers.
-///
-/// First come the unnumbered parts at the beginning. Each numbered part is followed by the unnumbered parts after it.
-fn draw_by_number<W: Sink>(
-    sink: &mut W,
+/// A section of a page, and the language in which it is written.
+#[derive(Clone, Copy)]
+struct PageSection {
     section: Section,
     language: Language,
-    day: &SheetDay,
-    parts: &[DamagedPart],
-)
-    requires { AreWorkable day.now parts.now }
-    ensures { Draws W.taken W.has_failed sink.old sink.new
-        (by_number section language day.now parts.now) }
-{
-    draw_lone_after(sink, section, language, day, 0, 0, parts);
-    draw_numbers(
-        sink,
-        section,
-        language,
-        day,
-        parts,
-        1,
-        u16::from(total_of(parts)),
-    );
 }
 
-/// Writes what section `section` has for the parts with `count` successive numbers, from `number` on.
+/// Writes what the section has for the parts of one message, in the order of their numbers.
+///
+/// First come the unnumbered parts at the beginning. Each numbered part is followed by the
+/// unnumbered parts after it.
+fn draw_by_number<W: Sink>(sink: &mut W, page: PageSection, day: &SheetDay, parts: &[DamagedPart])
+    requires { AreWorkable day.now parts.now }
+    ensures { Draws W.taken W.has_failed sink.old sink.new
+        (by_number page.section page.language day.now parts.now) }
+{
+    draw_lone_after(sink, page, day, 0, 0, parts);
+    draw_numbers(sink, page, day, parts, 1, u16::from(total_of(parts)));
+}
+
+/// Writes what the section has for the parts with `count` successive numbers, from `number` on.
 fn draw_numbers<W: Sink>(
     sink: &mut W,
-    section: Section,
-    language: Language,
+    page: PageSection,
     day: &SheetDay,
     parts: &[DamagedPart],
     number: u16,
@@ -211,19 +201,20 @@ fn draw_numbers<W: Sink>(
     requires workable { AreWorkable day.now parts.now }
     requires numbers { number + count ≤ 256 }
     ensures { Draws W.taken W.has_failed sink.old sink.new
-        (flat_map (number_in section language day.now parts.now) (range_with_len number count)) }
+        (flat_map (number_in page.section page.language day.now parts.now)
+        (range_with_len number count)) }
 {
     if count > 0 {
-        draw_number(sink, section, language, day, parts, number);
-        draw_numbers(sink, section, language, day, parts, number + 1, count - 1);
+        draw_number(sink, page, day, parts, number);
+        draw_numbers(sink, page, day, parts, number + 1, count - 1);
     }
 }
 
-/// Writes what section `section` has for the part with `number`, then for the unnumbered parts after this part.
+/// Writes what the section has for the part with `number`, then for the unnumbered parts after this
+/// part.
 fn draw_number<W: Sink>(
     sink: &mut W,
-    section: Section,
-    language: Language,
+    page: PageSection,
     day: &SheetDay,
     parts: &[DamagedPart],
     number: u16,
@@ -231,18 +222,17 @@ fn draw_number<W: Sink>(
     requires workable { AreWorkable day.now parts.now }
     requires number { number ≤ 255 }
     ensures { Draws W.taken W.has_failed sink.old sink.new
-        (number_in section language day.now parts.now number) }
+        (number_in page.section page.language day.now parts.now number) }
 {
-    draw_shown(sink, section, language, day, parts, number);
-    draw_lone_after(sink, section, language, day, number as u8, 0, parts);
+    draw_shown(sink, page, day, parts, number);
+    draw_lone_after(sink, page, day, number as u8, 0, parts);
 }
 
-/// Writes what section `section` has for the part that is shown under `number`. If no part is shown, writes what the
-/// section has for a part that didn't come.
+/// Writes what the section has for the part that is shown under `number`. If no part is shown,
+/// writes what the section has for a part that didn't come.
 fn draw_shown<W: Sink>(
     sink: &mut W,
-    section: Section,
-    language: Language,
+    page: PageSection,
     day: &SheetDay,
     parts: &[DamagedPart],
     number: u16,
@@ -250,41 +240,40 @@ fn draw_shown<W: Sink>(
     requires workable { AreWorkable day.now parts.now }
     requires number { number ≤ 255 }
     ensures { Draws W.taken W.has_failed sink.old sink.new
-        (shown_in section language day.now
-        (part_name (results_of section) day.now number (total_of parts.now))
+        (shown_in page.section page.language day.now
+        (part_name (results_of page.section) day.now number (total_of parts.now))
         (times_of parts.now number) (shown_under parts.now number)) }
 {
-    let name = part_name(section.results(), day, number as u8, total_of(parts));
+    let name = part_name(page.section.results(), day, number as u8, total_of(parts));
     match shown_under(parts, number) {
         Some(part) => {
             let times = times_of(parts, number);
-            draw_part(sink, section, language, day, name, times, part)
+            draw_part(sink, page, day, name, times, part)
         }
-        None => draw_missing_in(sink, section, language, name),
+        None => draw_missing_in(sink, page, name),
     }
 }
 
-/// Writes what section `section` has for unnumbered parts: the parts between part number `after` and the next numbered
-/// part.
+/// Writes what the section has for unnumbered parts: the parts between part number `after` and the
+/// next numbered part.
 ///
 /// `before` is the number of the last numbered part that comes before the list `parts`.
 fn draw_lone_after<W: Sink>(
     sink: &mut W,
-    section: Section,
-    language: Language,
+    page: PageSection,
     day: &SheetDay,
     after: u8,
     before: u8,
     parts: &[DamagedPart],
 )
     ensures { Draws W.taken W.has_failed sink.old sink.new
-        (lone_after section language day.now after before parts.now) }
+        (lone_after page.section page.language day.now after before parts.now) }
 {
     if let [part, rest @ ..] = parts {
         let is_there = is_lone_after(after, before, &part.numbers);
-        draw_lone_if(sink, is_there, section, language, day, after, part);
+        draw_lone_if(sink, is_there, page, day, after, part);
         let last = number_or(before, &part.numbers);
-        draw_lone_after(sink, section, language, day, after, last, rest);
+        draw_lone_after(sink, page, day, after, last, rest);
     }
 }
 
@@ -309,41 +298,41 @@ fn number_or(before: u8, numbers: &Option<PartNumbers>) -> u8
     }
 }
 
-/// Writes what section `section` has for a part without a number, if `is_there`. Otherwise writes nothing.
+/// Writes what the section has for a part without a number, if `is_there`. Otherwise writes
+/// nothing.
 ///
 /// `after` is the number of the last numbered part before this part.
 fn draw_lone_if<W: Sink>(
     sink: &mut W,
     is_there: bool,
-    section: Section,
-    language: Language,
+    page: PageSection,
     day: &SheetDay,
     after: u8,
     part: &DamagedPart,
 )
     ensures { Draws W.taken W.has_failed sink.old sink.new
-        (if is_there then lone_in section language day.now after part.now else []) }
+        (if is_there then lone_in page.section page.language day.now after part.now else []) }
 {
     if is_there {
-        draw_lone(sink, section, language, day, after, part);
+        draw_lone(sink, page, day, after, part);
     } else {
         draw(sink, "");
     }
 }
 
-/// Writes what section `section` has for a part without a number. `after` is the number of the last numbered part
-/// before this part.
+/// Writes what the section has for a part without a number. `after` is the number of the last
+/// numbered part before this part.
 fn draw_lone<W: Sink>(
     sink: &mut W,
-    section: Section,
-    language: Language,
+    page: PageSection,
     day: &SheetDay,
     after: u8,
     part: &DamagedPart,
 )
     ensures { Draws W.taken W.has_failed sink.old sink.new
-        (lone_in section language day.now after part.now) }
+        (lone_in page.section page.language day.now after part.now) }
 {
+    let PageSection { section, language } = page;
     match section {
         Section::Listed => draw_listed_lone(sink, language, after),
         Section::Worked(_) => draw(sink, ""),
@@ -352,12 +341,11 @@ fn draw_lone<W: Sink>(
     }
 }
 
-/// Writes what section `section` has for `parts`, in the order of arrival. The first of these parts is at `place`.
-/// `before` is the number of the last numbered part before these parts.
+/// Writes what the section has for `parts`, in the order of arrival. The first of these parts is at
+/// `place`. `before` is the number of the last numbered part before these parts.
 fn draw_as_they_came<W: Sink>(
     sink: &mut W,
-    section: Section,
-    language: Language,
+    page: PageSection,
     day: &SheetDay,
     place: u16,
     before: u8,
@@ -366,22 +354,21 @@ fn draw_as_they_came<W: Sink>(
     requires places { place + length parts.now ≤ 256 }
     requires workable { AreWorkable day.now parts.now }
     ensures { Draws W.taken W.has_failed sink.old sink.new
-        (as_they_came section language day.now place before parts.now) }
+        (as_they_came page.section page.language day.now place before parts.now) }
 {
     if let [part, rest @ ..] = parts {
-        draw_part_at(sink, section, language, day, place, before, part);
+        draw_part_at(sink, page, day, place, before, part);
         let last = number_or(before, &part.numbers);
-        draw_as_they_came(sink, section, language, day, place + 1, last, rest);
+        draw_as_they_came(sink, page, day, place + 1, last, rest);
     }
 }
 
-/// Writes what section `section` has for the part that has the place `place` in the order of arrival.
+/// Writes what the section has for the part that has the place `place` in the order of arrival.
 ///
 /// `before` is the last part number before this part.
 fn draw_part_at<W: Sink>(
     sink: &mut W,
-    section: Section,
-    language: Language,
+    page: PageSection,
     day: &SheetDay,
     place: u16,
     before: u8,
@@ -390,14 +377,14 @@ fn draw_part_at<W: Sink>(
     requires place { place ≤ 255 }
     requires workable { HasShowableKeys day.now part.now }
     ensures { Draws W.taken W.has_failed sink.old sink.new
-        (part_at section language day.now place before part.now.numbers part.now) }
+        (part_at page.section page.language day.now place before part.now.numbers part.now) }
 {
     match &part.numbers {
         Some(numbers) => {
-            let name = name_at(section.results(), day, place as u8, numbers);
-            draw_part(sink, section, language, day, name, 1, part)
+            let name = name_at(page.section.results(), day, place as u8, numbers);
+            draw_part(sink, page, day, name, 1, part)
         }
-        None => draw_lone(sink, section, language, day, before, part),
+        None => draw_lone(sink, page, day, before, part),
     }
 }
 
@@ -414,11 +401,10 @@ fn name_at(results: Results, day: &SheetDay, place: u8, numbers: &PartNumbers) -
     }
 }
 
-/// Writes what section `section` has for a part that came `times` times.
+/// Writes what the section has for a part that came `times` times.
 fn draw_part<W: Sink>(
     sink: &mut W,
-    section: Section,
-    language: Language,
+    page: PageSection,
     day: &SheetDay,
     name: PartName,
     times: usize,
@@ -426,8 +412,9 @@ fn draw_part<W: Sink>(
 )
     requires { HasShowableKeys day.now part.now }
     ensures { Draws W.taken W.has_failed sink.old sink.new
-        (part_in section language day.now name times part.now) }
+        (part_in page.section page.language day.now name times part.now) }
 {
+    let PageSection { section, language } = page;
     match section {
         Section::Listed => draw_listed(sink, language, name, part),
         Section::Worked(_) => draw_worked(sink, language, day, name, part),
@@ -494,10 +481,12 @@ fn draw_sheet_of_text<W: Sink>(
 {
     draw_part_sheet(
         sink,
-        language,
-        sheet_to_receive(day.model()),
+        PartPage {
+            language,
+            sheet: sheet_to_receive(day.model()),
+            name,
+        },
         day,
-        name,
         warnings_of(shown),
         &received_work(day, shown),
     );
@@ -542,20 +531,24 @@ fn draw_text_or_damage<W: Sink>(
     ensures { Draws W.taken W.has_failed sink.old sink.new
         (text_or_damage language day.now name part.now part.now.text) }
 {
-    let sheet = sheet_to_receive(day.model());
+    let page = PartPage {
+        language,
+        sheet: sheet_to_receive(day.model()),
+        name,
+    };
     match (&part.text, &part.by_count) {
-        (Ok(shown), _) => draw_read_text(sink, language, sheet, day, name, shown),
-        (Err(damage), Some(shown)) => {
-            draw_counted_text(sink, language, sheet, day, name, part, *damage, shown)
-        }
-        (Err(damage), None) => draw_damage(sink, language, sheet, name, part, *damage),
+        (Ok(shown), _) => draw_read_text(sink, page, day, shown),
+        (Err(damage), Some(shown)) => draw_counted_text(sink, page, day, part, *damage, shown),
+        (Err(damage), None) => draw_damage(sink, page, part, *damage),
     }
 }
 
-/// Writes what section `section` has for a part that didn't come.
-fn draw_missing_in<W: Sink>(sink: &mut W, section: Section, language: Language, name: PartName)
-    ensures { Draws W.taken W.has_failed sink.old sink.new (missing_in section language name) }
+/// Writes what the section has for a part that didn't come.
+fn draw_missing_in<W: Sink>(sink: &mut W, page: PageSection, name: PartName)
+    ensures { Draws W.taken W.has_failed sink.old sink.new
+        (missing_in page.section page.language name) }
 {
+    let PageSection { section, language } = page;
     match section {
         Section::Listed => draw_listed_unread(sink, language, name),
         Section::Worked(_) => draw(sink, ""),

@@ -17,6 +17,7 @@ ghost use Rattle.kd_message.specs.SendPage.{sheet_to_send, sheets_text, text_pie
 
 use crate::form_sheet::{draw_form_head, draw_form_number, draw_form_part};
 use crate::order::{read_head, take_piece};
+use crate::page_options::PageOptions;
 use crate::texts::{
     ARTICLE_END, LIST_END_WITH_FORM, LIST_OF_ONE, LIST_OF_SEVERAL, LISTED_FORM, LISTED_PART,
     TITLE_TO_SEND,
@@ -26,7 +27,7 @@ use kd_form::keys::Keys;
 use kd_form::sending::order_head::HeadReader;
 use kd_form::sending::part::{indicator_of, pin_letters, rotor_letters};
 use kd_form::{FormFault, send};
-use kd_part_sheet::part_sheet::{PartName, Warnings, draw_part_sheet};
+use kd_part_sheet::part_sheet::{PartName, PartPage, Warnings, draw_part_sheet};
 use kd_part_sheet::part_work::work_of;
 use kd_part_sheet::sheet::Sheet;
 use kd_pictures::file_head::draw_file_head;
@@ -38,20 +39,19 @@ use kd_state::{Machine, SheetDay};
 use kd_tables::{Letter, Model, Sink, WriteFault};
 use std::alloc::Global;
 
-/// Writes the page in `language` that shows how to encipher `order` by hand on `machine`. The machine must be on the
-/// day's key. If `results` are left open, the page has worksheets.
+/// Writes the page that shows how to encipher `order` by hand on `machine`. The machine must be on
+/// the day's key. If `options` leave the results open, the page has worksheets.
 ///
 /// The fault is `Device`, or one that `send` can return for this order.
 pub fn write_send_page<W: Sink>(
     alloc: Global,
-    language: Language,
-    results: Results,
+    options: PageOptions,
     machine: &Machine,
     day: &SheetDay,
     order: &[u8],
     sink: &mut W,
 ) -> Result<(), WriteFault<FormFault>>
-    ensures page { IsSendPageAnswer results language machine.now day.now order.now
+    ensures page { IsSendPageAnswer options.results options.language machine.now day.now order.now
         (port W.taken W.has_failed sink.old sink.new) result }
     ensures untouched { IsErr result → is_device result ≡ false → sink.new ≡ sink.old }
     ensures failed { W.has_failed sink.new ≡ (W.has_failed sink.old || is_device result) }
@@ -59,7 +59,7 @@ pub fn write_send_page<W: Sink>(
     if let Err(fault) = send(alloc, machine, day, order) {
         return Err(WriteFault::Unwritten(fault));
     }
-    draw_page(sink, language, results, day, order);
+    draw_page(sink, options, day, order);
     if sink.failed() {
         Err(WriteFault::Device)
     } else {
@@ -68,20 +68,15 @@ pub fn write_send_page<W: Sink>(
 }
 
 /// Writes the page of an order that `send` accepts.
-fn draw_page<W: Sink>(
-    sink: &mut W,
-    language: Language,
-    results: Results,
-    day: &SheetDay,
-    order: &[u8],
-)
+fn draw_page<W: Sink>(sink: &mut W, options: PageOptions, day: &SheetDay, order: &[u8])
     requires { HasForm day.now order.now }
     ensures { (form : List ℕ) → IsFormOf day.now order.now form
-        → (page : List ℕ) × IsSendPage results language day.now order.now form page
+        → (page : List ℕ)
+        × IsSendPage options.results options.language day.now order.now form page
         × Draws W.taken W.has_failed sink.old sink.new page }
 {
-    draw_title(sink, language, TITLE_TO_SEND, day);
-    draw_sheets_of(sink, language, results, day, None, order);
+    draw_title(sink, options.language, TITLE_TO_SEND, day);
+    draw_sheets_of(sink, options, day, None, order);
     draw(sink, FOOT);
 }
 
@@ -90,27 +85,26 @@ fn draw_page<W: Sink>(
 /// `place` is the order's number in a file of several orders, and `None` in a file of one order.
 pub(crate) fn draw_sheets_of<W: Sink>(
     sink: &mut W,
-    language: Language,
-    results: Results,
+    options: PageOptions,
     day: &SheetDay,
     place: Option<u8>,
     order: &[u8],
 )
     requires { HasForm day.now order.now }
     ensures { (form : List ℕ) → IsFormOf day.now order.now form
-        → (sheets : List ℕ) × AreOrderSheets results language day.now place order.now form sheets
+        → (sheets : List ℕ)
+        × AreOrderSheets options.results options.language day.now place order.now form sheets
         × Draws W.taken W.has_failed sink.old sink.new sheets }
 {
     let mut reader = HeadReader::new();
     let text = read_head(&mut reader, day, order);
-    draw_sheets(sink, language, results, day, place, reader.keys(), text);
+    draw_sheets(sink, options, day, place, reader.keys(), text);
 }
 
 /// Writes the sheets of an order that has the keys `keys` and the text `text`.
 fn draw_sheets<W: Sink>(
     sink: &mut W,
-    language: Language,
-    results: Results,
+    options: PageOptions,
     day: &SheetDay,
     place: Option<u8>,
     keys: &[Keys],
@@ -121,14 +115,33 @@ fn draw_sheets<W: Sink>(
         × AreWorks day.now keys.now (text_pieces day.now text.now) works
         × AreMade day.now 1 (length keys.now) keys.now (text_pieces day.now text.now) made
         × Draws W.taken W.has_failed sink.old sink.new
-        (sheets_text results language day.now place (length keys.now) works made) }
+        (sheets_text options.results options.language day.now place (length keys.now) works made) }
 {
     let parts = keys.len() as u8;
-    draw_list(sink, language, place, parts);
-    draw_part_sheets(sink, language, results, day, place, 1, parts, keys, text);
-    draw_form_head(sink, language, place, day);
-    draw_form_parts(sink, language, results, day, 1, parts, keys, text);
+    let left = PartsLeft {
+        part: 1,
+        parts,
+        keys,
+        text,
+    };
+    draw_list(sink, options.language, place, parts);
+    draw_part_sheets(sink, options, day, place, left);
+    draw_form_head(sink, options.language, place, day);
+    draw_form_parts(sink, options, day, left);
     draw(sink, ARTICLE_END);
+}
+
+/// The parts of an order that aren't written yet: the last ones of the message.
+#[derive(Clone, Copy)]
+struct PartsLeft<'a> {
+    /// The number of the first part that is left.
+    part: u8,
+    /// How many parts the message has.
+    parts: u8,
+    /// The keys of the parts that are left.
+    keys: &'a [Keys],
+    /// The text of the parts that are left.
+    text: &'a [u8],
 }
 
 /// Writes the head of the file; `title` is the template of its title.
@@ -228,45 +241,46 @@ pub(crate) fn draw_listed_part<W: Sink>(
     );
 }
 
-/// Writes the sheets for the parts from number `part` on.
+/// Writes the sheets for the parts that are left.
 fn draw_part_sheets<W: Sink>(
     sink: &mut W,
-    language: Language,
-    results: Results,
+    options: PageOptions,
     day: &SheetDay,
     place: Option<u8>,
-    part: u8,
-    parts: u8,
-    keys: &[Keys],
-    text: &[u8],
+    left: PartsLeft<'_>,
 )
-    requires { AreKeysOfText day.now part parts keys.now text.now }
-    ensures { (works : List Work) × AreWorks day.now keys.now (text_pieces day.now text.now) works
+    requires { AreKeysOfText day.now left.part left.parts left.keys.now left.text.now }
+    ensures { (works : List Work)
+        × AreWorks day.now left.entry.keys.now (text_pieces day.now left.entry.text.now) works
         × Draws W.taken W.has_failed sink.old sink.new
-        (part_sheets results language day.now place part parts works) }
+        (part_sheets options.results options.language day.now place
+        left.entry.part left.entry.parts works) }
 {
-    if let [first, rest @ ..] = keys {
-        let (piece, later) = take_piece(day, text);
-        let work = work_of(day, part, first, piece.as_slice());
+    if let [first, rest @ ..] = left.keys {
+        let (piece, later) = take_piece(day, left.text);
+        let work = work_of(day, left.part, first, piece.as_slice());
         draw_part_sheet(
             sink,
-            language,
-            sheet_to_send(day.model()),
+            PartPage {
+                language: options.language,
+                sheet: sheet_to_send(day.model()),
+                name: name_in_place(options.results, day, place, left.part, left.parts),
+            },
             day,
-            name_in_place(results, day, place, part, parts),
             NO_WARNINGS,
             &work,
         );
         draw_part_sheets(
             sink,
-            language,
-            results,
+            options,
             day,
             place,
-            part + 1,
-            parts,
-            rest,
-            later,
+            PartsLeft {
+                part: left.part + 1,
+                parts: left.parts,
+                keys: rest,
+                text: later,
+            },
         );
     }
 }
@@ -318,33 +332,36 @@ fn name_in_place(
     }
 }
 
-/// Writes the parts of the form from number `part` on.
-fn draw_form_parts<W: Sink>(
-    sink: &mut W,
-    language: Language,
-    results: Results,
-    day: &SheetDay,
-    part: u8,
-    parts: u8,
-    keys: &[Keys],
-    text: &[u8],
-)
-    requires { AreKeysOfText day.now part parts keys.now text.now }
+/// Writes the parts of the form that are left.
+fn draw_form_parts<W: Sink>(sink: &mut W, options: PageOptions, day: &SheetDay, left: PartsLeft<'_>)
+    requires { AreKeysOfText day.now left.part left.parts left.keys.now left.text.now }
     ensures { (made : List Part)
-        × AreMade day.now part parts keys.now (text_pieces day.now text.now) made
-        × Draws W.taken W.has_failed sink.old sink.new (form_parts results language day.now made) }
+        × AreMade day.now left.entry.part left.entry.parts left.entry.keys.now
+        (text_pieces day.now left.entry.text.now) made
+        × Draws W.taken W.has_failed sink.old sink.new
+        (form_parts options.results options.language day.now made) }
 {
-    if let [first, rest @ ..] = keys {
-        let (piece, later) = take_piece(day, text);
+    if let [first, rest @ ..] = left.keys {
+        let (piece, later) = take_piece(day, left.text);
         draw_made_part(
             sink,
-            language,
+            options.language,
             day,
-            part_name(results, day, part, parts),
+            part_name(options.results, day, left.part, left.parts),
             first,
             piece.as_slice(),
         );
-        draw_form_parts(sink, language, results, day, part + 1, parts, rest, later);
+        draw_form_parts(
+            sink,
+            options,
+            day,
+            PartsLeft {
+                part: left.part + 1,
+                parts: left.parts,
+                keys: rest,
+                text: later,
+            },
+        );
     }
 }
 

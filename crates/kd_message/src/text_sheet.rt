@@ -23,8 +23,7 @@ use kd_lost::{
     is_wrong_day,
 };
 use kd_part_sheet::markup::{COMMA, LOST_LETTER, SPACE};
-use kd_part_sheet::part_sheet::{PartName, Warnings, draw_warnings};
-use kd_part_sheet::sheet::Sheet;
+use kd_part_sheet::part_sheet::{PartName, PartPage, Warnings, draw_warnings};
 use kd_pictures::template::{Value, draw_letter, fill_in};
 use kd_pictures::words::is_converter;
 use kd_pictures::{Language, Results, draw, draw_in};
@@ -196,20 +195,18 @@ pub(crate) fn draw_text_part_head<W: Sink>(sink: &mut W, language: Language, nam
 /// Writes the text of a part, its warnings, and the groups to ask for.
 pub(crate) fn draw_read_text<W: Sink>(
     sink: &mut W,
-    language: Language,
-    sheet: Sheet,
+    page: PartPage,
     day: &SheetDay,
-    name: PartName,
     shown: &DamagedText,
 )
     ensures { Draws W.taken W.has_failed sink.old sink.new
-        (read_text language sheet day.now name shown.now) }
+        (read_text page.language page.sheet day.now page.name shown.now) }
 {
-    draw(sink, text_begin(name.model));
-    draw_text_letters(sink, name.results, day, shown.letters.as_slice());
+    draw(sink, text_begin(page.name.model));
+    draw_text_letters(sink, page.name.results, day, shown.letters.as_slice());
     draw(sink, TEXT_END);
-    draw_warnings(sink, language, sheet, warnings_of(shown));
-    draw_ask_for_lost(sink, language, name, shown.letters.as_slice());
+    draw_warnings(sink, page.language, page.sheet, warnings_of(shown));
+    draw_ask_for_lost(sink, page.language, page.name, shown.letters.as_slice());
 }
 
 /// The start of a text. It says where lines may break: between any letters or, on a Converter, between words.

@@ -21,8 +21,7 @@ use crate::texts::{
 use itoa::Buffer;
 use kd_lost::{DamagedPart, PartDamage, PartNumbers, ShortLine, WrongSign, part_line};
 use kd_part_sheet::markup::COMMA;
-use kd_part_sheet::part_sheet::{PartName, draw_warnings};
-use kd_part_sheet::sheet::Sheet;
+use kd_part_sheet::part_sheet::{PartName, PartPage, draw_warnings};
 use kd_pictures::template::{Value, fill_in};
 use kd_pictures::{Language, draw, draw_in};
 use kd_tables::{Letter, Sink};
@@ -50,15 +49,18 @@ pub(crate) fn draw_ask<W: Sink>(sink: &mut W, language: Language, name: PartName
 /// Writes why a part isn't read, and what to ask for. Warns if the part is of another day.
 pub(crate) fn draw_damage<W: Sink>(
     sink: &mut W,
-    language: Language,
-    sheet: Sheet,
-    name: PartName,
+    page: PartPage,
     part: &DamagedPart,
     damage: PartDamage,
 )
     ensures { Draws W.taken W.has_failed sink.old sink.new
-        (damage_text language sheet name part.now damage) }
+        (damage_text page.language page.sheet page.name part.now damage) }
 {
+    let PartPage {
+        language,
+        sheet,
+        name,
+    } = page;
     draw_in(sink, language, UNREAD);
     draw_reason(sink, language, part, damage);
     draw(sink, REASON_END);

@@ -25,8 +25,8 @@ returns-then-failed-clause-page g c =
     ) in
     let drawn = rw c.as_slice.ensures.value at c.draw_page.ensures in
     ReceivedPageWritten c.in-Ok.parts.items c.in-Ok.ensures.read few
-    (writes_part _ (page_begins c.args.results c.args.language c.args.day.now c.in-Ok.parts.items).1.1 drawn (search rules)) refl
-    (search rules)
+    (writes_part _ (page_begins c.args.options.results c.args.options.language c.args.day.now c.in-Ok.parts.items).1.1 drawn
+    (search rules)) refl (search rules)
 
 pub returns-clause-page : goal.returns-clause-page
 returns-clause-page g c =

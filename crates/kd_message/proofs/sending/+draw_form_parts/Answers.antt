@@ -6,27 +6,31 @@ use Rattle.kd_message.proofs.sending.+draw_form_parts.Goals as goal
 
 pub draw_made_part-requires-clause-suits : goal.draw_made_part-requires-clause-suits
 draw_made_part-requires-clause-suits g t c =
-    let split : c.args.keys.now ≡ c.first-item.result ∷ later_keys c.args.keys.now = grind (arith, common_steps) in
-    rw c.part_name.ensures (next_part c.args.day.now c.args.part c.args.parts c.args.keys.now c.first-item.result
-    (later_keys c.args.keys.now) c.args.text.now c.take_piece-piece.result.0.items c.take_piece-piece.result.1.now
-    split c.take_piece-piece.ensures.piece
+    let split : c.args.left.keys.now ≡ c.first-item.result ∷ later_keys c.args.left.keys.now =
+    grind (arith, common_steps) in
+    rw c.part_name.ensures (next_part c.args.day.now c.args.left.part c.args.left.parts c.args.left.keys.now
+    c.first-item.result
+    (later_keys c.args.left.keys.now) c.args.left.text.now c.take_piece-piece.result.0.items
+    c.take_piece-piece.result.1.now split c.take_piece-piece.ensures.piece
     c.take_piece-piece.ensures.rest c.requires).suits
 
 pub draw_form_parts-requires : goal.draw_form_parts-requires
 draw_form_parts-requires g t c κs within =
-    let split : c.args.keys.now ≡ c.first-item.result ∷ later_keys c.args.keys.now = grind (arith, common_steps) in
-    let next = next_part c.args.day.now c.args.part c.args.parts c.args.keys.now c.first-item.result
-    (later_keys c.args.keys.now) c.args.text.now c.take_piece-piece.result.0.items c.take_piece-piece.result.1.now
-    split c.take_piece-piece.ensures.piece
+    let split : c.args.left.keys.now ≡ c.first-item.result ∷ later_keys c.args.left.keys.now =
+    grind (arith, common_steps) in
+    let next = next_part c.args.day.now c.args.left.part c.args.left.parts c.args.left.keys.now c.first-item.result
+    (later_keys c.args.left.keys.now) c.args.left.text.now c.take_piece-piece.result.0.items
+    c.take_piece-piece.result.1.now split c.take_piece-piece.ensures.piece
     c.take_piece-piece.ensures.rest c.requires in
     (omega (arith, c.decreases), (within, next.rest))
 
 pub returns-in-len1-up : goal.returns-in-len1-up
 returns-in-len1-up g t c =
-    let split : c.args.keys.now ≡ c.first-item.result ∷ later_keys c.args.keys.now = grind (arith, common_steps) in
-    let next = next_part c.args.day.now c.args.part c.args.parts c.args.keys.now c.first-item.result
-    (later_keys c.args.keys.now) c.args.text.now c.take_piece-piece.result.0.items c.take_piece-piece.result.1.now
-    split c.take_piece-piece.ensures.piece
+    let split : c.args.left.keys.now ≡ c.first-item.result ∷ later_keys c.args.left.keys.now =
+    grind (arith, common_steps) in
+    let next = next_part c.args.day.now c.args.left.part c.args.left.parts c.args.left.keys.now c.first-item.result
+    (later_keys c.args.left.keys.now) c.args.left.text.now c.take_piece-piece.result.0.items
+    c.take_piece-piece.result.1.now split c.take_piece-piece.ensures.piece
     c.take_piece-piece.ensures.rest c.requires in
     parts_next _ _ _ _ _ split next.cut
     (rw (c.part_name.ensures, c.as_slice.ensures.value) at c.draw_made_part.ensures) c.draw_form_parts.ensures

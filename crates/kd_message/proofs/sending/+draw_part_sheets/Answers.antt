@@ -6,18 +6,20 @@ use Rattle.kd_message.proofs.sending.+draw_part_sheets.Goals as goal
 
 pub work_of-work-requires-clause-suits : goal.work_of-work-requires-clause-suits
 work_of-work-requires-clause-suits g t c =
-    let split : c.args.keys.now ≡ c.first-item.result ∷ later_keys c.args.keys.now = grind (arith, common_steps) in
-    (next_part c.args.day.now c.args.part c.args.parts c.args.keys.now c.first-item.result
-    (later_keys c.args.keys.now) c.args.text.now c.take_piece-piece.result.0.items c.take_piece-piece.result.1.now
-    split c.take_piece-piece.ensures.piece
+    let split : c.args.left.keys.now ≡ c.first-item.result ∷ later_keys c.args.left.keys.now =
+    grind (arith, common_steps) in
+    (next_part c.args.day.now c.args.left.part c.args.left.parts c.args.left.keys.now c.first-item.result
+    (later_keys c.args.left.keys.now) c.args.left.text.now c.take_piece-piece.result.0.items
+    c.take_piece-piece.result.1.now split c.take_piece-piece.ensures.piece
     c.take_piece-piece.ensures.rest c.requires).suits
 
 pub draw_part_sheets-requires : goal.draw_part_sheets-requires
 draw_part_sheets-requires g t c κs within =
-    let split : c.args.keys.now ≡ c.first-item.result ∷ later_keys c.args.keys.now = grind (arith, common_steps) in
-    let next = next_part c.args.day.now c.args.part c.args.parts c.args.keys.now c.first-item.result
-    (later_keys c.args.keys.now) c.args.text.now c.take_piece-piece.result.0.items c.take_piece-piece.result.1.now
-    split c.take_piece-piece.ensures.piece
+    let split : c.args.left.keys.now ≡ c.first-item.result ∷ later_keys c.args.left.keys.now =
+    grind (arith, common_steps) in
+    let next = next_part c.args.day.now c.args.left.part c.args.left.parts c.args.left.keys.now c.first-item.result
+    (later_keys c.args.left.keys.now) c.args.left.text.now c.take_piece-piece.result.0.items
+    c.take_piece-piece.result.1.now split c.take_piece-piece.ensures.piece
     c.take_piece-piece.ensures.rest c.requires in
     (omega (arith, c.decreases), (within, next.rest))
 
@@ -28,10 +30,11 @@ returns-in_default g t c =
 
 pub returns-in-len1-up : goal.returns-in-len1-up
 returns-in-len1-up g t c =
-    let split : c.args.keys.now ≡ c.first-item.result ∷ later_keys c.args.keys.now = grind (arith, common_steps) in
-    let next = next_part c.args.day.now c.args.part c.args.parts c.args.keys.now c.first-item.result
-    (later_keys c.args.keys.now) c.args.text.now c.take_piece-piece.result.0.items c.take_piece-piece.result.1.now
-    split c.take_piece-piece.ensures.piece
+    let split : c.args.left.keys.now ≡ c.first-item.result ∷ later_keys c.args.left.keys.now =
+    grind (arith, common_steps) in
+    let next = next_part c.args.day.now c.args.left.part c.args.left.parts c.args.left.keys.now c.first-item.result
+    (later_keys c.args.left.keys.now) c.args.left.text.now c.take_piece-piece.result.0.items
+    c.take_piece-piece.result.1.now split c.take_piece-piece.ensures.piece
     c.take_piece-piece.ensures.rest c.requires in
     sheets_next _ _ _ _ _ _ c.work_of-work.result split next.cut
     (rw c.as_slice.ensures.value at c.work_of-work.ensures.work)

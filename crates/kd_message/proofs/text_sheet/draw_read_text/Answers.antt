@@ -14,6 +14,7 @@ returns g c =
     let warnings = rw c.warnings_of.ensures at c.draw_warnings.ensures in
     let asked = rw c.as_slice-2.ensures.value at c.draw_ask_for_lost.ensures in
     joined (both (both (both first letters) c.draw-2.ensures) warnings) asked
-    (five_joined (text_begin c.args.name.model) (text_letters c.args.name.results c.args.day.now c.args.shown.now.letters.items)
-    TEXT_END.now (warnings_text c.args.language c.args.sheet (warnings_of c.args.shown.now))
-    (ask_for_lost c.args.language c.args.name c.args.shown.now.letters.items))
+    (five_joined (text_begin c.args.page.name.model)
+    (text_letters c.args.page.name.results c.args.day.now c.args.shown.now.letters.items)
+    TEXT_END.now (warnings_text c.args.page.language c.args.page.sheet (warnings_of c.args.shown.now))
+    (ask_for_lost c.args.page.language c.args.page.name c.args.shown.now.letters.items))
