@@ -1,10 +1,10 @@
 -- The head of an order, line by line: where it ends, or its first wrong byte.
-use Rattle.kd_look.proofs.LineEnds.{IsLineAnswer, IsLineTo, IsLineWrongAt, line_answer, fits_next, unfit_next}
-use Rattle.kd_look.proofs.LineEnds.{◌≡◌, ◌∙◌, ℕ, zero, suc, ◌+◌, ◌<◌, ◌≤◌, ◌⊎◌, Bool, true, false, List, [], ◌∷◌, ◌++◌}
-use Rattle.kd_look.proofs.LineEnds.{Result, Ok, Err, append_assoc, ap, arith, codes, cond, drop, get_or, inl, inr, length}
-use Rattle.kd_look.proofs.LineEnds.{length-append, refl, subst, sym, take}
+use Rattle.kd_look.proofs.LineEnds.{IsLineAnswer, IsLineTo, IsLineWrongAt, IsOff, MayGoOn, line_answer, fits_next}
+use Rattle.kd_look.proofs.LineEnds.{unfit_next}
+use Rattle.std.proofs.Common.{◌≡◌, ◌∙◌, ℕ, zero, suc, ◌+◌, ◌<◌, ◌≤◌, ◌⊎◌, Bool, true, false, List, [], ◌∷◌, ◌++◌}
+use Rattle.std.proofs.Common.{Result, Ok, Err, append_assoc, ap, arith, codes, cond, drop, get_or, inl, inr, length}
+use Rattle.std.proofs.Common.{length-append, refl, subst, sym, take, ◌==◌}
 use Rattle.std.proofs.lemmas.Bool.{Decides.nat_tests, false≢true}
-use Rattle.std.proofs.Common.{◌==◌}
 use Rattle.std.proofs.lemmas.List.{append-nil, take_at, Sums.sum_by-append}
 use Rattle.std.proofs.lemmas.List.Elements.{All-head, All-tail}
 use Rattle.std.specs.List.{count_by}
@@ -12,16 +12,16 @@ use Rattle.std.specs.Result.{result_map_both}
 use Rattle.kd_state.specs.SheetDay.{Day}
 use Rattle.kd_form.specs.declared.fault.FormFault.TheVariants.{BadByte}
 use Rattle.kd_form.specs.declared.keys.Keys.{Keys}
-use Rattle.kd_form.specs.declared.sending.pattern_line.PatternFault.TheVariants.{Incomplete, Mismatch}
-use Rattle.kd_form.specs.KeyPatterns.{IsAnyKeyLine, key_pattern}
+use Rattle.kd_form.specs.KeyPatterns.{key_pattern}
 use Rattle.kd_form.specs.Order.{BeginsWithKeys, IsAnyOrderHead, IsLineWithEnd, IsOrder, IsOrderHead, IsOrderHeadFault}
-use Rattle.kd_form.specs.Order.{IsPatternFault}
 use Rattle.kd_form.specs.OrderSteps.{IsHeadBegun, IsHeadLine}
 use Rattle.kd_form.specs.Patterns.{IsPatternLine}
-use Rattle.kd_form.proofs.Lines.{IsPlain, as_key_line, keys_broken, lines_more, plain_keys, plain_text}
+use Rattle.kd_form.proofs.Lines.{IsPlain, as_form_line, as_key_line, key_first, lines_more, plain_keys, plain_text}
+use Rattle.kd_form.proofs.Lines.{text_front, text_line}
 use Rattle.kd_form.proofs.OneOrder.{BeginsWithKeys-append}
-use Rattle.kd_form.proofs.OrderSteps.{goes_on, head_next, next_keys, next_text, no_next, one_more, text_head}
+use Rattle.kd_form.proofs.OrderSteps.{goes_on, head_next, no_next, one_more, text_head}
 use Rattle.kd_sheet.specs.Document.{◌>>=◌}
+use Rattle.kd_look.proofs.KeyForms.{form_pattern}
 use Rattle.kd_look.specs.Laws.{HasHeadTo, HeadFaultsAreThoseOfSend, HeadsEndWhereSendEndsThem}
 use Rattle.kd_look.specs.Order.{head_fault}
 use Rattle.kd_look.specs.OrderHead.{head_end, pattern_of}
@@ -36,7 +36,7 @@ feeds bytes = count_by (λ byte. byte == 10) bytes
 
 -- if no line of a head can go on with a byte, no head can
 pub head_stops : {s : Day} {keys : List Keys} {line order : List ℕ} → IsHeadBegun s keys line order
-    → (byte : ℕ) → IsPatternFault (IsHeadLine s (length keys)) (line ++ byte ∷ []) Mismatch
+    → (byte : ℕ) → IsOff (IsHeadLine s (length keys)) (line ++ byte ∷ [])
     → (other : List ℕ) → ¬ (IsAnyOrderHead s (order ++ byte ∷ other))
 head_stops {s} {keys} {line} {order} is byte off other (others, head) =
     let all : List ℕ = order ++ byte ∷ other in
@@ -46,6 +46,36 @@ head_stops {s} {keys} {line} {order} is byte off other (others, head) =
     let few : length keys + length after ≤ 99 = omega (arith, head.few, ap length are, length-append keys after) in
     let (one, left, next, split) = head_next s (length keys) after last few ended in
     no_next s (length keys) line other one left byte is.begins off next (cc (mine, alike, split, append-nil last))
+
+-- bytes that follow don't change the first byte
+same_first : (part : List ℕ) (byte : ℕ) (more : List ℕ)
+    → get_or ((part ++ byte ∷ []) ++ more) 0 0 ≡ get_or (part ++ byte ∷ []) 0 0
+same_first [] byte more = refl
+same_first (x ∷ part) byte more = refl
+
+-- after P, a byte that fits no line of keys fits no line of a head
+off_keys : (s : Day) (count : ℕ) (part : List ℕ) (byte : ℕ) → get_or (part ++ byte ∷ []) 0 0 ≡ 80
+    → IsOff (IsPatternLine (key_pattern s)) (part ++ byte ∷ []) → IsOff (IsHeadLine s count) (part ++ byte ∷ [])
+off_keys s count part byte first off = λ more next. elim next [
+  | inl key ↦ off more (as_form_line s ((part ++ byte ∷ []) ++ more) key.0)
+  | inr text ↦
+      let same = same_first part byte more in
+      let front = text_front ((part ++ byte ∷ []) ++ more) [] text in
+      let whole = ap (λ l. get_or l 0 0) (append-nil ((part ++ byte ∷ []) ++ more)) in
+      omega (arith, first, same, front, whole)
+]
+
+-- if no line of keys may come, a byte that doesn't fit the line TEXT fits no line of a head
+off_text : (s : Day) (count : ℕ) (part : List ℕ) (byte : ℕ) → (get_or (part ++ byte ∷ []) 0 0 ≡ 80 → 99 ≤ count)
+    → IsOff (IsPatternLine (codes "TEXT")) (part ++ byte ∷ []) → IsOff (IsHeadLine s count) (part ++ byte ∷ [])
+off_text s count part byte full off = λ more next. elim next [
+  | inl key ↦
+      let same = same_first part byte more in
+      let front = key_first key.0.keys ((part ++ byte ∷ []) ++ more) [] key.0.keyed in
+      let whole = ap (λ l. get_or l 0 0) (append-nil ((part ++ byte ∷ []) ++ more)) in
+      omega (arith, key.1, full (sym same ∙ sym whole ∙ front))
+  | inr text ↦ off more (text_line ((part ++ byte ∷ []) ++ more) text)
+]
 
 -- The bytes of `order` before `index` are the lines of `keys`.
 pub record HasKeyLines (s : Day) (order : List ℕ) (keys : List Keys) (index : ℕ) : Type 0 where
@@ -86,7 +116,7 @@ not_first order part after index byte unfit joined =
 
 module _ {s : Day} {order : List ℕ} {keys : List Keys} {index : ℕ} (is : HasKeyLines s order keys index) where
   -- the first bytes of a line may follow lines of keys
-  part_begun : (part : List ℕ) → IsPatternFault (IsHeadLine s (length keys)) part Incomplete
+  part_begun : (part : List ℕ) → MayGoOn (IsHeadLine s (length keys)) part
       → IsHeadBegun s keys part (is.before ++ part)
   part_begun part begins = record {
     lines = subst (λ l. BeginsWithKeys s l (λ rest. rest ≡ part) (is.before ++ part)) (append-nil keys)
@@ -141,9 +171,10 @@ module _ {s : Day} {order : List ℕ} {keys : List Keys} {index : ℕ} (is : Has
     joined = line.joined;
     size = line.size;
     begins = let (more, some, (letters, text)) = line.begins in (more, some, inr text.ended);
-    stops = λ byte after next. next_text s (length keys) (line.part ++ byte ∷ []) Mismatch
+    stops = λ byte after next. off_text s (length keys) line.part byte
         (λ first. elim other [
-          | inl unfit ↦ absurd (not_first order line.part after index byte unfit (line.joined ∙ ap (λ l. line.part ++ l) next) first)
+          | inl unfit ↦ absurd (not_first order line.part after index byte unfit
+              (line.joined ∙ ap (λ l. line.part ++ l) next) first)
           | inr full ↦ full
         ]) (line.stops byte after next);
   })
@@ -177,9 +208,9 @@ module _ {s : Day} {order : List ℕ} {keys : List Keys} {index : ℕ} (is : Has
     joined = line.joined;
     size = line.size;
     begins = let (more, some, key) = line.begins in (more, some, inl (as_key_line s (line.part ++ more) key, room));
-    stops = λ byte after then. next_keys s (length keys) (line.part ++ byte ∷ []) Mismatch
-        (is_first order line.part after index byte fits (line.joined ∙ ap (λ l. line.part ++ l) then)) room
-        (keys_broken s (line.part ++ byte ∷ []) Mismatch (line.stops byte after then));
+    stops = λ byte after then. off_keys s (length keys) line.part byte
+        (is_first order line.part after index byte fits (line.joined ∙ ap (λ l. line.part ++ l) then))
+        (line.stops byte after then);
   })
 
 module _ (s : Day) (form : KeyLine) (order : List ℕ) (same : pattern_of form ≡ key_pattern s) where
@@ -190,7 +221,8 @@ module _ (s : Day) (form : KeyLine) (order : List ℕ) (same : pattern_of form �
       → IsHeadEndAnswer s order (cond more (line_end order (pattern_of form) index >>= head_end order form left)
       (line_end order (codes "TEXT") index))
   line_step left index keys true fits count is on =
-      rw same (key_answer is (line_end order (key_pattern s) index) (head_end order form left) fits (omega (arith, count))
+      rw same (key_answer is (line_end order (key_pattern s) index) (head_end order form left) fits
+      (omega (arith, count))
       (line_answer order (key_pattern s) index) on)
   line_step left index keys false fits count is on =
       text_answer is (line_end order (codes "TEXT") index) (line_answer order (codes "TEXT") index) (inl fits)
@@ -249,12 +281,17 @@ module _ (s : Day) (form : KeyLine) (order : List ℕ) where
   end_agrees (Ok end) start (keys, inside, is) same =
       let ends : end ≡ start = cc in
       let counted = feeds_head s keys (take end order) is.is_head.lines in
-      subst (HasHeadTo s order) ends (record { keys = keys; inside = inside; is_order = is; counted = omega (arith, counted) })
+      subst (HasHeadTo s order) ends (record {
+        keys = keys;
+        inside = inside;
+        is_order = is;
+        counted = omega (arith, counted);
+      })
 
 pub head_faults_agree : HeadFaultsAreThoseOfSend
 head_faults_agree s form order found same =
-    fault_agrees s form order (head_end order form 99 0) found (whole_answer s form order same)
+    fault_agrees s form order (head_end order form 99 0) found (whole_answer s form order (form_pattern s form same))
 
 pub head_ends_agree : HeadsEndWhereSendEndsThem
 head_ends_agree s form order start same =
-    end_agrees s form order (head_end order form 99 0) start (whole_answer s form order same)
+    end_agrees s form order (head_end order form 99 0) start (whole_answer s form order (form_pattern s form same))

@@ -1,16 +1,15 @@
 -- Where a line ends that fits a pattern, or its first byte that doesn't fit.
-pub use Rattle.std.proofs.Common.{◌≡◌, ◌≢◌, ◌∙◌, ℕ, zero, suc, ◌+◌, ◌<◌, ◌≤◌, ◌⊎◌, Bool, true, false, List, [], ◌∷◌}
-pub use Rattle.std.proofs.Common.{◌++◌, Option, Some, None, Result, Ok, Err, IsTrue, append_assoc, ap, arith, codes}
-pub use Rattle.std.proofs.Common.{cond, drop, get_or, inl, inr, length, length-append, refl, slice_get, subst, sym, take}
+use Rattle.std.proofs.Common.{◌≡◌, ◌≢◌, ◌∙◌, ℕ, ◌+◌, ◌<◌, Bool, true, false, List, [], ◌∷◌, ◌++◌, Option, Some, None}
+use Rattle.std.proofs.Common.{Result, Ok, Err, ap, arith, cond, drop, get_or, inl, inr, length, refl, slice_get}
+use Rattle.std.proofs.Common.{subst, sym, ◌==◌}
 use Rattle.std.proofs.lemmas.Bool.{Decides.nat_tests, cases_Bool, false≢true}
 use Rattle.std.proofs.lemmas.List.{drop_more, get_or-drop, length-drop}
-use Rattle.std.proofs.lemmas.List.Elements.{All-nil}
+use Rattle.std.proofs.lemmas.List.Elements.{All-drop, All-nil}
 use Rattle.std.proofs.lemmas.Option.{get_or_from_slice_get, slice_get_read, slice_get_within}
 use Rattle.std.specs.Option.{option_map_or}
-use Rattle.kd_form.specs.declared.sending.pattern_line.PatternFault.TheVariants.{Incomplete, Mismatch}
-use Rattle.kd_form.specs.Order.{IsLineWithEnd, IsPatternFault}
-use Rattle.kd_form.specs.Patterns.{IsPatternLine, letters_for_mark}
-use Rattle.kd_form.proofs.Lines.{end_open, line_ends, line_off, line_on, line_open}
+use Rattle.kd_form.specs.Order.{IsLineWithEnd}
+use Rattle.kd_form.specs.Patterns.{IsFilledLine, IsPatternLine}
+use Rattle.kd_form.proofs.Lines.{end_open, line_off, line_on, line_open}
 use Rattle.kd_sheet.specs.Document.{◌>>=◌}
 use Rattle.kd_look.specs.Signs.{end_of_line, fits_at, fits_mark, line_end, marks_end}
 use Rattle.kd_look.specs.declared.message.signs.WrongByte.{WrongByte}
@@ -27,8 +26,12 @@ pub fits_next : (text : List ℕ) (mark index : ℕ) → fits_at text mark index
     → (byte : ℕ) × (drop index text ≡ byte ∷ drop (index + 1) text) × (fits_mark mark byte ≡ true)
 fits_next text mark index fits =
     let (byte, there, fit) = fitting mark (slice_get text index) fits in
-    let inside : index < length text = slice_get_within text index byte there in
-    (byte, drop_more text index byte inside ∙ ap (λ b. b ∷ drop (index + 1) text) (get_or_from_slice_get text index byte byte there), fit)
+    let inside : index < length text = slice_get_within text index byte there in (
+      byte,
+      drop_more text index byte inside ∙ ap (λ b. b ∷ drop (index + 1) text)
+          (get_or_from_slice_get text index byte byte there),
+      fit,
+    )
 
 -- the first of the bytes from `index` on is the byte at `index`
 pub slice_get-next : (text after : List ℕ) (index byte : ℕ) → drop index text ≡ byte ∷ after
@@ -37,7 +40,7 @@ slice_get-next text after index byte next =
     slice_get_read text (length text) index byte refl (omega (arith, ap length next, length-drop index text))
     (sym (ap (λ l. get_or l 0 byte) next) ∙ get_or-drop index text 0 byte ∙ ap (λ n. get_or text n byte) (omega arith))
 
--- if the byte at `index` doesn't fit, this is so for the first of the bytes from there on
+-- if the byte at `index` doesn't fit a mark, the first of the bytes from `index` on doesn't fit it
 pub unfit_next : (text after : List ℕ) (mark index byte : ℕ) → fits_at text mark index ≡ false
     → drop index text ≡ byte ∷ after → fits_mark mark byte ≡ false
 unfit_next text after mark index byte unfit next =
@@ -45,21 +48,30 @@ unfit_next text after mark index byte unfit next =
 
 -- -------- one line
 
--- A line with the property `Is` is in the text from `index` to `end`.
+-- with some more bytes, the bytes satisfy `Is`
+abbrev pub MayGoOn : (List ℕ → Type 0) → List ℕ → Type 0
+MayGoOn Is bytes = (more : List ℕ) × (more ≢ []) × Is (bytes ++ more)
+
+-- the bytes don't satisfy `Is`, whatever bytes follow
+abbrev pub IsOff : (List ℕ → Type 0) → List ℕ → Type 0
+IsOff Is bytes = (more : List ℕ) → ¬ (Is (bytes ++ more))
+
+-- A line that satisfies `Is` is in the text from `index` to `end`.
 pub record IsLineTo (Is : List ℕ → Type 0) (text : List ℕ) (index end : ℕ) : Type 0 where
   pub line : List ℕ
   pub is : Is line
   pub joined : drop index text ≡ line ++ drop end text
   pub size : end ≡ index + length line
 
--- The byte at `wrong` is the first one from `index` on with which no line with the property `Is` can go on.
+-- From `index` on, the byte at `wrong` is the first byte with which no line that satisfies `Is`
+-- can go on.
 pub record IsLineWrongAt (Is : List ℕ → Type 0) (text : List ℕ) (index wrong : ℕ) : Type 0 where
   pub part : List ℕ
   pub joined : drop index text ≡ part ++ drop wrong text
   pub size : wrong ≡ index + length part
-  pub begins : IsPatternFault Is part Incomplete
+  pub begins : MayGoOn Is part
   pub stops : (byte : ℕ) (after : List ℕ) → drop wrong text ≡ byte ∷ after
-      → IsPatternFault Is (part ++ byte ∷ []) Mismatch
+      → IsOff Is (part ++ byte ∷ [])
 
 -- The answer for the line that should begin at `index`: its end, or its first wrong byte.
 abbrev pub IsLineAnswer : (List ℕ → Type 0) → List ℕ → ℕ → Result ℕ WrongByte → Type 0
@@ -68,26 +80,28 @@ IsLineAnswer Is text index (Err wrong) = IsLineWrongAt Is text index wrong.index
 
 -- ---- the line end
 
-at_once : (text : List ℕ) (index : ℕ) (Is : List ℕ → Type 0) → IsPatternFault Is [] Incomplete
-    → ((byte : ℕ) (after : List ℕ) → drop index text ≡ byte ∷ after → IsPatternFault Is (byte ∷ []) Mismatch)
+at_once : (text : List ℕ) (index : ℕ) (Is : List ℕ → Type 0) → MayGoOn Is []
+    → ((byte : ℕ) (after : List ℕ) → drop index text ≡ byte ∷ after → IsOff Is (byte ∷ []))
     → IsLineWrongAt Is text index index
 at_once text index Is begins stops =
     record { part = []; joined = refl; size = omega arith; begins = begins; stops = stops }
 
 no_end : (byte : ℕ) → fits_mark 10 byte ≡ false → fits_mark 13 byte ≡ false
-    → IsPatternFault (IsLineWithEnd []) (byte ∷ []) Mismatch
+    → IsOff (IsLineWithEnd []) (byte ∷ [])
 no_end byte feed return = λ more ended. grind (arith, nat_tests)
 
-no_feed : (byte : ℕ) → fits_mark 10 byte ≡ false → IsPatternFault (IsLineWithEnd []) (13 ∷ byte ∷ []) Mismatch
+no_feed : (byte : ℕ) → fits_mark 10 byte ≡ false → IsOff (IsLineWithEnd []) (13 ∷ byte ∷ [])
 no_feed byte feed = λ more ended. grind (arith, nat_tests)
 
 end_line : (line : List ℕ) → IsLineWithEnd [] line → IsPatternLine [] line
 end_line line ended =
     ([], record { are_letters = record { count = refl; within = All-nil (λ l. l < 26) }; ended = ended })
 
-end_wrong : (part : List ℕ) → IsPatternFault (IsLineWithEnd []) part Incomplete
-    → IsPatternFault (IsPatternLine []) part Incomplete
-end_wrong part begun = line_ends [] part [] (Err Incomplete) refl begun
+end_begun : (part : List ℕ) → MayGoOn (IsLineWithEnd []) part → MayGoOn (IsPatternLine []) part
+end_begun part (more, some, ended) = (more, some, end_line (part ++ more) ended)
+
+end_off : (part : List ℕ) → IsOff (IsLineWithEnd []) part → IsOff (IsPatternLine []) part
+end_off part off = λ more line. off more line.1.ended
 
 end_cases : (text : List ℕ) (index : ℕ) (feed return both : Bool) → fits_at text 10 index ≡ feed
     → fits_at text 13 index ≡ return → fits_at text 10 (index + 1) ≡ both
@@ -98,7 +112,12 @@ end_cases : (text : List ℕ) (index : ℕ) (feed return both : Bool) → fits_a
 end_cases text index true return both a b c =
     let (byte, next, fit) = fits_next text 10 index a in
     let same : byte ≡ 10 = grind (arith, nat_tests) in
-    record { line = 10 ∷ []; is = end_line (10 ∷ []) (inl refl); joined = next ∙ ap (λ b. b ∷ drop (index + 1) text) same; size = refl }
+    record {
+      line = 10 ∷ [];
+      is = end_line (10 ∷ []) (inl refl);
+      joined = next ∙ ap (λ b. b ∷ drop (index + 1) text) same;
+      size = refl;
+    }
 end_cases text index false true true a b c =
     let (byte, next, fit) = fits_next text 13 index b in
     let (other, then, fits) = fits_next text 10 (index + 1) c in
@@ -113,34 +132,49 @@ end_cases text index false true false a b c =
       part = 13 ∷ [];
       joined = cc;
       size = refl;
-      begins = end_wrong (13 ∷ []) (end_open (13 ∷ []) (omega arith) (λ some. refl));
-      stops = λ byte after next. line_ends [] (13 ∷ byte ∷ []) [] (Err Mismatch) refl
+      begins = end_begun (13 ∷ []) (end_open (13 ∷ []) (omega arith) (λ some. refl));
+      stops = λ byte after next. end_off (13 ∷ byte ∷ [])
           (no_feed byte (unfit_next text after 10 (index + 1) byte c next));
     }
 end_cases text index false false both a b c =
-    at_once text index (IsPatternLine []) (end_wrong [] (end_open [] (omega arith) (λ some. absurd (omega arith))))
-    (λ byte after next. line_ends [] (byte ∷ []) [] (Err Mismatch) refl
+    at_once text index (IsPatternLine []) (end_begun [] (end_open [] (omega arith) (λ some. absurd (omega arith))))
+    (λ byte after next. end_off (byte ∷ [])
     (no_end byte (unfit_next text after 10 index byte a next) (unfit_next text after 13 index byte b next)))
 
 -- ---- the marks
+
+-- a line with one more mark, and one more byte that fits it
+longer_line : (mark byte : ℕ) (marks line : List ℕ) → fits_mark mark byte ≡ true → IsPatternLine marks line
+    → IsPatternLine (mark ∷ marks) (byte ∷ line)
+longer_line mark byte marks line fit (letters, filled) =
+    let (more, whole, put) =
+    line_on mark byte marks line (mark ∷ marks) (byte ∷ line) [] _ _ (Ok tt) refl refl fit refl
+    (letters, filled, refl) in
+    (more, whole)
+
+shorter_line : (mark byte : ℕ) (marks letters line : List ℕ) → IsFilledLine (mark ∷ marks) letters (byte ∷ line)
+    → IsPatternLine marks line
+shorter_line mark byte marks letters line is =
+    grind (arith, nat_tests, cases_Bool (mark == 95), All-drop (λ l. l < 26) 1 letters)
 
 module _ (text : List ℕ) (mark : ℕ) (marks : List ℕ) (index : ℕ) where
   marks_more : (byte : ℕ) → drop index text ≡ byte ∷ drop (index + 1) text → fits_mark mark byte ≡ true
       → (answer : Result ℕ WrongByte) → IsLineAnswer (IsPatternLine marks) text (index + 1) answer
       → IsLineAnswer (IsPatternLine (mark ∷ marks)) text index answer
-  marks_more byte next fit (Ok end) is =
-      let (letters, filled, put) =
-      line_on mark byte marks is.line (mark ∷ marks) (byte ∷ is.line) [] _ _ (Ok tt) refl refl fit refl
-      (is.is.0, is.is.1, refl) in
-      record { line = byte ∷ is.line; is = (letters, filled); joined = cc (next, is.joined); size = omega (arith, is.size) }
+  marks_more byte next fit (Ok end) is = record {
+    line = byte ∷ is.line;
+    is = longer_line mark byte marks is.line fit is.is;
+    joined = cc (next, is.joined);
+    size = omega (arith, is.size);
+  }
   marks_more byte next fit (Err wrong) is = record {
     part = byte ∷ is.part;
     joined = cc (next, is.joined);
     size = omega (arith, is.size);
-    begins = line_on mark byte marks is.part (mark ∷ marks) (byte ∷ is.part) [] _ [] (Err Incomplete) refl refl fit refl
-        is.begins;
-    stops = λ other after then. line_on mark byte marks (is.part ++ other ∷ []) (mark ∷ marks)
-        (byte ∷ (is.part ++ other ∷ [])) [] _ [] (Err Mismatch) refl refl fit refl (is.stops other after then);
+    begins =
+        let (more, some, line) = is.begins in (more, some, longer_line mark byte marks (is.part ++ more) fit line);
+    stops = λ other after then more line. is.stops other after then more
+        (shorter_line mark byte marks line.0 ((is.part ++ other ∷ []) ++ more) line.1);
   }
 
   marks_step : (fits : Bool) → fits_at text mark index ≡ fits

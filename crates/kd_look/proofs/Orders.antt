@@ -1,36 +1,31 @@
 -- What `look` says of a whole order, and what `send` says of it.
-use Rattle.std.proofs.Common.{◌≡◌, ◌≢◌, ◌∙◌, ℕ, zero, suc, ◌+◌, ◌<◌, ◌≤◌, ◌==◌, ◌⊎◌, Bool, true, false, not, All, List, []}
-use Rattle.std.proofs.Common.{◌∷◌, ◌++◌, Option, Some, None, Result, Ok, Err, IsTrue, IsFalse, ap, arith, codes, cond, drop}
-use Rattle.std.proofs.Common.{get_or, inl, inr, length, refl, subst, sym, take, option_to_list}
+use Rattle.std.proofs.Common.{◌≡◌, ◌≢◌, ◌∙◌, ℕ, ◌+◌, ◌==◌, ◌⊎◌, Bool, true, false, not, List, [], ◌∷◌, Option, Some}
+use Rattle.std.proofs.Common.{None, Result, Ok, Err, IsTrue, ap, arith, cond, drop, inl, inr, length, refl, subst}
+use Rattle.std.proofs.Common.{sym, take, option_to_list}
 use Rattle.std.proofs.lemmas.Bool.{Decides.nat_tests, cases_Bool, false≢true}
 use Rattle.std.proofs.lemmas.Iterator.Adapters.{position_from-zero}
 use Rattle.std.proofs.lemmas.List.{length-append, length-take-le, nil_from_length, Sums.sum_by-cons}
-use Rattle.std.proofs.lemmas.List.Elements.{All-cons, All-nil}
 use Rattle.std.specs.List.{count_by, position, position_from}
-use Rattle.std.specs.Option.{option_map_or, is_some}
-use Rattle.kd_tables.specs.Text.{is_capital, is_text_byte}
+use Rattle.std.specs.Option.{option_map_or}
+use Rattle.kd_tables.specs.Text.{is_text_byte}
 use Rattle.kd_state.specs.AnswerRules.{GoesOn, HasFault}
 use Rattle.kd_state.specs.SheetDay.{Day, Rotor, Pin}
 use Rattle.kd_form.specs.declared.fault.FormFault.{FormFault}
-use Rattle.kd_form.specs.declared.fault.FormFault.TheVariants.{BadByte, EmptyText, KeyNotOnWheel, PartKeys}
+use Rattle.kd_form.specs.declared.fault.FormFault.TheVariants.{BadByte, EmptyText, PartKeys}
 use Rattle.kd_form.specs.declared.keys.Keys.{Keys}
 use Rattle.kd_form.specs.InTurn.{InTurn}
-use Rattle.kd_form.specs.KeyPatterns.{key_pattern, pin_pattern, rotor_pattern}
-use Rattle.kd_form.specs.Order.{IsOrder, IsOrderHeadFault}
+use Rattle.kd_form.specs.Order.{IsOrder}
 use Rattle.kd_form.specs.PartMaking.{IsKeysAnswer, part_size}
-use Rattle.kd_form.specs.Sending.{IsBytesAnswer, IsDividedAnswer, IsHeadAnswer, IsMadeAnswer, IsOrderAnswer}
-use Rattle.kd_form.specs.Sending.{IsReadAnswer, OrderParts, letter_of_byte, letters_from, parts_needed, space_letter}
-use Rattle.kd_form.specs.Sending.{text_letters}
+use Rattle.kd_form.specs.Sending.{IsBytesAnswer, IsHeadAnswer, IsMadeAnswer, IsOrderAnswer, IsReadAnswer, OrderParts}
+use Rattle.kd_form.specs.Sending.{letter_of_byte, parts_needed, space_letter, text_letters}
 use Rattle.kd_form.proofs.Lines.{letters_first}
 use Rattle.kd_form.proofs.OneOrder.{HasOneAnswer-read, no_head_fault, one_order, orders_have_one_answer}
-use Rattle.kd_form.proofs.Rules.{bytes_allowed}
 use Rattle.kd_sheet.specs.Document.{◌>>=◌, ◌>>◌}
 use Rattle.kd_look.specs.Laws.{FaultlessOrdersAreSent, HasHeadTo, HasKeyLineForm, IsDaysFault, IsRefusedByDay}
 use Rattle.kd_look.specs.Laws.{OrderFaultsAreThoseOfSend}
 use Rattle.kd_look.specs.Order.{gives_letter, keys_given, letter_count, order_answer, part_letters, parts_answer}
 use Rattle.kd_look.specs.Order.{signs_answer, text_start, wheels_answer}
 use Rattle.kd_look.specs.Order as looks
-use Rattle.kd_look.specs.OrderHead.{pattern_of}
 use Rattle.kd_look.specs.Signs.{wrong_sign}
 use Rattle.kd_look.specs.declared.message.fault.MessageFault.{MessageFault}
 use Rattle.kd_look.specs.declared.message.fault.Reason.{Reason}
@@ -38,25 +33,25 @@ use Rattle.kd_look.specs.declared.message.fault.Reason.TheVariants as reasons
 use Rattle.kd_look.specs.declared.message.order_head.KeyLine.{KeyLine}
 use Rattle.kd_look.specs.declared.message.order_head.KeyLine.TheVariants as lines
 use Rattle.kd_look.proofs.Heads.{head_ends_agree, head_faults_agree}
-use Rattle.kd_look.proofs.Wheels.{AreWheelsTested, no_four_slots_form, no_slots_form, not_rotor, wheels_agree}
+use Rattle.kd_look.proofs.Wheels.{AreWheelsTested, wheels_agree}
 
 -- -------- the machine that an order is for
 
 pub sizes_agree : (s : Day) (form : KeyLine) → HasKeyLineForm s form → part_letters form ≡ part_size s
 sizes_agree (Rotor s) lines.ThreeSlots same = refl
 sizes_agree (Rotor s) lines.FourSlots same = refl
-sizes_agree (Rotor s) lines.Converter same = absurd (not_rotor (length s.wheels) same)
-sizes_agree (Pin s) lines.ThreeSlots same = absurd (no_slots_form s same)
-sizes_agree (Pin s) lines.FourSlots same = absurd (no_four_slots_form s same)
+sizes_agree (Rotor s) lines.Converter same = absurd same
+sizes_agree (Pin s) lines.ThreeSlots same = absurd same
+sizes_agree (Pin s) lines.FourSlots same = absurd same
 sizes_agree (Pin s) lines.Converter same = refl
 
 letters_agree : (s : Day) (form : KeyLine) → HasKeyLineForm s form → (byte : ℕ)
     → length (option_to_list (letter_of_byte (space_letter s) byte)) ≡ cond (gives_letter form byte) 1 0
 letters_agree (Rotor s) lines.ThreeSlots same byte = grind (arith, cases_Bool)
 letters_agree (Rotor s) lines.FourSlots same byte = grind (arith, cases_Bool)
-letters_agree (Rotor s) lines.Converter same byte = absurd (not_rotor (length s.wheels) same)
-letters_agree (Pin s) lines.ThreeSlots same byte = absurd (no_slots_form s same)
-letters_agree (Pin s) lines.FourSlots same byte = absurd (no_four_slots_form s same)
+letters_agree (Rotor s) lines.Converter same byte = absurd same
+letters_agree (Pin s) lines.ThreeSlots same byte = absurd same
+letters_agree (Pin s) lines.FourSlots same byte = absurd same
 letters_agree (Pin s) lines.Converter same byte = grind (arith, cases_Bool)
 
 counts_agree : (s : Day) (form : KeyLine) → HasKeyLineForm s form → (text : List ℕ)
@@ -76,7 +71,8 @@ module _ {s : Day} {order head text : List ℕ} {keys : List Keys} (is : IsOrder
   head_decides : (answer : Result OrderParts FormFault) → IsHeadAnswer s order answer
       → InTurn (IsKeysAnswer s) 1 keys (Ok tt)
       ⊎ ((fault : FormFault) × InTurn (IsKeysAnswer s) 1 keys (Err fault) × (answer ≡ Err fault))
-  head_decides answer (HasFault fault (position, at, e) d) = absurd (no_head_fault s order keys head text position is at)
+  head_decides answer (HasFault fault (position, at, e) d) = absurd
+      (no_head_fault s order keys head text position is at)
   head_decides answer (GoesOn parts other (HasFault fault unsuited d)) =
       let same = one_order s order parts.keys keys parts.head head parts.text text other is in
       inr (fault, subst (λ k. InTurn (IsKeysAnswer s) 1 k (Err fault)) same.0 unsuited, d)
@@ -137,7 +133,8 @@ module _ {s : Day} {order head text : List ℕ} {keys : List Keys} (is : IsOrder
       is_made (Err fault) some enough (GoesOn others found d) =
           let same : parts ≡ others =
           let clash = HasOneAnswer-read s order (Ok parts) (Ok others) suited_text found in cc in
-          absurd (no_fault some enough (subst (λ p. IsMadeAnswer s p.keys (text_letters s p.text) (Err fault)) (sym same) d)) where
+          absurd (no_fault some enough (subst (λ p. IsMadeAnswer s p.keys (text_letters s p.text) (Err fault))
+          (sym same) d)) where
             no_fault : text_letters s text ≢ [] → parts_needed s (length (text_letters s text)) ≡ length keys
                 → ¬ (IsMadeAnswer s keys (text_letters s text) (Err fault))
             no_fault some enough (HasFault f (none, e) d) = none tt some
@@ -146,8 +143,8 @@ module _ {s : Day} {order head text : List ℕ} {keys : List Keys} (is : IsOrder
 
 -- -------- the bytes of a text
 
--- what `send` says of a text's bytes, if `place` is the place of the first wrong byte
-abbrev AreSignsTested : ℕ → List ℕ → Option ℕ → Type 0
+-- what a reader says of a text's bytes, if `place` is the place of the first wrong byte
+abbrev pub AreSignsTested : ℕ → List ℕ → Option ℕ → Type 0
 AreSignsTested position text None = IsBytesAnswer position text (Ok tt)
 AreSignsTested position text (Some place) = IsBytesAnswer position text (Err (BadByte (position + place)))
 
@@ -186,7 +183,8 @@ not_not false = refl
 signs_after : (position seen : ℕ) (text : List ℕ)
     → AreSignsTestedAfter position seen text (position_from is_wrong seen text)
 signs_after position seen [] = refl
-signs_after position seen (byte ∷ text) = sign_cases position seen byte text (is_wrong byte) (not_not (is_text_byte byte))
+signs_after position seen (byte ∷ text) = sign_cases position seen byte text (is_wrong byte)
+    (not_not (is_text_byte byte))
     (signs_after position (seen + 1) text)
 
 counted_from : (position : ℕ) (text : List ℕ) (found : Option ℕ) → AreSignsTestedAfter position 0 text found
@@ -194,7 +192,7 @@ counted_from : (position : ℕ) (text : List ℕ) (found : Option ℕ) → AreSi
 counted_from position text None tested = let same : position + 0 ≡ position = omega arith in rw same at tested
 counted_from position text (Some place) tested = let same : position + 0 ≡ position = omega arith in rw same at tested
 
-signs_agree : (position : ℕ) (text : List ℕ) → AreSignsTested position text (wrong_sign text)
+pub signs_agree : (position : ℕ) (text : List ℕ) → AreSignsTested position text (wrong_sign text)
 signs_agree position text = subst (AreSignsTested position text) (sym (position_from-zero is_wrong text))
     (counted_from position text (position_from is_wrong 0 text) (signs_after position 0 text))
 
@@ -265,7 +263,8 @@ module _ (s : Day) (form : KeyLine) (order : List ℕ) (answer : Result (List �
           let count : letter_count order form start ≢ 0 = grind (arith, nat_tests) in
           let some : text_letters s (drop start order) ≢ [] = λ nil. count (sym counted ∙ ap length nil) in
           let sized = sizes_agree s form same in
-          let parts : parts_needed s (length (text_letters s (drop start order))) ≡ looks.parts_needed order form start =
+          let parts : parts_needed s (length (text_letters s (drop start order)))
+          ≡ looks.parts_needed order form start =
           cc (counted, sized) in
           let fault : FormFault = PartKeys (looks.parts_needed order form start) (keys_given order start) in
           let differ : looks.parts_needed order form start ≢ keys_given order start = grind (arith, nat_tests) in
@@ -284,7 +283,8 @@ module _ (s : Day) (form : KeyLine) (order : List ℕ) (answer : Result (List �
           → Agrees s order answer
           (option_map_or
           (λ place. Err
-          (record { index = start + place; fault = BadByte (start + place + 1); reason = reasons.TextSign })) found (Ok tt)
+          (record { index = start + place; fault = BadByte (start + place + 1); reason = reasons.TextSign })) found
+          (Ok tt)
           >> (parts_answer order form start >> Ok start))
       signs_stage None allowed = parts_stage allowed
       signs_stage (Some place) wrong =
@@ -298,7 +298,8 @@ module _ (s : Day) (form : KeyLine) (order : List ℕ) (answer : Result (List �
         → Agrees s order answer (wheels >> next)
     wheels_stage (Ok done) next tested on = elim (keys_decide head.is_order answer told) [
       | inl suited ↦ on suited
-      | inr unsuited ↦ refused s order answer (by_day head.is_order unsuited.0 unsuited.1 unsuited.2 (tested unsuited.0 unsuited.1)) next
+      | inr unsuited ↦ refused s order answer (by_day head.is_order unsuited.0 unsuited.1 unsuited.2
+          (tested unsuited.0 unsuited.1)) next
     ]
     wheels_stage (Err found) next tested on = elim (keys_decide head.is_order answer told) [
       | inl suited ↦ absurd (tested.unsuited suited)
@@ -311,7 +312,8 @@ module _ (s : Day) (form : KeyLine) (order : List ℕ) (answer : Result (List �
     rest_stage : Agrees s order answer
         (wheels_answer order form start >> (signs_answer order start >> (parts_answer order form start >> Ok start)))
     rest_stage =
-        wheels_stage (wheels_answer order form start) _ (wheels_agree s form order start head.keys head.inside same head.is_order)
+        wheels_stage (wheels_answer order form start) _
+        (wheels_agree s form order start head.keys head.inside same head.is_order)
         (λ suited. signs_stage suited (wrong_sign (drop start order)) (signs_agree _ (drop start order)))
 
   head_stage : (read : Result ℕ MessageFault) → text_start order form ≡ read
@@ -320,7 +322,8 @@ module _ (s : Day) (form : KeyLine) (order : List ℕ) (answer : Result (List �
   head_stage (Ok start) is = rest_stage start (head_ends_agree s form order start same is)
   head_stage (Err found) is =
       let (fault, named) = head_faults_agree s form order found same is in
-      inl (only found.fault (HasFault found.fault (HasFault found.fault (HasFault found.fault (_, fault, named) refl) refl)
+      inl (only found.fault (HasFault found.fault
+      (HasFault found.fault (HasFault found.fault (_, fault, named) refl) refl)
       refl))
 
   pub order_agrees : Agrees s order answer (order_answer order form)

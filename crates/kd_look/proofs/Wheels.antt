@@ -1,21 +1,18 @@
 -- The external letters in an order's lines of keys, and the pin wheels.
-use Rattle.std.proofs.Common.{◌≡◌, ◌≢◌, ◌∙◌, ℕ, zero, suc, ◌+◌, ◌-◌, ◌<◌, ◌≤◌, ◌==◌, ◌⊎◌, Bool, true, false, not, All, List, []}
-use Rattle.std.proofs.Common.{◌∷◌, ◌++◌, Option, Some, None, Result, Ok, Err, IsTrue, IsFalse, ap, arith, codes, cond, drop}
-use Rattle.std.proofs.Common.{get_or, inl, inr, length, refl, slice_get, subst, sym, take, nat_le, append_assoc, map}
-use Rattle.std.proofs.Common.{◌&&◌, Contains, length-append}
+use Rattle.std.proofs.Common.{◌≡◌, ◌≢◌, ◌∙◌, ℕ, zero, suc, ◌+◌, ◌-◌, ◌<◌, ◌≤◌, ◌==◌, ◌⊎◌, Bool, true, false, not, All}
+use Rattle.std.proofs.Common.{List, [], ◌∷◌, ◌++◌, Option, Some, None, Result, Ok, Err, ap, arith, codes, cond, drop}
+use Rattle.std.proofs.Common.{get_or, inl, inr, length, refl, subst, sym, take, nat_le, append_assoc, ◌&&◌, Contains}
+use Rattle.std.proofs.Common.{length-append}
 use Rattle.std.proofs.Math.{ListN.get_or-append, Seq.get_or-append_seam}
-use Rattle.std.proofs.lemmas.Bool.{Decides.nat_tests, cases_Bool, cases_lt, false≢true}
-use Rattle.std.proofs.lemmas.List.{length-take-le, drop_at, get_or-append-add, get_or-drop, get_or-map, length-drop, length-map, drop-drop}
-use Rattle.std.proofs.lemmas.List.Elements.{All-append, All-cons, All-get_or, All-head, All-map, All-nil, All-tail}
-use Rattle.std.proofs.lemmas.List.Elements.{All-weaker}
-use Rattle.std.proofs.lemmas.List.{Sums.AllPass-from_list_all}
+use Rattle.std.proofs.lemmas.Bool.{Decides.nat_tests, cases_Bool, cases_lt}
+use Rattle.std.proofs.lemmas.List.{length-take-le, drop_at, get_or-append-add, get_or-drop, get_or-map, length-drop}
+use Rattle.std.proofs.lemmas.List.{length-map, drop-drop, Sums.AllPass-from_list_all}
+use Rattle.std.proofs.lemmas.List.Elements.{All-append, All-cons, All-head, All-map, All-nil, All-tail, All-weaker}
 use Rattle.std.proofs.lemmas.Option.{slice_get-get_or}
 use Rattle.std.specs.List.{find, list_all, range_with_len}
 use Rattle.std.specs.Option.{is_some, option_map_or}
-use Rattle.kd_tables.specs.LineWords.{line_of}
 use Rattle.kd_tables.specs.Rings.{place_on, ring_of}
 use Rattle.kd_tables.specs.Text.{letters_text}
-use Rattle.kd_drum.specs.Converter.{IsEachOnItsWheel}
 use Rattle.kd_state.specs.AnswerRules.{GoesOn, HasFault}
 use Rattle.kd_state.specs.Machine.{AreOnWheels}
 use Rattle.kd_state.specs.SheetDay.{Day, PinDay, Rotor, Pin}
@@ -27,15 +24,14 @@ use Rattle.kd_form.specs.declared.keys.Keys.{Keys}
 use Rattle.kd_form.specs.declared.keys.Keys.TheVariants.{Rotor, Pin}
 use Rattle.kd_form.specs.declared.keys.PinKeys.{PinKeys}
 use Rattle.kd_form.specs.InTurn.{InTurn}
-use Rattle.kd_form.specs.KeyPatterns.{key_pattern, rotor_pattern}
-use Rattle.kd_form.specs.Keys.{AreKeys, ArePinKeys, key_words}
+use Rattle.kd_form.specs.Keys.{AreKeys, ArePinKeys}
 use Rattle.kd_form.specs.Order.{BeginsWithKeys, IsLineWithEnd, IsOrder}
 use Rattle.kd_form.specs.PartMaking.{IsKeysAnswer}
 use Rattle.kd_form.proofs.OneOrder.{all_of_the_day}
 use Rattle.kd_form.proofs.Rules.{FaultsAre, FaultsAre-Finds, FaultsAre-InTurn, FaultsAre-ThenNext, FaultsAre-Yields}
 use Rattle.kd_findings.specs.NotToml.{begins_character, column_at}
 use Rattle.kd_findings.proofs.Columns.{characters_to_feed-more}
-use Rattle.kd_look.specs.Laws.{HasKeyLineForm, Group, Indicator, IsDaysFault}
+use Rattle.kd_look.specs.Laws.{GroupWrong, HasKeyLineForm, IsDaysFault, NoInternalKey}
 use Rattle.kd_look.specs.Order.{is_off_wheel, is_off_wheel_at, wheels_answer}
 use Rattle.kd_look.specs.declared.message.fault.MessageFault.{MessageFault}
 use Rattle.kd_look.specs.declared.message.fault.Reason.TheVariants as reasons
@@ -69,7 +65,8 @@ column-on text start zero first inside ordinary =
     let same : start + 0 ≡ start = omega arith in rw same first
 column-on text start (suc count) first inside ordinary =
     let place : start + suc count ≡ start + count + 1 = omega arith in
-    let before = column-on text start count first (omega (arith, inside)) (λ i less. ordinary i (omega (arith, less))) in
+    let before = column-on text start count first (omega (arith, inside))
+    (λ i less. ordinary i (omega (arith, less))) in
     rw place (column-next text (start + count) (omega (arith, inside)) (ordinary count (omega arith))
     ∙ ap (λ n. n + 1) before ∙ omega arith)
 
@@ -82,16 +79,16 @@ ordinary_codes text passes = All-weaker (λ byte. (nat_le 32 byte && nat_le byte
 
 -- -------- one line of an order
 
--- In the text, the line `line` begins at `start`, and `rest` follows it. The line's bytes are ordinary, but for the LF at
--- its end.
-record IsLineAt (text : List ℕ) (start : ℕ) (line rest : List ℕ) : Type 0 where
+-- In the text, the line `line` begins at `start`, and `rest` follows it. All bytes of the line are
+-- ordinary, but for the LF at its end.
+record IsLineFrom (text : List ℕ) (start : ℕ) (line rest : List ℕ) : Type 0 where
   body : List ℕ
   ended : line ≡ body ++ 10 ∷ []
   ordinary : All IsOrdinary body
   first : column_at text start ≡ 1
   joined : drop start text ≡ line ++ rest
 
-module _ {text : List ℕ} {start : ℕ} {line rest : List ℕ} (is : IsLineAt text start line rest) where
+module _ {text : List ℕ} {start : ℕ} {line rest : List ℕ} (is : IsLineFrom text start line rest) where
   size : length line ≡ length is.body + 1
   size = ap length is.ended ∙ length-append is.body (10 ∷ [])
 
@@ -119,7 +116,8 @@ module _ {text : List ℕ} {start : ℕ} {line rest : List ℕ} (is : IsLineAt t
       rw place (column-fresh text (start + length is.body) (omega (arith, within, size)) last)
 
   next_joined : drop (start + length line) text ≡ rest
-  next_joined = sym (drop-drop (length line) start text) ∙ ap (drop (length line)) is.joined ∙ drop_at line rest (length line) refl
+  next_joined = sym (drop-drop (length line) start text) ∙ ap (drop (length line)) is.joined ∙ drop_at line rest
+      (length line) refl
 
   -- the test of the byte at a place of the line
   off_at : (i : ℕ) → i < length line → is_off_wheel_at text (start + i) ≡ is_off_wheel (i + 1) (get_or line i 0)
@@ -156,7 +154,8 @@ on_wheel wheel letter first last small there =
 from_test : (wheel letter : ℕ) → 1 ≤ wheel → wheel ≤ 6 → letter < 26 → is_off_wheel (wheel + 7) (letter + 65) ≡ false
     → Contains (ring_of wheel) letter
 from_test wheel letter first last small off =
-    let not_off : not (is_some (place_on (ring_of wheel) letter)) ≡ false = sym (letter_off wheel letter first last small) ∙ off in
+    let not_off : not (is_some (place_on (ring_of wheel) letter)) ≡ false = sym
+    (letter_off wheel letter first last small) ∙ off in
     let is : is_some (place_on (ring_of wheel) letter) ≡ true = grind (arith, cases_Bool) in
     (has_letter-Decides (ring_of wheel) letter).0 (sym (is_some-place_on (ring_of wheel) letter) ∙ is)
 
@@ -174,11 +173,12 @@ ordinary_text k are = All-append IsOrdinary (codes "PART ") ((k.chosen + 65) ∷
     (All-map IsOrdinary (λ l. l + 65) k.external
     (λ i d inside. let small = are.external.within i d inside in grind (arith, small)))))
 
-line_at : {text : List ℕ} {start : ℕ} {line rest : List ℕ} (words : List ℕ) → All IsOrdinary words → IsLineWithEnd words line
-    → column_at text start ≡ 1 → drop start text ≡ line ++ rest → IsLineAt text start line rest
-line_at words ordinary (inl ended) first joined =
+line_from : {text : List ℕ} {start : ℕ} {line rest : List ℕ} (words : List ℕ) → All IsOrdinary words
+    → IsLineWithEnd words line
+    → column_at text start ≡ 1 → drop start text ≡ line ++ rest → IsLineFrom text start line rest
+line_from words ordinary (inl ended) first joined =
     record { body = words; ended = ended; ordinary = ordinary; first = first; joined = joined }
-line_at words ordinary (inr ended) first joined = record {
+line_from words ordinary (inr ended) first joined = record {
   body = words ++ 13 ∷ [];
   ended = ended ∙ sym (append_assoc words (13 ∷ []) (10 ∷ []));
   ordinary = All-append IsOrdinary words (13 ∷ []) ordinary
@@ -261,7 +261,8 @@ module _ (s : PinDay) (order text : List ℕ) where
   text_on : (bytes : List ℕ) (start : ℕ) → IsLineWithEnd (codes "TEXT") bytes → column_at order start ≡ 1
       → drop start order ≡ bytes ++ text → (i : ℕ) → i < length bytes → is_off_wheel_at order (start + i) ≡ false
   text_on bytes start ended first joined i less =
-      let is : IsLineAt order start bytes text = line_at (codes "TEXT") (ordinary_codes (codes "TEXT") refl) ended first joined in
+      let is : IsLineFrom order start bytes text = line_from (codes "TEXT")
+      (ordinary_codes (codes "TEXT") refl) ended first joined in
       let (tail, whole) = with_tail (codes "TEXT") bytes ended in
       let short : length bytes ≤ 6 = grind arith in
       off_at is i less ∙ outside (i + 1) (get_or bytes i 0) (inl (omega (arith, short, less)))
@@ -275,7 +276,8 @@ module _ (s : PinDay) (order text : List ℕ) where
   head_on (Pin k ∷ keys) bytes start (line, rest, are, keyed, more, whole) first joined on i less =
       let next : drop start order ≡ line ++ (rest ++ text) =
       joined ∙ ap (λ l. l ++ text) whole ∙ append_assoc line rest text in
-      let is : IsLineAt order start line (rest ++ text) = line_at (pin_text k) (ordinary_text k are) keyed first next in
+      let is : IsLineFrom order start line (rest ++ text) = line_from (pin_text k)
+      (ordinary_text k are) keyed first next in
       elim (cases_lt i (length line)) [
         | inl here ↦ off_at is i here
             ∙ pin_line_on k are line keyed (All-head AreLettersOnWheels (Pin k) keys on) i
@@ -297,7 +299,8 @@ module _ (s : PinDay) (order text : List ℕ) where
   head_from (Pin k ∷ keys) bytes start (line, rest, are, keyed, more, whole) first joined none =
       let next : drop start order ≡ line ++ (rest ++ text) =
       joined ∙ ap (λ l. l ++ text) whole ∙ append_assoc line rest text in
-      let is : IsLineAt order start line (rest ++ text) = line_at (pin_text k) (ordinary_text k are) keyed first next in
+      let is : IsLineFrom order start line (rest ++ text) = line_from (pin_text k)
+      (ordinary_text k are) keyed first next in
       let long : length bytes ≡ length line + length rest = ap length whole ∙ length-append line rest in
       All-cons AreLettersOnWheels (Pin k) keys
       (pin_line_from k are line keyed (λ i less. sym (off_at is i less) ∙ none i (omega (arith, less, long))))
@@ -347,27 +350,14 @@ AreWheelsTested s keys (Err found) = IsOffWheel s keys found.fault
 
 -- -------- the keys, and the day
 
--- no day for a rotor machine has the lines of keys of a Converter
-pub not_rotor : (slots : ℕ) → codes "PART _ ______" ≢ rotor_pattern slots
-not_rotor zero same = omega (arith, ap (λ l. get_or l 5 0) same)
-not_rotor (suc zero) same = omega (arith, ap (λ l. get_or l 8 0) same)
-not_rotor (suc (suc more)) same = omega (arith, ap (λ l. get_or l 6 0) same)
-
--- no day for a Converter has the lines of keys of a machine with slots
-pub no_slots_form : (s : PinDay) → codes "PART ___ ___ __ ___" ≢ key_pattern (Pin s)
-no_slots_form s same = omega (arith, ap (λ l. get_or l 6 0) same)
-
-pub no_four_slots_form : (s : PinDay) → codes "PART ____ ____ __ ___" ≢ key_pattern (Pin s)
-no_four_slots_form s same = omega (arith, ap (λ l. get_or l 6 0) same)
-
 key_fault : (s : Day) (k : Keys) (part : ℕ) → AreKeys s k → AreLettersOnWheels k → (fault : FormFault)
     → IsKeysAnswer s part k (Err fault) → IsDaysFault fault
-key_fault (Rotor s) (Rotor k) part are on fault (none, is) = Group part is
+key_fault (Rotor s) (Rotor k) part are on fault (none, is) = GroupWrong part is
 key_fault (Rotor s) (Pin k) part are on fault found = absurd are
 key_fault (Pin s) (Rotor k) part are on fault found = absurd are
 key_fault (Pin s) (Pin k) part are on fault (HasFault other (none, e) is) = absurd (none tt on)
 key_fault (Pin s) (Pin k) part are on fault (GoesOn done passed (HasFault other (none, e) is)) =
-    Indicator part (cc (is, e))
+    NoInternalKey part (cc (is, e))
 key_fault (Pin s) (Pin k) part are on fault (GoesOn done passed (GoesOn internal found is)) = absurd (cc (is))
 
 -- if all letters are on their wheels, only the day shows a fault of the keys
@@ -385,8 +375,8 @@ rotor_on : (s : Day) (form : KeyLine) → form ≢ lines.Converter → HasKeyLin
     → AreLettersOnWheels k
 rotor_on (Rotor s) form other same (Rotor k) are = tt
 rotor_on (Rotor s) form other same (Pin k) are = absurd are
-rotor_on (Pin s) lines.ThreeSlots other same k are = absurd (no_slots_form s same)
-rotor_on (Pin s) lines.FourSlots other same k are = absurd (no_four_slots_form s same)
+rotor_on (Pin s) lines.ThreeSlots other same k are = absurd same
+rotor_on (Pin s) lines.FourSlots other same k are = absurd same
 rotor_on (Pin s) lines.Converter other same k are = absurd (other refl)
 
 suited_on : (s : PinDay) (keys : List Keys) (number : ℕ) → All (AreKeys (Pin s)) keys
@@ -400,16 +390,17 @@ suited_on s (Pin k ∷ keys) number are suited =
 
 any_fault : (s : Day) (part : ℕ) (k : Keys)
     → FaultsAre (λ fault. (fault ≡ KeyNotOnWheel) ⊎ IsDaysFault fault) (IsKeysAnswer s part k)
-any_fault s part (Rotor k) = FaultsAre-Finds (inr (Group part refl))
+any_fault s part (Rotor k) = FaultsAre-Finds (inr (GroupWrong part refl))
 any_fault s part (Pin k) = FaultsAre-ThenNext (FaultsAre-Finds (inl refl)) (λ _.
-    FaultsAre-ThenNext (FaultsAre-Finds (inr (Indicator part refl))) (λ _. FaultsAre-Yields))
+    FaultsAre-ThenNext (FaultsAre-Finds (inr (NoInternalKey part refl))) (λ _. FaultsAre-Yields))
 
 slots_tested : (s : Day) (form : KeyLine) (order : List ℕ) (start : ℕ) (keys : List Keys) → form ≢ lines.Converter
     → HasKeyLineForm s form → IsOrder s order keys (take start order) (drop start order)
     → AreWheelsTested s keys (Ok tt)
 slots_tested s form order start keys other same is fault found =
     let are = all_of_the_day _ s keys (take start order) is.is_head.lines in
-    keys_fault s keys 1 are (All-weaker (AreKeys s) AreLettersOnWheels (rotor_on s form other same) keys are) fault found
+    keys_fault s keys 1 are (All-weaker (AreKeys s) AreLettersOnWheels (rotor_on s form other same) keys are) fault
+    found
 
 module _ (s : PinDay) (order : List ℕ) (start : ℕ) (keys : List Keys) (inside : start ≤ length order)
     (is : IsOrder (Pin s) order keys (take start order) (drop start order)) where
@@ -444,6 +435,6 @@ wheels_agree s lines.ThreeSlots order start keys inside same is =
     slots_tested s lines.ThreeSlots order start keys (λ same. cc) same is
 wheels_agree s lines.FourSlots order start keys inside same is =
     slots_tested s lines.FourSlots order start keys (λ same. cc) same is
-wheels_agree (Rotor s) lines.Converter order start keys inside same is = absurd (not_rotor (length s.wheels) same)
+wheels_agree (Rotor s) lines.Converter order start keys inside same is = absurd same
 wheels_agree (Pin s) lines.Converter order start keys inside same is =
     converter_tested s order start keys inside is (find (is_off_wheel_at order) (range_with_len 0 start)) refl

@@ -1,39 +1,58 @@
--- The statements of this crate's laws: what `look` says of an order is what `send` says of the order on a day for the
--- same machine.
-use Rattle.std.specs.Prelude.{◌≡◌, ◌⊎◌, ℕ, ◌+◌, ◌≤◌, List, Result, Ok, Err, drop, length, take}
-use Rattle.kd_state.specs.SheetDay.{Day}
+-- The statements of this crate's laws: `look` says of an order what `send` says, and of a form what
+-- `receive` says, on a day for the same machine.
+use Rattle.std.specs.Prelude.{codes, ◌≡◌, ◌⊎◌, ℕ, ◌+◌, ◌≤◌, List, Result, Ok, Err, IfOk, None, Contains, drop, length}
+use Rattle.std.specs.Prelude.{take}
+use Rattle.kd_state.specs.SheetDay.{Day, Rotor, Pin}
 use Rattle.kd_form.specs.declared.fault.FormFault.{FormFault}
 use Rattle.kd_form.specs.declared.fault.FormFault.TheVariants.{BadByte, IndicatorSpent, WrongGroup}
 use Rattle.kd_form.specs.declared.keys.Keys.{Keys}
-use Rattle.kd_form.specs.KeyPatterns.{key_pattern}
+use Rattle.kd_form.specs.declared.heading.Heading.{Heading}
+use Rattle.kd_form.specs.BodyCipher.{IsLettersAnswer}
+use Rattle.kd_form.specs.FormParts.{parts_of}
+use Rattle.kd_form.specs.FormText.{IsFormAnswer}
 use Rattle.kd_form.specs.InTurn.{InTurn}
 use Rattle.kd_form.specs.Order.{IsOrder, IsOrderHeadFault}
 use Rattle.kd_form.specs.PartMaking.{IsKeysAnswer}
-use Rattle.kd_form.specs.Sending.{IsOrderAnswer}
+use Rattle.kd_form.specs.PartReading.{HasHeading}
+use Rattle.kd_form.specs.Sending.{IsOrderAnswer, letters_from}
+use Rattle.kd_sheet.specs.Document.{◌>>=◌}
+use Rattle.kd_look.specs.Form.{form_answer}
+use Rattle.kd_look.specs.FormHeading.{heading_keys, number_at}
 use Rattle.kd_look.specs.Order.{keys_given, order_answer, text_start}
-use Rattle.kd_look.specs.OrderHead.{pattern_of}
+use Rattle.kd_look.specs.Signs.{marks_end}
 use Rattle.kd_look.specs.declared.message.fault.MessageFault.{MessageFault}
+use Rattle.kd_look.specs.declared.message.form_heading.FormHeading.{FormHeading}
 use Rattle.kd_look.specs.declared.message.order_head.KeyLine.{KeyLine}
+use Rattle.kd_look.specs.declared.message.order_head.KeyLine.TheVariants as lines
+use Rattle.kd_look.specs.declared.message.signs.WrongByte.{WrongByte}
 
--- The lines of keys for the day's machine have the form `form`.
+-- The day is for a machine whose lines of keys have the form `form`.
 abbrev pub HasKeyLineForm : Day → KeyLine → Type 0
-HasKeyLineForm s form = pattern_of form ≡ key_pattern s
+HasKeyLineForm (Rotor s) lines.ThreeSlots = length s.wheels ≡ 3
+HasKeyLineForm (Rotor s) lines.FourSlots = length s.wheels ≡ 4
+HasKeyLineForm (Rotor s) lines.Converter = ⊥
+HasKeyLineForm (Pin s) lines.ThreeSlots = ⊥
+HasKeyLineForm (Pin s) lines.FourSlots = ⊥
+HasKeyLineForm (Pin s) lines.Converter = Unit {0}
 
--- If `look` finds a fault in an order's head, the fault's byte is the first wrong byte of the head for `send`.
+-- If `look` finds a fault in an order's head, the fault's place is that of the head's first wrong
+-- byte.
 abbrev pub HeadFaultsAreThoseOfSend : Type 0
 HeadFaultsAreThoseOfSend =
     (s : Day) (form : KeyLine) (order : List ℕ) (found : MessageFault) → HasKeyLineForm s form
     → text_start order form ≡ Err found
     → IsOrderHeadFault s order (found.index + 1) × (found.fault ≡ BadByte (found.index + 1))
 
--- The bytes of `order` before `start` are a whole head, and `look` counts the head's lines of keys rightly.
+-- The bytes of `order` before `start` are a whole head. `look` counts the head's lines of keys
+-- rightly.
 pub record HasHeadTo (s : Day) (order : List ℕ) (start : ℕ) : Type 0 where
   pub keys : List Keys
   pub inside : start ≤ length order
   pub is_order : IsOrder s order keys (take start order) (drop start order)
   pub counted : keys_given order start ≡ length keys
 
--- If `look` finds no fault in an order's head, the head is whole for `send`, and ends where `look` says.
+-- If `look` finds no fault in an order's head, the head is whole for `send`, and ends where `look`
+-- says.
 abbrev pub HeadsEndWhereSendEndsThem : Type 0
 HeadsEndWhereSendEndsThem =
     (s : Day) (form : KeyLine) (order : List ℕ) (start : ℕ) → HasKeyLineForm s form
@@ -43,10 +62,11 @@ HeadsEndWhereSendEndsThem =
 
 -- A fault of keys that only the day shows: a wrong group, or keys without an internal key.
 pub data IsDaysFault (fault : FormFault) : Type 0 where
-  Group : (part : ℕ) → fault ≡ WrongGroup part → IsDaysFault fault
-  Indicator : (part : ℕ) → fault ≡ IndicatorSpent part → IsDaysFault fault
+  GroupWrong : (part : ℕ) → fault ≡ WrongGroup part → IsDaysFault fault
+  NoInternalKey : (part : ℕ) → fault ≡ IndicatorSpent part → IsDaysFault fault
 
--- `answer` is the fault of the order's first keys that don't suit the day. Only the day shows this fault.
+-- `answer` is the fault of the order's first keys that don't suit the day. Only the day shows this
+-- fault.
 pub record IsRefusedByDay (s : Day) (order : List ℕ) (answer : Result (List ℕ) FormFault) : Type 0 where
   pub keys : List Keys
   pub head : List ℕ
@@ -57,18 +77,63 @@ pub record IsRefusedByDay (s : Day) (order : List ℕ) (answer : Result (List �
   pub of_the_day : IsDaysFault fault
   pub answered : answer ≡ Err fault
 
--- If `look` finds a fault in an order, `send` refuses the order with this fault, or with an earlier fault that only the
--- day shows.
+-- If `look` finds a fault in an order, `send` refuses the order with this fault, or with a fault
+-- that only the day shows.
 abbrev pub OrderFaultsAreThoseOfSend : Type 0
 OrderFaultsAreThoseOfSend =
     (s : Day) (form : KeyLine) (order : List ℕ) (found : MessageFault) (answer : Result (List ℕ) FormFault)
     → HasKeyLineForm s form → order_answer order form ≡ Err found → IsOrderAnswer s order answer
     → (answer ≡ Err found.fault) ⊎ IsRefusedByDay s order answer
 
--- If `look` finds no fault in an order, `send` makes a form of the order, or refuses the order with a fault that only
--- the day shows.
+-- If `look` finds no fault in an order, `send` makes a form of the order, or refuses the order with
+-- a fault that only the day shows.
 abbrev pub FaultlessOrdersAreSent : Type 0
 FaultlessOrdersAreSent =
     (s : Day) (form : KeyLine) (order : List ℕ) (start : ℕ) (answer : Result (List ℕ) FormFault)
     → HasKeyLineForm s form → order_answer order form ≡ Ok start → IsOrderAnswer s order answer
     → ((made : List ℕ) × (answer ≡ Ok made)) ⊎ IsRefusedByDay s order answer
+
+-- ---- Forms.
+
+-- the index after the number of letters in the heading at `index`, or the first wrong byte
+unfoldable pub count_end : List ℕ → ℕ → Result ℕ WrongByte
+count_end text index = do
+  start ← marks_end text (codes "PART ") index
+  part ← number_at text start
+  slash ← marks_end text (codes "/") part.end
+  parts ← number_at text slash
+  space ← marks_end text (codes " ") parts.end
+  count ← number_at text space
+  Ok count.end
+
+-- The day is for the machine that the form's first heading is for, if the heading shows this.
+abbrev pub IsDayOfForm : Day → List ℕ → Type 0
+IsDayOfForm s form = IfOk (count_end form 0) (λ end. HasKeyLineForm s (heading_keys form end))
+
+-- `answer` is the fault of the letters of one of the form's parts. Only the day shows this fault,
+-- or the part's indicators.
+pub record IsRefusedForLetters (s : Day) (form : List ℕ) (answer : Result (List ℕ) FormFault) : Type 0 where
+  pub part : List ℕ
+  pub heading : Heading
+  pub body : List ℕ
+  pub fault : FormFault
+  pub is_part : Contains (parts_of form) part
+  pub headed : HasHeading s part heading body
+  pub found : IsLettersAnswer s heading.part heading.indicator (letters_from None body) (Err fault)
+  pub answered : answer ≡ Err fault
+
+-- If `look` finds a fault in a form, `receive` refuses the form with this fault, or with a fault of
+-- a part's letters.
+abbrev pub FormFaultsAreThoseOfReceive : Type 0
+FormFaultsAreThoseOfReceive =
+    (s : Day) (form : List ℕ) (found : MessageFault) (answer : Result (List ℕ) FormFault) → IsDayOfForm s form
+    → form_answer form ≡ Err found → IsFormAnswer s form answer
+    → (answer ≡ Err found.fault) ⊎ IsRefusedForLetters s form answer
+
+-- If `look` finds no fault in a form, `receive` reads the form, or refuses it with a fault of a
+-- part's letters.
+abbrev pub FaultlessFormsAreReceived : Type 0
+FaultlessFormsAreReceived =
+    (s : Day) (form : List ℕ) (first : FormHeading) (answer : Result (List ℕ) FormFault) → IsDayOfForm s form
+    → form_answer form ≡ Ok first → IsFormAnswer s form answer
+    → ((text : List ℕ) × (answer ≡ Ok text)) ⊎ IsRefusedForLetters s form answer

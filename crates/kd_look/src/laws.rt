@@ -1,18 +1,31 @@
-//! Laws: what this crate says of an order is what `send` says of the order.
-ghost use Rattle.kd_look.specs.Laws.{FaultlessOrdersAreSent, HeadFaultsAreThoseOfSend, HeadsEndWhereSendEndsThem};
-ghost use Rattle.kd_look.specs.Laws.{OrderFaultsAreThoseOfSend};
+//! Laws: this crate says of an order what `send` says of it, and of a form what `receive` says.
+ghost use Rattle.kd_look.specs.Laws.{FaultlessFormsAreReceived, FaultlessOrdersAreSent, FormFaultsAreThoseOfReceive};
+ghost use Rattle.kd_look.specs.Laws.{HeadFaultsAreThoseOfSend, HeadsEndWhereSendEndsThem, OrderFaultsAreThoseOfSend};
 
-/// On a day for the machine that an order is for, this crate and `send` find the same end of the order's head, or the
-/// same wrong byte.
+/// For the head of an order, this crate and `send` find the same end, or the same first wrong byte.
+///
+/// The day is for the machine that the order is for.
 pub fn heads_are_read_as_send_reads_them()
     ensures faults { HeadFaultsAreThoseOfSend }
     ensures ends { HeadsEndWhereSendEndsThem }
 {}
 
-/// On a day for the machine that an order is for, this crate finds the fault for which `send` refuses the order.
+/// If this crate finds a fault in an order, `send` refuses the order with this fault. Otherwise,
+/// `send` makes a form of the order.
 ///
-/// `send` may instead name an earlier fault that only the day shows: a wrong group, or keys without an internal key.
+/// The day is for the machine that the order is for. `send` may instead name a fault that only the
+/// day shows: a wrong group, or keys without an internal key.
 pub fn orders_are_judged_as_send_judges_them()
     ensures faults { OrderFaultsAreThoseOfSend }
     ensures faultless { FaultlessOrdersAreSent }
+{}
+
+/// If this crate finds a fault in a form, `receive` refuses the form with this fault. Otherwise,
+/// `receive` reads the form.
+///
+/// The day is for the machine that the form's first heading is for. `receive` may instead name a
+/// fault of a part's letters: of the group, or of the indicators.
+pub fn forms_are_judged_as_receive_judges_them()
+    ensures faults { FormFaultsAreThoseOfReceive }
+    ensures faultless { FaultlessFormsAreReceived }
 {}
