@@ -2,6 +2,8 @@ pub mod FaultWords
 pub mod File
 pub mod Form
 pub mod FormHeading
+pub mod GroupDays
+pub mod Groups
 pub mod Laws
 pub mod Line
 pub mod Look

@@ -9,8 +9,9 @@ use Rattle.kd_tables.specs.declared.ports.write_fault.WriteFault.{WriteFault}
 use Rattle.kd_tables.specs.declared.ports.write_fault.WriteFault.TheVariants.{Device, Unwritten}
 use Rattle.kd_findings.specs.Texts.{BeginsWith}
 use Rattle.kd_look.specs.File.{file_of}
+use Rattle.kd_look.specs.GroupDays.{group_day_words}
 use Rattle.kd_look.specs.MissingDays.{KnownFile, missing_words}
-use Rattle.kd_look.specs.Report.{IsReport, file_outcome}
+use Rattle.kd_look.specs.Report.{IsReport, file_message, file_outcome}
 use Rattle.kd_look.specs.declared.looking.NamedFile.{NamedFile}
 use Rattle.kd_look.specs.declared.outcome.Outcome.{Outcome}
 use Rattle.kd_look.specs.declared.outcome.Outcome.TheVariants as outcomes
@@ -41,13 +42,19 @@ AreReports (file ∷ rest) text = BeginsWith (IsReport file.name file.bytes) (λ
 
 -- the file's name, and the file's content; the content is `None` if the file has a fault
 abbrev pub known_text : NamedText → KnownFile
-known_text file = record { name = file.name; file = result_ok (file_of file.bytes) }
+known_text file =
+    record { name = file.name; file = result_ok (file_of file.bytes); message = file_message file.bytes }
 
--- The text has a report on each file. Then come the warnings about machines for which no key sheet has a day.
+-- the lines that compare the files: the warnings about machines for which no key sheet has a day, then the lines that
+-- name the days of the messages' groups
+abbrev pub comparison_words : List KnownFile → List ℕ
+comparison_words files = missing_words files ++ group_day_words files
+
+-- The text has a report on each file. Then come the lines that compare the files.
 pub record IsWholeReport (files : List NamedText) (text : List ℕ) : Type 0 where
   pub reports : List ℕ
   pub made : AreReports files reports
-  pub whole : text ≡ reports ++ missing_words (map known_text files)
+  pub whole : text ≡ reports ++ comparison_words (map known_text files)
 
 -- A report on the files was written, and the answer is the outcome for all files. Or the sink failed, and only a prefix
 -- of the report was written.

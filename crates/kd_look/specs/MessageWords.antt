@@ -1,12 +1,9 @@
 -- What `look` says about an order or a form. It names the first fault that shows without a machine.
 -- If no fault shows, it says what the message is.
 -- Test: tests/cases/curator-look.toml
-use Rattle.std.specs.Prelude.{codes, ℕ, ◌+◌, ◌++◌, ◌&&◌, nat_eq, nat_le, Bool, false, List, [], ◌∷◌, Option, Some, None}
-use Rattle.std.specs.Prelude.{Result, Ok, Err, slice_get, slice_index, take, if◌then◌else◌}
-use Rattle.std.specs.List.{flat_map, range_with_len}
-use Rattle.std.specs.Option.{option_map_or}
+use Rattle.std.specs.Prelude.{codes, ℕ, ◌++◌, ◌&&◌, nat_le, Bool, List, Result, Ok, Err, slice_index, take}
+use Rattle.std.specs.Prelude.{if◌then◌else◌}
 use Rattle.std.specs.Str.{bytes_eq}
-use Rattle.kd_tables.specs.Text.{is_capital}
 use Rattle.kd_form.specs.FaultText.{form_fault_text}
 use Rattle.kd_findings.specs.NotToml.{column_at, line_at, place_words}
 use Rattle.kd_findings.specs.Texts.{titled}
@@ -89,27 +86,6 @@ machine_name lines.ThreeSlots = codes "an Enigma I or an M3"
 machine_name lines.FourSlots = codes "an M4"
 machine_name lines.Converter = codes "a Converter M-209"
 
--- the column of the first letter of the group in a line of keys; a Converter's line of keys has no group
-abbrev pub group_column : KeyLine → Option ℕ
-group_column lines.ThreeSlots = Some 17
-group_column lines.FourSlots = Some 19
-group_column lines.Converter = None
-
--- the capital letter at `index`, as a text; empty if no capital letter stands there
-abbrev pub capital_at : List ℕ → ℕ → List ℕ
-capital_at text index = option_map_or (λ byte. if is_capital byte then byte ∷ [] else []) (slice_get text index) []
-
--- the line about the group of part `part`; the group's first letter is at `index`
-unfoldable pub group_line : List ℕ → ℕ → ℕ → List ℕ
-group_line text part index = titled (codes "part ") part ++ codes ": group " ++ capital_at text index
-    ++ capital_at text (index + 1) ++ capital_at text (index + 2) ++ codes "\n"
-
--- the line about the group whose first letter is at `index`; empty if no group begins there
-abbrev pub group_words : List ℕ → KeyLine → ℕ → List ℕ
-group_words text form index =
-    if option_map_or (nat_eq (column_at text index)) (group_column form) false
-    then group_line text (line_at text index) index else []
-
 -- the beginning of the lines about a message: the file's name, the kind of the message, the machine that it is for, and
 -- what was looked at
 unfoldable pub kind_words : List ℕ → List ℕ → KeyLine → List ℕ → List ℕ
@@ -120,14 +96,13 @@ unfoldable pub number_line : List ℕ → ℕ → List ℕ
 number_line title number = titled title number ++ codes "\n"
 
 -- The lines about an order in which no fault was found: the machine that the order is for, what was
--- looked at, how many parts the order makes, how many letters of text it has, and the group of each
--- part. The text begins at `start`.
+-- looked at, how many parts the order makes, and how many letters of text it has. The text begins at
+-- `start`.
 unfoldable pub order_lines : List ℕ → List ℕ → ℕ → List ℕ
 order_lines name text start =
     kind_words name (codes ": an order for ") (key_line_of text) order_tests
     ++ number_line (codes "parts: ") (keys_given text start)
     ++ number_line (codes "letters of text: ") (letter_count text (key_line_of text) start)
-    ++ flat_map (group_words text (key_line_of text)) (range_with_len 0 start)
 
 -- the lines about an order, made from the answer of reading the order
 abbrev pub order_words_for : List ℕ → List ℕ → Result ℕ MessageFault → List ℕ
@@ -146,7 +121,7 @@ abbrev pub form_words_for : List ℕ → List ℕ → Result FormHeading Message
 form_words_for name text (Ok first) = form_lines name first
 form_words_for name text (Err found) = fault_line name text found
 
--- the lines about an order or a form
+-- the lines about an order or a form, without the lines about its groups
 abbrev pub message_words : List ℕ → List ℕ → List ℕ
 message_words name text = if is_form text then form_words_for name text (form_answer text)
     else order_words_for name text (order_start text)

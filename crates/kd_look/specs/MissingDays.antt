@@ -7,14 +7,17 @@ use Rattle.kd_tables.specs.declared.model.Model.{Model}
 use Rattle.kd_state.specs.Machine.{model_of}
 use Rattle.kd_sheet.specs.Sheet.{has_days_of}
 use Rattle.kd_slips.specs.Shown.{model_with_article}
+use Rattle.kd_look.specs.Groups.{KnownMessage}
 use Rattle.kd_look.specs.declared.file.File.{File}
 use Rattle.kd_look.specs.declared.file.File.TheVariants as files
 use Rattle.kd_look.specs.declared.missing_days.ReadFile.{ReadFile}
 
--- A file's name and, if the file has no fault, the file's content.
+-- A file's name and, if the file has no fault, the file's content: a machine or a key sheet in `file`, an order or a
+-- form in `message`.
 pub record KnownFile : Type 0 where
   pub name : List ℕ
   pub file : Option File
+  pub message : Option KnownMessage
 
 abbrev pub model_in : Option File → Option Model
 model_in (Some (files.Machine machine)) = Some (model_of machine)
@@ -70,4 +73,4 @@ missing_words all = flat_map (missing_lines all) all
 
 -- a file that was read, with a plain name in place of a borrowed name
 abbrev pub known_of : ReadFile → KnownFile
-known_of read = record { name = read.name.now; file = read.file }
+known_of read = record { name = read.name.now; file = read.file; message = read.message }

@@ -1,11 +1,13 @@
 -- The report on a file: its content in words, or its faults.
 -- Test: tests/cases/curator-look.toml
-use Rattle.std.specs.Prelude.{codes, ◌≡◌, ℕ, ◌++◌, Bool, true, false, List, MatchResult, Result, Ok, Err, if◌then◌else◌}
+use Rattle.std.specs.Prelude.{codes, ◌≡◌, ℕ, ◌++◌, Bool, true, false, List, MatchResult, Option, None, Result, Ok, Err}
+use Rattle.std.specs.Prelude.{if◌then◌else◌}
 use Rattle.toml.specs.Data.{Members}
 use Rattle.kd_sheet.specs.Document.{document_of}
 use Rattle.kd_sheet.specs.declared.fault.SheetFault.{SheetFault}
 use Rattle.kd_look.specs.FaultWords.{NamesFault, SaysPlainly}
 use Rattle.kd_look.specs.File.{file_in}
+use Rattle.kd_look.specs.Groups.{KnownMessage, group_lines, message_of}
 use Rattle.kd_look.specs.MachineWords.{machine_words}
 use Rattle.kd_look.specs.Order.{order_start}
 use Rattle.kd_look.specs.Form.{form_answer}
@@ -48,6 +50,21 @@ outcome_by bytes (Err fault) = outcome_without (is_message bytes) bytes fault
 abbrev pub file_outcome : List ℕ → Outcome
 file_outcome bytes = outcome_by bytes (document_of bytes)
 
+-- the order or the form in a file that isn't a document; `None` if the file has a fault; the truth value says whether
+-- the file is an order or a form
+abbrev pub message_without : Bool → List ℕ → Option KnownMessage
+message_without true bytes = message_of bytes
+message_without false bytes = None
+
+-- the order or the form in a file, made from the file's document or, if the file isn't a document, its fault
+abbrev pub message_by : List ℕ → Result Members SheetFault → Option KnownMessage
+message_by bytes (Ok document) = None
+message_by bytes (Err fault) = message_without (is_message bytes) bytes
+
+-- the order or the form in a file; `None` if the file is no order and no form, or has a fault
+abbrev pub file_message : List ℕ → Option KnownMessage
+file_message bytes = message_by bytes (document_of bytes)
+
 -- the words for a file's content, after the file's name
 unfoldable pub file_words : List ℕ → File → List ℕ
 file_words name (files.Machine machine) = name ++ codes ": a machine file without a fault\n" ++ machine_words machine
@@ -68,10 +85,14 @@ abbrev pub IsDocumentReport : List ℕ → List ℕ → Members → List ℕ →
 IsDocumentReport name bytes document text = MatchResult (file_in document)
     (λ file. Describes name bytes document file text) (λ fault. NamesFault name bytes document fault text)
 
+-- the report on an order or a form
+abbrev pub message_report : List ℕ → List ℕ → List ℕ
+message_report name bytes = message_words name bytes ++ group_lines (message_of bytes)
+
 -- The text is the report on a file that isn't a document. The truth value says whether the file is an order
 -- or a form.
 abbrev pub IsOtherReport : Bool → List ℕ → List ℕ → SheetFault → List ℕ → Type 0
-IsOtherReport true name bytes fault text = text ≡ message_words name bytes
+IsOtherReport true name bytes fault text = text ≡ message_report name bytes
 IsOtherReport false name bytes fault text = SaysPlainly name bytes fault text
 
 -- The text is the report on the file called `name`, with the content `bytes`.

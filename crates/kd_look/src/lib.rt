@@ -6,6 +6,7 @@ mod day_lines;
 mod fault_words;
 mod few_days;
 mod file;
+mod group_days;
 pub mod laws;
 mod line;
 mod looking;

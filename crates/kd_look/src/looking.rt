@@ -4,10 +4,11 @@ ghost use Rattle.std.specs.String.{string_bytes};
 ghost use Rattle.kd_tables.specs.{Ports.{port}, WriteFault.{is_device}};
 ghost use Rattle.kd_findings.specs.Texts.{AppendsText};
 ghost use Rattle.kd_look.specs.Look.{AreReports, IsLookAnswer, IsWholeReport};
-ghost use Rattle.kd_look.specs.Look.{known_text, named_text, outcome_of_all};
+ghost use Rattle.kd_look.specs.Look.{comparison_words, known_text, named_text, outcome_of_all};
 ghost use Rattle.kd_look.specs.MissingDays.{known_of};
 ghost use Rattle.kd_look.specs.Report.{IsReport, file_outcome};
 
+use crate::group_days::group_day_lines;
 use crate::missing_days::{ReadFile, missing_day_warnings};
 use crate::outcome::Outcome;
 use crate::report::{Report, make_report};
@@ -51,7 +52,7 @@ struct WholeReport {
     outcome: Outcome,
 }
 
-/// Makes the report on `files`: a report on each file, then the warnings about missing days.
+/// Makes the report on `files`: a report on each file, then the lines that compare the files.
 fn report_all(alloc: Global, files: &[NamedFile<'_>]) -> Result<WholeReport, AllocError>
     ensures report { IfOk result (λ made.
         IsWholeReport (map named_text files.now) (string_bytes made.text)) }
@@ -60,9 +61,25 @@ fn report_all(alloc: Global, files: &[NamedFile<'_>]) -> Result<WholeReport, All
     let mut text = String::new(alloc);
     let mut known = Vec::new(alloc);
     let outcome = push_reports(&mut text, &mut known, alloc, files)?;
-    let missing = missing_day_warnings(alloc, known.as_slice())?;
-    text.push_str(missing.as_str())?;
+    push_comparisons(&mut text, alloc, known.as_slice())?;
     Ok(WholeReport { text, outcome })
+}
+
+/// Appends the lines that compare `files`: the warnings about missing days, then the lines that
+/// name the days of the messages' groups.
+#[tactic(auto, using(std::proofs::Common::append_assoc))]
+fn push_comparisons(
+    text: &mut String,
+    alloc: Global,
+    files: &[ReadFile<'_>],
+) -> Result<(), AllocError>
+    ensures { OnOk result (string_bytes text.new
+        ≡ string_bytes text.old ++ comparison_words (map known_of files.now)) }
+{
+    let missing = missing_day_warnings(alloc, files)?;
+    text.push_str(missing.as_str())?;
+    let days = group_day_lines(alloc, files)?;
+    text.push_str(days.as_str())
 }
 
 /// Appends the reports on `files` to `text`, and the files' contents to `known`.
@@ -105,11 +122,13 @@ fn push_report<'f>(
         text: report,
         outcome,
         file: said,
+        message,
     } = make_report(alloc, file.bytes, file.name)?;
     text.push_str(report.as_str())?;
     known.push(ReadFile {
         name: file.name,
         file: said,
+        message,
     })?;
     Ok(outcome)
 }

@@ -3,6 +3,7 @@
 pub mod fault;
 pub mod form;
 pub mod form_heading;
+pub mod groups;
 pub mod order;
 pub mod order_head;
 pub mod signs;

@@ -6,6 +6,7 @@ ghost use Rattle.kd_look.specs.MissingDays.{machine_model, missing_lines, missin
 ghost use Rattle.kd_look.specs.MissingDays.{no_day_end, no_day_start, no_day_words, known_of, serves};
 
 use crate::file::File;
+use crate::message::groups::Message;
 use kd_slips::model_name;
 use kd_tables::Model;
 use std::alloc::{AllocError, Global};
@@ -14,7 +15,10 @@ use std::alloc::{AllocError, Global};
 #[derive(Drop)]
 pub struct ReadFile<'f> {
     pub name: &'f str,
+    /// The file's content, if it is a machine or a key sheet.
     pub file: Option<File>,
+    /// The file's content, if it is an order or a form.
+    pub message: Option<Message>,
 }
 
 /// The warnings about machines for which no key sheet has a day. There are no warnings if there is no key sheet.

@@ -4,8 +4,8 @@ ghost use Rattle.std.specs.Result.{result_ok};
 ghost use Rattle.std.specs.String.{string_bytes};
 ghost use Rattle.toml.specs.View.{table_view};
 ghost use Rattle.kd_look.specs.Report.{Describes, IsDocumentReport, IsReport, file_outcome, file_words};
-ghost use Rattle.kd_look.specs.Report.{answer_outcome, message_outcome, outcome_of};
-ghost use Rattle.kd_look.specs.MessageWords.{message_words};
+ghost use Rattle.kd_look.specs.Report.{answer_outcome, file_message, message_outcome, message_report, outcome_of};
+ghost use Rattle.kd_look.specs.Groups.{group_lines, message_of};
 ghost use Rattle.kd_look.specs.File.{file_in, file_of};
 
 use crate::fault_words::{plain_refusal, refusal};
@@ -13,6 +13,7 @@ use crate::file::{File, file_in};
 use crate::machine_words::push_machine;
 use crate::message::fault::MessageFault;
 use crate::message::form::form_answer;
+use crate::message::groups::{Message, form_message, order_message, push_groups};
 use crate::message::order::order_start;
 use crate::message::words::{form_words, is_form, is_message, order_words};
 use crate::outcome::{FoundFault, Outcome};
@@ -29,8 +30,10 @@ pub struct Report {
     /// The lines about the file.
     pub text: String,
     pub outcome: Outcome,
-    /// The file's content, if the file has no fault.
+    /// The file's content, if the file is a machine file or a key sheet, and has no fault.
     pub file: Option<File>,
+    /// The file's content, if the file is an order or a form, and has no fault.
+    pub message: Option<Message>,
 }
 
 /// Makes the report on the file called `name`, with the content `bytes`.
@@ -38,6 +41,7 @@ pub fn make_report(alloc: Global, bytes: &[u8], name: &str) -> Result<Report, Al
     ensures report { IfOk result (λ made. IsReport name.now bytes.now (string_bytes made.text)) }
     ensures found { IfOk result (λ made. made.outcome ≡ file_outcome bytes.now) }
     ensures file { IfOk result (λ made. made.file ≡ result_ok (file_of bytes.now)) }
+    ensures message { IfOk result (λ made. made.message ≡ file_message bytes.now) }
 {
     match parse_table(alloc, bytes) {
         Ok(document) => document_report(alloc, bytes, name, &document),
@@ -47,31 +51,51 @@ pub fn make_report(alloc: Global, bytes: &[u8], name: &str) -> Result<Report, Al
             text: plain_refusal(alloc, bytes, name, fault)?,
             outcome: Outcome::Faulty(FoundFault::File(fault)),
             file: None,
+            message: None,
         }),
     }
 }
 
 /// Makes the report on the order or form `bytes` in the file called `name`.
 fn message_report(alloc: Global, bytes: &[u8], name: &str) -> Result<Report, AllocError>
-    ensures report { IfOk result (λ made. string_bytes made.text ≡ message_words name.now bytes.now) }
+    ensures report { IfOk result (λ made. string_bytes made.text ≡ message_report name.now bytes.now) }
     ensures found { IfOk result (λ made. made.outcome ≡ message_outcome bytes.now) }
     ensures file { IfOk result (λ made. made.file ≡ None) }
+    ensures message { IfOk result (λ made. made.message ≡ message_of bytes.now) }
 {
     if is_form(bytes) {
         let answer = form_answer(bytes);
-        Ok(Report {
-            text: form_words(alloc, name, bytes, &answer)?,
-            outcome: answer_outcome(&answer),
-            file: None,
-        })
+        let message = form_message(alloc, bytes, &answer)?;
+        let text = form_words(alloc, name, bytes, &answer)?;
+        report_with_groups(text, answer_outcome(&answer), message)
     } else {
         let answer = order_start(bytes);
-        Ok(Report {
-            text: order_words(alloc, name, bytes, &answer)?,
-            outcome: answer_outcome(&answer),
-            file: None,
-        })
+        let message = order_message(alloc, bytes, &answer)?;
+        let text = order_words(alloc, name, bytes, &answer)?;
+        report_with_groups(text, answer_outcome(&answer), message)
     }
+}
+
+/// Makes the report on an order or a form: `text`, and the lines about the groups of `message`.
+fn report_with_groups(
+    text: String,
+    outcome: Outcome,
+    message: Option<Message>,
+) -> Result<Report, AllocError>
+    ensures report { IfOk result (λ made.
+        string_bytes made.text ≡ string_bytes text ++ group_lines message) }
+    ensures found { IfOk result (λ made. made.outcome ≡ outcome) }
+    ensures file { IfOk result (λ made. made.file ≡ None) }
+    ensures message { IfOk result (λ made. made.message ≡ message) }
+{
+    let mut text = text;
+    push_groups(&mut text, &message)?;
+    Ok(Report {
+        text,
+        outcome,
+        file: None,
+        message,
+    })
 }
 
 /// The outcome for an order or a form, made from the answer of reading it.
@@ -97,17 +121,20 @@ fn document_report(
         made.outcome ≡ outcome_of (file_in (table_view document.now))) }
     ensures file { IfOk result (λ made.
         made.file ≡ result_ok (file_in (table_view document.now))) }
+    ensures message { IfOk result (λ made. made.message ≡ None) }
 {
     match file_in(document) {
         Ok(file) => Ok(Report {
             text: description(alloc, bytes, name, document, &file)?,
             outcome: Outcome::Faultless,
             file: Some(file),
+            message: None,
         }),
         Err(fault) => Ok(Report {
             text: refusal(alloc, bytes, name, document, fault)?,
             outcome: Outcome::Faulty(FoundFault::File(fault)),
             file: None,
+            message: None,
         }),
     }
 }

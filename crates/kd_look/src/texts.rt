@@ -31,3 +31,17 @@ pub fn push_letter(text: &mut String, letter: Letter) -> Result<(), AllocError>
 {
     text.push(char::from(letter.byte()))
 }
+
+/// Appends `letters` as capital letters.
+#[tactic(auto, using(std::proofs::Common::append_assoc))]
+pub fn push_letters(text: &mut String, letters: &[Letter]) -> Result<(), AllocError>
+    ensures { OnOk result (string_bytes text.new ≡ string_bytes text.old ++ letters_text letters.now) }
+{
+    match letters {
+        [letter, rest @ ..] => {
+            push_letter(text, *letter)?;
+            push_letters(text, rest)
+        }
+        [] => Ok(()),
+    }
+}

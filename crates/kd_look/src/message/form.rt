@@ -202,7 +202,7 @@ fn next_heading(text: &[u8], first: usize) -> Option<usize>
 
 /// Whether there is an LF at `index`, and a heading line follows: `PART `, and then a digit.
 #[tactic(auto, unfolding(crate::specs::Form::heading_follows))]
-fn heading_follows(text: &[u8], index: usize) -> bool
+pub fn heading_follows(text: &[u8], index: usize) -> bool
     ensures { result ≡ heading_follows text.now index }
 {
     fits_at(text, b'\n', index)

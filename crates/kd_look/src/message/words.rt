@@ -1,8 +1,6 @@
-//! The lines about an order or a form.
-ghost use Rattle.std.specs.Prelude.{◌≡◌, ◌++◌, ◌<◌, ◌≤◌, length, IfOk, OnOk};
-ghost use Rattle.std.specs.List.{flat_map, range_with_len};
+//! The lines about an order or a form, without the lines about its groups.
+ghost use Rattle.std.specs.Prelude.{◌≡◌, ◌++◌, ◌≤◌, length, IfOk, OnOk};
 ghost use Rattle.std.specs.String.{string_bytes};
-ghost use Rattle.kd_look.specs.MessageWords.{capital_at, group_column, group_line, group_words};
 ghost use Rattle.kd_look.specs.MessageWords.{fault_line, form_lines, form_tests, form_words_for, is_form, is_message};
 ghost use Rattle.kd_look.specs.MessageWords.{kind_words, machine_name, number_line, order_lines, order_tests};
 ghost use Rattle.kd_look.specs.MessageWords.{order_words_for};
@@ -11,7 +9,7 @@ use super::fault::MessageFault;
 use super::form_heading::FormHeading;
 use super::order::{keys_given, letter_count};
 use super::order_head::{KeyLine, key_line_of};
-use kd_findings::{place_after, push_place, push_titled};
+use kd_findings::{push_place, push_titled};
 use std::alloc::{AllocError, Global};
 
 /// Whether a file with the bytes `text` is an order or a form: it begins with `PART `.
@@ -78,8 +76,7 @@ fn push_order(words: &mut String, name: &str, text: &[u8], start: usize) -> Resu
     let form = key_line_of(text);
     push_kind(words, name, ": an order for ", form, order_tests())?;
     push_number_line(words, "parts: ", keys_given(text, start))?;
-    push_number_line(words, "letters of text: ", letter_count(text, form, start))?;
-    push_groups(words, text, form, start)
+    push_number_line(words, "letters of text: ", letter_count(text, form, start))
 }
 
 /// Appends the lines about a form in which no fault was found. `first` is the form's first heading.
@@ -119,83 +116,6 @@ fn push_number_line(words: &mut String, title: &str, number: usize) -> Result<()
 {
     push_titled(words, title, number)?;
     words.push_str("\n")
-}
-
-/// Appends a line about each group in the lines of keys before `start`.
-fn push_groups(
-    words: &mut String,
-    text: &[u8],
-    form: KeyLine,
-    start: usize,
-) -> Result<(), AllocError>
-    requires { start ≤ length text.now }
-    ensures { OnOk result (string_bytes words.new ≡ string_bytes words.old
-        ++ flat_map (group_words text.now form) (range_with_len 0 start)) }
-{
-    for index in 0..start {
-        push_group(words, text, form, index)?;
-    }
-    Ok(())
-}
-
-/// Appends the line about the group whose first letter is at `index`. Appends nothing if no group begins there.
-fn push_group(
-    words: &mut String,
-    text: &[u8],
-    form: KeyLine,
-    index: usize,
-) -> Result<(), AllocError>
-    requires { index < length text.now }
-    ensures { OnOk result (string_bytes words.new
-        ≡ string_bytes words.old ++ group_words text.now form index) }
-{
-    let place = place_after(&text[..index]);
-    match group_column(form) {
-        Some(column) if column == place.column => push_group_line(words, text, place.line, index),
-        _ => Ok(()),
-    }
-}
-
-/// The column of the first letter of the group in a line of keys. A Converter's line of keys has no group.
-fn group_column(form: KeyLine) -> Option<usize>
-    ensures { result ≡ group_column form }
-{
-    match form {
-        KeyLine::ThreeSlots => Some(17),
-        KeyLine::FourSlots => Some(19),
-        KeyLine::Converter => None,
-    }
-}
-
-/// Appends the line about the group of part `part`. The group's first letter is at `index`.
-#[tactic(auto, using(std::proofs::Common::append_assoc), unfolding(crate::specs::MessageWords::group_line))]
-fn push_group_line(
-    words: &mut String,
-    text: &[u8],
-    part: usize,
-    index: usize,
-) -> Result<(), AllocError>
-    requires { index < length text.now }
-    ensures { OnOk result (string_bytes words.new
-        ≡ string_bytes words.old ++ group_line text.now part index) }
-{
-    push_titled(words, "part ", part)?;
-    words.push_str(": group ")?;
-    push_capital(words, text, index)?;
-    push_capital(words, text, index + 1)?;
-    push_capital(words, text, index + 2)?;
-    words.push_str("\n")
-}
-
-/// Appends the capital letter at `index`. Appends nothing if no capital letter stands there.
-fn push_capital(words: &mut String, text: &[u8], index: usize) -> Result<(), AllocError>
-    ensures { OnOk result (string_bytes words.new
-        ≡ string_bytes words.old ++ capital_at text.now index) }
-{
-    match text.get(index) {
-        Some(byte) if 65 <= *byte && *byte <= 90 => words.push(char::from(*byte)),
-        _ => Ok(()),
-    }
 }
 
 /// What was looked at in an order without a fault, and what wasn't.

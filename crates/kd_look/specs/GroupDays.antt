@@ -1,0 +1,114 @@
+-- The lines that name the days of key sheets that have the groups of orders and forms.
+-- Test: tests/cases/curator-look.toml
+use Rattle.std.specs.Prelude.{codes, ℕ, ◌==◌, ◌++◌, ◌&&◌, Bool, false, List, [], ◌∷◌, count_by, Option, Some, None}
+use Rattle.std.specs.List.{enumerate_from, filter, flat_map, list_all, list_any, range_with_len}
+use Rattle.std.specs.Option.{option_map_or}
+use Rattle.kd_tables.specs.Tables.{slots_of}
+use Rattle.kd_tables.specs.Text.{letters_text}
+use Rattle.kd_tables.specs.declared.model.Model.{Model}
+use Rattle.kd_state.specs.SheetDay.{Day, Pin, Rotor, day_model}
+use Rattle.kd_sheet.specs.Sheet.{day_of}
+use Rattle.kd_findings.specs.Texts.{titled}
+use Rattle.kd_look.specs.Groups.{KnownMessage}
+use Rattle.kd_look.specs.MissingDays.{KnownFile}
+use Rattle.kd_look.specs.declared.file.File.{File}
+use Rattle.kd_look.specs.declared.file.File.TheVariants as files
+use Rattle.kd_look.specs.declared.group_days.Search.{Search}
+use Rattle.kd_look.specs.declared.message.order_head.KeyLine.{KeyLine}
+use Rattle.kd_look.specs.declared.message.order_head.KeyLine.TheVariants as lines
+
+-- A message and a key sheet in which the days of the message's groups are sought: the name of the message's file, how
+-- the message's keys are written, the name of the sheet's file, and the sheet.
+pub record GroupSearch : Type 0 where
+  pub name : List ℕ
+  pub keys : KeyLine
+  pub sheet : List ℕ
+  pub month : List (Option Day)
+
+-- how many slots the machines have that a message can be for; a Converter has no slots
+abbrev pub key_slots : KeyLine → ℕ
+key_slots lines.ThreeSlots = 3
+key_slots lines.FourSlots = 4
+key_slots lines.Converter = 0
+
+-- whether a message whose keys are written as `keys` can be for the model
+abbrev pub can_be_for : KeyLine → Model → Bool
+can_be_for keys model = slots_of model == key_slots keys
+
+-- how often `letter` is in `letters`
+abbrev pub times : ℕ → List ℕ → ℕ
+times letter letters = count_by (λ other. other == letter) letters
+
+-- whether both lists have the same letters, each as often, in any order
+abbrev pub are_reordered : List ℕ → List ℕ → Bool
+are_reordered group letters = list_all (λ letter. times letter group == times letter letters) (group ++ letters)
+
+-- whether `letters` are the letters of one of the day's groups, in any order; a Converter's day has no groups
+abbrev pub has_group : List ℕ → Day → Bool
+has_group letters (Rotor values) = list_any (λ group. are_reordered group letters) values.groups
+has_group letters (Pin values) = false
+
+-- whether the day has the group, and is for a model that the message can be for
+abbrev pub suits : GroupSearch → List ℕ → Day → Bool
+suits search group day = can_be_for search.keys (day_model day) && has_group group day
+
+-- whether the sheet has day `number`, and this day suits the message and the group
+unfoldable pub is_day_with : GroupSearch → List ℕ → ℕ → Bool
+is_day_with search group number = option_map_or (suits search group) (day_of search.month number) false
+
+-- the numbers of the sheet's days that have the group, in ascending order
+abbrev pub days_with : GroupSearch → List ℕ → List ℕ
+days_with search group = filter (is_day_with search group) (range_with_len 1 31)
+
+-- the line that says that the group of part `part` is of day `day`
+unfoldable pub group_day_line : GroupSearch → ℕ → List ℕ → ℕ → List ℕ
+group_day_line search part group day =
+    search.name ++ titled (codes ": part ") part ++ codes ": group " ++ letters_text group
+    ++ titled (codes " is of day ") day ++ codes " in " ++ search.sheet ++ codes "\n"
+
+-- the warning that no day of the sheet has the group of part `part`
+unfoldable pub no_group_line : GroupSearch → ℕ → List ℕ → List ℕ
+no_group_line search part group =
+    search.name ++ titled (codes ": warning: part ") part ++ codes ": no day in " ++ search.sheet
+    ++ codes " has the group " ++ letters_text group ++ codes "\n"
+
+-- a line for each of the days that have the group; if there are none, the warning
+abbrev pub lines_for : GroupSearch → ℕ → List ℕ → List ℕ → List ℕ
+lines_for search part group [] = no_group_line search part group
+lines_for search part group (day ∷ days) = flat_map (group_day_line search part group) (day ∷ days)
+
+-- the lines about the group of part `part`
+unfoldable pub part_lines : GroupSearch → ℕ → List ℕ → List ℕ
+part_lines search part group = lines_for search part group (days_with search group)
+
+-- the lines about groups; `part` is the part of the first group
+abbrev pub parts_lines : GroupSearch → ℕ → List (List ℕ) → List ℕ
+parts_lines search part groups =
+    flat_map (λ numbered. part_lines search numbered.0 numbered.1) (enumerate_from part groups)
+
+-- the days of a key sheet; `None` if the file isn't a key sheet
+abbrev pub month_in : Option File → Option (List (Option Day))
+month_in (Some (files.Sheet month)) = Some month
+month_in (Some (files.Machine machine)) = None
+month_in None = None
+
+-- the lines about the groups of a message and the days of a file; empty if the file isn't a key sheet
+abbrev pub sheet_lines : List ℕ → KnownMessage → KnownFile → List ℕ
+sheet_lines name message sheet = option_map_or
+    (λ month. parts_lines (record { name = name; keys = message.keys; sheet = sheet.name; month = month }) 1 message.groups)
+    (month_in sheet.file) []
+
+-- the lines about the groups of a file and the days of all key sheets; empty if the file isn't an order or a form
+abbrev pub message_lines : List KnownFile → KnownFile → List ℕ
+message_lines all read = option_map_or (λ message. flat_map (sheet_lines read.name message) all) read.message []
+
+-- the lines about the groups of all orders and forms, and the days of all key sheets
+abbrev pub group_day_words : List KnownFile → List ℕ
+group_day_words all = flat_map (message_lines all) all
+
+-- ---- Borrowed names and sheets. No public contract cites this definition.
+
+-- a search, with plain values in place of borrowed ones
+abbrev pub search_of : Search → GroupSearch
+search_of search =
+    record { name = search.name.now; keys = search.keys; sheet = search.sheet.now; month = search.month.now }

@@ -1,0 +1,100 @@
+-- The groups of an order or a form. By a part's group, the receiver finds the day. Two fillers stand before the group:
+-- in an order, both are in the part's line of keys; in a form, both begin the part's body. Indexes are counted from 0.
+-- Test: tests/cases/curator-look.toml
+use Rattle.std.specs.Prelude.{codes, ℕ, ◌+◌, ◌-◌, ◌==◌, ◌++◌, nat_eq, false, List, [], drop, length, map, take}
+use Rattle.std.specs.Prelude.{Option, Some, None, Result, Ok, Err, if◌then◌else◌}
+use Rattle.std.specs.List.{enumerate_from, filter, flat_map, position, range_with_len}
+use Rattle.std.specs.Option.{option_map_or, option_to_list}
+use Rattle.kd_tables.specs.Text.{is_capital, letters_text}
+use Rattle.kd_findings.specs.NotToml.{column_at}
+use Rattle.kd_findings.specs.Texts.{titled}
+use Rattle.kd_look.specs.Form.{form_answer, heading_follows}
+use Rattle.kd_look.specs.Order.{order_start}
+use Rattle.kd_look.specs.OrderHead.{key_line_of}
+use Rattle.kd_look.specs.MessageWords.{is_form}
+use Rattle.kd_look.specs.declared.message.fault.MessageFault.{MessageFault}
+use Rattle.kd_look.specs.declared.message.form_heading.FormHeading.{FormHeading}
+use Rattle.kd_look.specs.declared.message.order_head.KeyLine.{KeyLine}
+use Rattle.kd_look.specs.declared.message.order_head.KeyLine.TheVariants as lines
+
+-- An order or a form without a fault: how its keys are written, and the groups of its parts, in the order of the parts.
+pub record KnownMessage : Type 0 where
+  pub keys : KeyLine
+  pub groups : List (List ℕ)
+
+-- the letters of a text, without the signs between them
+abbrev pub letters_of : List ℕ → List ℕ
+letters_of text = map (λ byte. byte - 65) (filter is_capital text)
+
+-- three letters as a group; `None` if there are fewer
+abbrev pub three_letters : List ℕ → Option (List ℕ)
+three_letters letters = if length letters == 3 then Some letters else None
+
+-- the group in a text that begins with two fillers; `None` if the text has fewer than five letters
+abbrev pub group_of : List ℕ → Option (List ℕ)
+group_of text = three_letters (take 3 (drop 2 (letters_of text)))
+
+-- the column of the first filler in a line of keys; a Converter's line of keys has no fillers
+abbrev pub filler_column : KeyLine → Option ℕ
+filler_column lines.ThreeSlots = Some 14
+filler_column lines.FourSlots = Some 16
+filler_column lines.Converter = None
+
+-- the group whose fillers begin at `index`, as a list with one item; empty if no fillers begin there
+abbrev pub order_group : List ℕ → KeyLine → ℕ → List (List ℕ)
+order_group text keys index =
+    if option_map_or (nat_eq (column_at text index)) (filler_column keys) false
+    then option_to_list (group_of (drop index text)) else []
+
+-- the groups in the lines of keys, which end before `start`
+abbrev pub order_groups : List ℕ → KeyLine → ℕ → List (List ℕ)
+order_groups text keys start = flat_map (order_group text keys) (range_with_len 0 start)
+
+-- the text after its first line; empty if the text has no line end
+abbrev pub after_line : List ℕ → List ℕ
+after_line text = option_map_or (λ place. drop (place + 1) text) (position (λ byte. byte == 10) text) []
+
+-- The group of the part whose heading begins at `index`, as a list with one item. In a form without a fault, a body has
+-- at least six letters, so the group is in the body.
+abbrev pub part_group : List ℕ → ℕ → List (List ℕ)
+part_group text index = option_to_list (group_of (after_line (drop index text)))
+
+-- the group of the part whose heading follows the line end at `index`; empty if no heading follows
+abbrev pub next_group : List ℕ → ℕ → List (List ℕ)
+next_group text index = if heading_follows text index then part_group text (index + 1) else []
+
+-- the groups of a form for a rotor machine
+abbrev pub rotor_form_groups : List ℕ → List (List ℕ)
+rotor_form_groups text = part_group text 0 ++ flat_map (next_group text) (range_with_len 0 (length text))
+
+-- the groups of a form; a Converter's form has no groups
+abbrev pub form_groups : List ℕ → KeyLine → List (List ℕ)
+form_groups text lines.Converter = []
+form_groups text keys = rotor_form_groups text
+
+-- the form `text`, made from the answer of reading it; `None` if the form has a fault
+abbrev pub form_message : List ℕ → Result FormHeading MessageFault → Option KnownMessage
+form_message text (Ok first) = Some (record { keys = first.keys; groups = form_groups text first.keys })
+form_message text (Err fault) = None
+
+-- the order `text`, made from the answer of reading it; `None` if the order has a fault
+abbrev pub order_message : List ℕ → Result ℕ MessageFault → Option KnownMessage
+order_message text (Ok start) =
+    Some (record { keys = key_line_of text; groups = order_groups text (key_line_of text) start })
+order_message text (Err fault) = None
+
+-- the order or the form `text`; `None` if it has a fault
+abbrev pub message_of : List ℕ → Option KnownMessage
+message_of text = if is_form text then form_message text (form_answer text) else order_message text (order_start text)
+
+-- the line about the group of part `part`
+unfoldable pub group_line : ℕ → List ℕ → List ℕ
+group_line part group = titled (codes "part ") part ++ codes ": group " ++ letters_text group ++ codes "\n"
+
+-- the lines about groups; `part` is the part of the first group
+abbrev pub numbered_lines : ℕ → List (List ℕ) → List ℕ
+numbered_lines part groups = flat_map (λ numbered. group_line numbered.0 numbered.1) (enumerate_from part groups)
+
+-- the lines about the groups of a message; empty if the message has a fault
+abbrev pub group_lines : Option KnownMessage → List ℕ
+group_lines message = option_map_or (λ known. numbered_lines 1 known.groups) message []
