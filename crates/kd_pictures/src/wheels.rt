@@ -240,18 +240,39 @@ fn draw_slot<W: Sink>(
         (slot_shown language (slot_x slot) y machine.now other.now slot (machine_slot machine.now slot)) }
 {
     let x = 80 + 104 * u16::from(slot);
+    let at = Point { x, y };
     match machine.slot(slot) {
         None => draw(sink, ""),
-        Some(None) => draw_empty(sink, language, x, y, slot),
-        Some(Some(wheel)) => draw_seated(sink, language, x, y, machine, other, slot, wheel),
+        Some(None) => draw_empty(sink, language, at, slot),
+        Some(Some(wheel)) => {
+            let seated = SeatedWheel { slot, wheel };
+            draw_seated(sink, language, at, machine, other, seated)
+        }
     }
 }
 
-fn draw_empty<W: Sink>(sink: &mut W, language: Language, x: u16, y: u16, slot: u8)
-    requires x { x < 30000 }
-    requires y { y < 1000 }
-    ensures { Draws W.taken W.has_failed sink.old sink.new (empty_shown language x y slot) }
+/// A point of the picture.
+#[derive(Clone, Copy)]
+struct Point {
+    /// How far the point is from the picture's left edge.
+    x: u16,
+    /// How far the point is from the picture's upper edge.
+    y: u16,
+}
+
+/// A wheel, and the slot that it is in.
+#[derive(Clone, Copy)]
+struct SeatedWheel {
+    slot: u8,
+    wheel: Wheel,
+}
+
+fn draw_empty<W: Sink>(sink: &mut W, language: Language, at: Point, slot: u8)
+    requires x { at.x < 30000 }
+    requires y { at.y < 1000 }
+    ensures { Draws W.taken W.has_failed sink.old sink.new (empty_shown language at.x at.y slot) }
 {
+    let Point { x, y } = at;
     fill_in(
         sink,
         language,
@@ -272,33 +293,23 @@ fn draw_empty<W: Sink>(sink: &mut W, language: Language, x: u16, y: u16, slot: u
 fn draw_seated<W: Sink>(
     sink: &mut W,
     language: Language,
-    x: u16,
-    y: u16,
+    at: Point,
     machine: &Machine,
     other: &Machine,
-    slot: u8,
-    wheel: Wheel,
+    seated: SeatedWheel,
 )
-    requires x { x < 30000 }
-    requires y { y < 1000 }
+    requires x { at.x < 30000 }
+    requires y { at.y < 1000 }
     ensures { Draws W.taken W.has_failed sink.old sink.new
-        (seated_shown language x y machine.now other.now slot wheel) }
+        (seated_shown language at.x at.y machine.now other.now seated.slot seated.wheel) }
 {
-    draw_wheel(
-        sink,
-        language,
-        x,
-        y,
-        slot,
-        is_seated(other, slot, wheel),
-        wheel,
-    );
-    draw_ring(sink, language, x, y, machine.ring(wheel), other.ring(wheel));
+    let SeatedWheel { slot, wheel } = seated;
+    draw_wheel(sink, language, at, seated, is_seated(other, slot, wheel));
+    draw_ring(sink, language, at, machine.ring(wheel), other.ring(wheel));
     draw_window(
         sink,
         language,
-        x,
-        y,
+        at,
         machine.letter(wheel),
         other.letter(wheel),
     );
@@ -307,16 +318,17 @@ fn draw_seated<W: Sink>(
 fn draw_wheel<W: Sink>(
     sink: &mut W,
     language: Language,
-    x: u16,
-    y: u16,
-    slot: u8,
+    at: Point,
+    seated: SeatedWheel,
     is_old: bool,
-    wheel: Wheel,
 )
-    requires x { x < 30000 }
-    requires y { y < 1000 }
-    ensures { Draws W.taken W.has_failed sink.old sink.new (wheel_shown language x y slot is_old wheel) }
+    requires x { at.x < 30000 }
+    requires y { at.y < 1000 }
+    ensures { Draws W.taken W.has_failed sink.old sink.new
+        (wheel_shown language at.x at.y seated.slot is_old seated.wheel) }
 {
+    let Point { x, y } = at;
+    let SeatedWheel { slot, wheel } = seated;
     fill_in(
         sink,
         language,
@@ -337,15 +349,15 @@ fn draw_wheel<W: Sink>(
 fn draw_ring<W: Sink>(
     sink: &mut W,
     language: Language,
-    x: u16,
-    y: u16,
+    at: Point,
     ring: Option<Letter>,
     other: Option<Letter>,
 )
-    requires x { x < 30000 }
-    requires y { y < 1000 }
-    ensures { Draws W.taken W.has_failed sink.old sink.new (ring_shown x y ring other) }
+    requires x { at.x < 30000 }
+    requires y { at.y < 1000 }
+    ensures { Draws W.taken W.has_failed sink.old sink.new (ring_shown at.x at.y ring other) }
 {
+    let Point { x, y } = at;
     match ring {
         None => draw(sink, ""),
         Some(letter) if other == Some(letter) => fill(
@@ -378,15 +390,15 @@ fn draw_ring<W: Sink>(
 fn draw_window<W: Sink>(
     sink: &mut W,
     language: Language,
-    x: u16,
-    y: u16,
+    at: Point,
     shown: Option<Letter>,
     other: Option<Letter>,
 )
-    requires x { x < 30000 }
-    requires y { y < 1000 }
-    ensures { Draws W.taken W.has_failed sink.old sink.new (window_shown x y shown other) }
+    requires x { at.x < 30000 }
+    requires y { at.y < 1000 }
+    ensures { Draws W.taken W.has_failed sink.old sink.new (window_shown at.x at.y shown other) }
 {
+    let Point { x, y } = at;
     match shown {
         None => draw(sink, ""),
         Some(letter) => fill(
