@@ -9,6 +9,7 @@ use Rattle.kd_tables.specs.Ports.{Port}
 use Rattle.kd_host.specs.Files.{AskedName}
 use Rattle.kd_host.specs.Writing.{WritesText}
 use Rattle.kd_state.specs.declared.machine.parts.Parts.{Parts}
+use Rattle.kd_sheet.specs.Sheet.{day_of}
 use Rattle.kd_state.specs.SheetDay.{Day}
 use Rattle.kd_curator.specs.Ending.{stop_after}
 use Rattle.kd_curator.specs.Files.{text_at}
@@ -128,40 +129,40 @@ module _ (one other : Port) (before : one.had ≡ other.had) (after : Keeps one.
   look_kept files told looks =
       record { told = looks.told; looks = report_kept files looks.told looks.looks; answers = looks.answers }
 
-  send_kept : (results : Results) (l : Language) (month : List (Option Day)) (m : Parts) (number : ℕ) (order : List ℕ)
-      (told : Result (Unit {0}) Refused) → WritesSendPage results l month m number order one told
-      → WritesSendPage results l month m number order other told
-  send_kept results l month m number order told (sends.NoDay none is) = sends.NoDay none is
-  send_kept results l month m number order told (sends.NoPage s found fault why is) = sends.NoPage s found fault why is
-  send_kept results l month m number order told (sends.Page s found form page ready is shown writes) =
+  send_kept : (results : Results) (l : Language) (day : Option Day) (m : Parts) (order : List ℕ)
+      (told : Result (Unit {0}) Refused) → WritesSendPage results l day m order one told
+      → WritesSendPage results l day m order other told
+  send_kept results l day m order told (sends.NoDay none is) = sends.NoDay none is
+  send_kept results l day m order told (sends.NoPage s found fault why is) = sends.NoPage s found fault why is
+  send_kept results l day m order told (sends.Page s found form page ready is shown writes) =
       sends.Page s found form page ready is shown (text_kept _ _ told writes)
 
-  orders_kept : (results : Results) (l : Language) (month : List (Option Day)) (m : Parts) (number : ℕ)
+  orders_kept : (results : Results) (l : Language) (day : Option Day) (m : Parts)
       (orders : List OrderText) (told : Result (Unit {0}) Refused)
-      → WritesOrders results l month m number orders one told → WritesOrders results l month m number orders other told
-  orders_kept results l month m number orders told (several.NoDay none is) = several.NoDay none is
-  orders_kept results l month m number orders told (several.NoPages s found fault first is) =
+      → WritesOrders results l day m orders one told → WritesOrders results l day m orders other told
+  orders_kept results l day m orders told (several.NoDay none is) = several.NoDay none is
+  orders_kept results l day m orders told (several.NoPages s found fault first is) =
       several.NoPages s found fault first is
-  orders_kept results l month m number orders told (several.Pages s found good text booklet writes) =
+  orders_kept results l day m orders told (several.Pages s found good text booklet writes) =
       several.Pages s found good text booklet (text_kept _ _ told writes)
 
-  receive_kept : (results : Results) (l : Language) (month : List (Option Day)) (m : Parts) (number : ℕ) (form : List ℕ)
-      (told : Result (Unit {0}) Refused) → WritesReceivePage results l month m number form one told
-      → WritesReceivePage results l month m number form other told
-  receive_kept results l month m number form told (receives.NoDay none is) = receives.NoDay none is
-  receive_kept results l month m number form told (receives.OffKey s found fault why is) = receives.OffKey s found fault why is
-  receive_kept results l month m number form told (receives.NotRead s found ready fault why is) =
+  receive_kept : (results : Results) (l : Language) (day : Option Day) (m : Parts) (form : List ℕ)
+      (told : Result (Unit {0}) Refused) → WritesReceivePage results l day m form one told
+      → WritesReceivePage results l day m form other told
+  receive_kept results l day m form told (receives.NoDay none is) = receives.NoDay none is
+  receive_kept results l day m form told (receives.OffKey s found fault why is) = receives.OffKey s found fault why is
+  receive_kept results l day m form told (receives.NotRead s found ready fault why is) =
       receives.NotRead s found ready fault why is
-  receive_kept results l month m number form told (receives.Page s found parts read writes is) =
+  receive_kept results l day m form told (receives.Page s found parts read writes is) =
       receives.Page s found parts read (appends_kept _ writes) is
-  receive_kept results l month m number form told (receives.Cut s found parts read front is) =
+  receive_kept results l day m form told (receives.Cut s found parts read front is) =
       receives.Cut s found parts read (front.0, front.1, appends_kept _ front.2) is
 
-  message_kept : (direction : Direction) (results : Results) (l : Language) (month : List (Option Day)) (m : Parts) (number : ℕ)
-      (message : List ℕ) (told : Result (Unit {0}) Refused) → WritesMessage direction results l month m number message one told
-      → WritesMessage direction results l month m number message other told
-  message_kept directions.Send results l month m number order told writes = send_kept results l month m number order told writes
-  message_kept directions.Receive results l month m number form told writes = receive_kept results l month m number form told writes
+  message_kept : (direction : Direction) (results : Results) (l : Language) (day : Option Day) (m : Parts)
+      (message : List ℕ) (told : Result (Unit {0}) Refused) → WritesMessage direction results l day m message one told
+      → WritesMessage direction results l day m message other told
+  message_kept directions.Send results l day m order told writes = send_kept results l day m order told writes
+  message_kept directions.Receive results l day m form told writes = receive_kept results l day m form told writes
 
   typing_page_kept : (l : Language) (m : Parts) (told : Result (Unit {0}) Refused) → WritesTypingPage l m one told
       → WritesTypingPage l m other told
@@ -175,10 +176,10 @@ module _ (one other : Port) (before : one.had ≡ other.had) (after : Keeps one.
       task_kept l task sheet (text_at texts 0) (text_at texts 1) told does
   command_kept l (commands.Message machine sheet message task) texts told does =
       on_kept (machine_and_month (text_at texts 0) (text_at texts 1)) _ _ told
-      (λ both. message_kept task.direction task.results (unwrap_or task.language l) both.1 both.0 task.day (text_at texts 2) told) does
+      (λ both. message_kept task.direction task.results (unwrap_or task.language l) (day_of both.1 task.day) both.0 (text_at texts 2) told) does
   command_kept l (commands.Orders machine sheet orders task) texts told does =
       on_kept (machine_and_month (text_at texts 0) (text_at texts 1)) _ _ told
-      (λ both. orders_kept task.results (unwrap_or task.language l) both.1 both.0 task.day
+      (λ both. orders_kept task.results (unwrap_or task.language l) (day_of both.1 task.day) both.0
       (order_texts orders.items (drop 2 texts)) told) does
   command_kept l (commands.TypingPage machine chosen) texts told does =
       on_kept (machine_in (text_at texts 0)) _ _ told (λ m. typing_page_kept (unwrap_or chosen l) m told) does

@@ -7,7 +7,6 @@ use Rattle.kd_spreadsheet.specs.Notes.{Tells}
 use Rattle.kd_pictures.specs.Drawing.{Draws}
 use Rattle.kd_state.specs.declared.machine.parts.Parts.{Parts}
 use Rattle.kd_state.specs.SheetDay.{Day}
-use Rattle.kd_sheet.specs.Sheet.{day_of}
 use Rattle.kd_form.specs.OnTheKey.{IsReadyOnKey}
 use Rattle.kd_pictures.specs.declared.language.Language.{Language}
 use Rattle.kd_pictures.specs.declared.results.Results.{Results}
@@ -30,23 +29,23 @@ receive_answer (Ok true) = Ok tt
 receive_answer (Ok false) = Err (refused_whole NotWhole)
 receive_answer (Err fault) = Err (refused_by refused_form fault)
 
-pub page_told : (results : Results) (l : Language) (month : List (Option Day)) (m : Parts) (number : ℕ) (form : List ℕ) (sink : Port)
-    (s : Day) → day_of month number ≡ Some s → IsReadyOnKey m s
+pub page_told : (results : Results) (l : Language) (day : Option Day) (m : Parts) (form : List ℕ) (sink : Port)
+    (s : Day) → day ≡ Some s → IsReadyOnKey m s
     → (told : Told) → IsReceivePageAnswer results l s form sink told
-    → WritesReceivePage results l month m number form sink (receive_answer told)
-page_told results l month m number form sink s found ready (Ok true)
+    → WritesReceivePage results l day m form sink (receive_answer told)
+page_told results l day m form sink s found ready (Ok true)
     (ReceivedPageWritten parts read few writes whole failed) =
     Page s found parts (record { ready = ready; read = read; few = few }) writes.whole
     (inl (whole.0 refl, refl))
-page_told results l month m number form sink s found ready (Ok false)
+page_told results l day m form sink s found ready (Ok false)
     (ReceivedPageWritten parts read few writes whole failed) =
     Page s found parts (record { ready = ready; read = read; few = few }) writes.whole
     (inr ((λ all. false≢true (whole.1 all)), refl))
-page_told results l month m number form sink s found ready (Err fault)
+page_told results l day m form sink s found ready (Err fault)
     (ReceivedPageWritten parts read few writes is failed) =
     Cut s found parts (record { ready = ready; read = read; few = few }) writes.front
     (ap (λ f. receive_answer (Err f)) is)
-page_told results l month m number form sink s found ready told (FormNotRead fault why is untouched) =
+page_told results l day m form sink s found ready told (FormNotRead fault why is untouched) =
     NotRead s found ready fault why (ap receive_answer is)
 
 not_written : (fault : DamagedFormFault) → has_written (Err (refused_form fault)) ≡ false
@@ -54,14 +53,14 @@ not_written NoMemory = refl
 not_written TooManyParts = refl
 
 -- what the page's call tells of the form
-pub notes_told : (l : Language) (month : List (Option Day)) (m : Parts) (number : ℕ) (form : List ℕ) (s : Day)
-    (Holds : List ℕ → Type 0) → day_of month number ≡ Some s → IsReadyOnKey m s
+pub notes_told : (l : Language) (day : Option Day) (m : Parts) (form : List ℕ) (s : Day)
+    (Holds : List ℕ → Type 0) → day ≡ Some s → IsReadyOnKey m s
     → (told : Told) → IsFormNoted l s form Holds told
-    → TellsOfForm l month m number form Holds (receive_answer told)
-notes_told l month m number form s Holds found ready told (Noted parts read tells) =
+    → TellsOfForm l day m form Holds (receive_answer told)
+notes_told l day m form s Holds found ready told (Noted parts read tells) =
     OfParts s found ready parts read tells
-notes_told l month m number form s Holds found ready told (NotNoted fault is) =
-    subst (λ a. TellsOfForm l month m number form Holds (receive_answer a)) (sym is)
+notes_told l day m form s Holds found ready told (NotNoted fault is) =
+    subst (λ a. TellsOfForm l day m form Holds (receive_answer a)) (sym is)
     (OfNothing refl (not_written fault))
 
 -- -------- what standard error has taken

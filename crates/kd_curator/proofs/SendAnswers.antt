@@ -6,7 +6,6 @@ use Rattle.kd_tables.specs.declared.ports.write_fault.WriteFault.{WriteFault}
 use Rattle.kd_tables.specs.declared.ports.write_fault.WriteFault.TheVariants.{Device, Unwritten}
 use Rattle.kd_state.specs.declared.machine.parts.Parts.{Parts}
 use Rattle.kd_state.specs.SheetDay.{Day}
-use Rattle.kd_sheet.specs.Sheet.{day_of}
 use Rattle.kd_pictures.specs.declared.language.Language.{Language}
 use Rattle.kd_pictures.specs.declared.results.Results.{Results}
 use Rattle.kd_form.specs.declared.fault.FormFault.{FormFault}
@@ -22,34 +21,34 @@ abbrev pub send_answer : Result (Unit {0}) (WriteFault FormFault) → Result (Un
 send_answer (Ok done) = Ok done
 send_answer (Err fault) = Err (refused_by refused_message fault)
 
-pub page_told : (results : Results) (l : Language) (month : List (Option Day)) (m : Parts) (number : ℕ) (order : List ℕ) (sink : Port)
-    (s : Day) → day_of month number ≡ Some s
+pub page_told : (results : Results) (l : Language) (day : Option Day) (m : Parts) (order : List ℕ) (sink : Port)
+    (s : Day) → day ≡ Some s
     → (told : Result (Unit {0}) (WriteFault FormFault)) → IsSendPageAnswer results l m s order sink told
-    → WritesSendPage results l month m number order sink (send_answer told)
-page_told results l month m number order sink s found (Ok done) (PageWritten form page ready is shown writes device failed) =
+    → WritesSendPage results l day m order sink (send_answer told)
+page_told results l day m order sink s found (Ok done) (PageWritten form page ready is shown writes device failed) =
     Page s found form page ready is shown
     (record { written = record { whole = writes.whole; front = tt }; device = tt })
-page_told results l month m number order sink s found (Err fault) (PageWritten form page ready is shown writes device failed) =
+page_told results l day m order sink s found (Err fault) (PageWritten form page ready is shown writes device failed) =
     Page s found form page ready is shown
     (record { written = record { whole = tt; front = writes.front }; device = ap send_answer device })
-page_told results l month m number order sink s found told (PageRefused fault why is untouched) =
+page_told results l day m order sink s found told (PageRefused fault why is untouched) =
     NoPage s found fault why (ap send_answer is)
 
 abbrev pub orders_answer : Result (Unit {0}) (WriteFault OrderFault) → Result (Unit {0}) Refused
 orders_answer (Ok done) = Ok done
 orders_answer (Err fault) = Err (refused_by refused_among fault)
 
-pub pages_told : (results : Results) (l : Language) (month : List (Option Day)) (m : Parts) (number : ℕ)
-    (orders : List OrderText) (sink : Port) (s : Day) → day_of month number ≡ Some s
+pub pages_told : (results : Results) (l : Language) (day : Option Day) (m : Parts)
+    (orders : List OrderText) (sink : Port) (s : Day) → day ≡ Some s
     → (told : Result (Unit {0}) (WriteFault OrderFault)) → IsBookletAnswer results l m s orders sink told
-    → WritesOrders results l month m number orders sink (orders_answer told)
-pages_told results l month m number orders sink s found (Ok done) (BookletWritten good text booklet writes device failed) =
+    → WritesOrders results l day m orders sink (orders_answer told)
+pages_told results l day m orders sink s found (Ok done) (BookletWritten good text booklet writes device failed) =
     Pages s found good text booklet
     (record { written = record { whole = writes.whole; front = tt }; device = tt })
-pages_told results l month m number orders sink s found (Err fault) (BookletWritten good text booklet writes device failed) =
+pages_told results l day m orders sink s found (Err fault) (BookletWritten good text booklet writes device failed) =
     Pages s found good text booklet
     (record { written = record { whole = tt; front = writes.front }; device = ap orders_answer device })
-pages_told results l month m number orders sink s found told (OrderRefused fault why is untouched) =
+pages_told results l day m orders sink s found told (OrderRefused fault why is untouched) =
     NoPages s found fault why (ap orders_answer is)
 
 -- a refusal that isn't for a failed device

@@ -76,8 +76,10 @@ machine_and_month machine sheet = do
 abbrev pub IsAnswerOn : {A : Type 0} → Result A Refused → (A → Type 0) → Result (Unit {0}) Refused → Type 0
 IsAnswerOn found Holds answer = MatchResult found Holds (λ refused. answer ≡ Err refused) ⊎ LacksMemory answer
 
--- One of three cases holds: - The two files have a machine and a month, and `Holds` is true for this machine and this
--- month. - The answer is the first fault of the two files. - The answer is that memory ran out.
+-- One of three cases holds:
+-- - The two files have a machine and a month, and `Holds` is true for this machine and this month.
+-- - The answer is the first fault of the two files.
+-- - The answer is that memory ran out.
 abbrev pub IsAnswerOnSheet : List ℕ → List ℕ → (Parts → List (Option Day) → Type 0) → Result (Unit {0}) Refused
     → Type 0
 IsAnswerOnSheet machine sheet Holds answer =

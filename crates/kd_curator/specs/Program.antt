@@ -33,6 +33,7 @@ use Rattle.kd_curator.specs.RunPage.{WritesPages, wanted_days}
 use Rattle.kd_curator.specs.RunReceive.{WritesReceivePage}
 use Rattle.kd_curator.specs.RunSend.{WritesSendPage}
 use Rattle.kd_curator.specs.RunType.{WritesTypingPage}
+use Rattle.kd_sheet.specs.Sheet.{day_of}
 use Rattle.kd_state.specs.SheetDay.{Day}
 use Rattle.kd_state.specs.declared.machine.parts.Parts.{Parts}
 use Rattle.kd_tables.specs.declared.direction.Direction.{Direction}
@@ -56,20 +57,22 @@ DoesTask l (tasks.Page days chosen) name machine sheet sink answer = IsAnswerOnS
 DoesTask l (tasks.List day) name machine sheet sink answer = IsAnswerOnSheet machine sheet
     (λ m month. WritesList month m day sink answer) answer
 
--- The output for sending or receiving a message is written, and `answer` is the command's answer.
-abbrev pub WritesMessage : Direction → Results → Language → List (Option Day) → Parts → ℕ → List ℕ → Port
+-- The output for sending or receiving a message is written, and `answer` is the command's answer. The message is for
+-- the day `day`, which is `None` if the sheet doesn't have the day.
+abbrev pub WritesMessage : Direction → Results → Language → Option Day → Parts → List ℕ → Port
     → Result (Unit {0}) Refused → Type 0
-WritesMessage Send results l month m number order sink answer =
-    WritesSendPage results l month m number order sink answer
-WritesMessage Receive results l month m number form sink answer =
-    WritesReceivePage results l month m number form sink answer
+WritesMessage Send results l day m order sink answer =
+    WritesSendPage results l day m order sink answer
+WritesMessage Receive results l day m form sink answer =
+    WritesReceivePage results l day m form sink answer
 
 -- The task writes its output to `sink`, and its answer is `answer`. `machine`, `sheet` and `message` are the bytes of
 -- the machine file, the key sheet and the message. Words are in language `l`, unless the task asks for another
 -- language.
 abbrev pub WorksMessage : Language → MessageTask → List ℕ → List ℕ → List ℕ → Port → Result (Unit {0}) Refused → Type 0
 WorksMessage l task machine sheet message sink answer = IsAnswerOnSheet machine sheet
-    (λ m month. WritesMessage task.direction task.results (unwrap_or task.language l) month m task.day message sink answer)
+    (λ m month. WritesMessage task.direction task.results (unwrap_or task.language l) (day_of month task.day) m message sink
+    answer)
     answer
 
 -- The command writes its output to `sink`, and its answer is `answer`. `texts` are the bytes of the command's files, in

@@ -15,20 +15,20 @@ use Rattle.kd_curator.specs.Refusals.{refused_among, refused_device, refused_who
 use Rattle.kd_curator.specs.declared.fault.PageFault.TheVariants.{NoSuchDay}
 use Rattle.kd_curator.specs.declared.fault.Refused.{Refused}
 
--- The cases of `run_orders`, for the day `number`:
--- - `NoDay`: the sheet doesn't have the day.
+-- The cases of `run_orders`, for the sheet's day `day`:
+-- - `NoDay`: the sheet doesn't have the day that the command names.
 -- - `NoPages`: an order is refused on this day, and the first such order is named.
 -- - `Pages`: all orders can be sent on this day. The file with their pages was written in language `l`. If the sink
 --   failed, only a prefix of the file was written.
-pub data WritesOrders (results : Results) (l : Language) (month : List (Option Day)) (m : Parts) (number : ℕ)
+pub data WritesOrders (results : Results) (l : Language) (day : Option Day) (m : Parts)
     (orders : List OrderText) (sink : Port) (answer : Result (Unit {0}) Refused) : Type 0 where
-  NoDay : day_of month number ≡ None → answer ≡ Err (refused_whole NoSuchDay)
-      → WritesOrders results l month m number orders sink answer
-  NoPages : (s : Day) → day_of month number ≡ Some s → (fault : OrderFault) → IsFirstRefusal m s 0 orders fault
-      → answer ≡ Err (refused_among fault) → WritesOrders results l month m number orders sink answer
-  Pages : (s : Day) → day_of month number ≡ Some s → All (λ (order : OrderText). CanBeSent m s order.bytes) orders
+  NoDay : day ≡ None → answer ≡ Err (refused_whole NoSuchDay)
+      → WritesOrders results l day m orders sink answer
+  NoPages : (s : Day) → day ≡ Some s → (fault : OrderFault) → IsFirstRefusal m s 0 orders fault
+      → answer ≡ Err (refused_among fault) → WritesOrders results l day m orders sink answer
+  Pages : (s : Day) → day ≡ Some s → All (λ (order : OrderText). CanBeSent m s order.bytes) orders
       → (text : List ℕ) → IsSendBooklet results l s orders text
-      → WritesText refused_device text sink answer → WritesOrders results l month m number orders sink answer
+      → WritesText refused_device text sink answer → WritesOrders results l day m orders sink answer
 
 -- the orders, from the names and the bytes of their files
 abbrev pub order_texts : List (List ℕ) → List (List ℕ) → List OrderText
@@ -41,4 +41,4 @@ order_texts (name ∷ names) [] = []
 abbrev pub SendsOrders : Language → MessageTask → List ℕ → List ℕ → List OrderText → Port → Result (Unit {0}) Refused
     → Type 0
 SendsOrders l task machine sheet orders sink answer = IsAnswerOnSheet machine sheet
-    (λ m month. WritesOrders task.results (unwrap_or task.language l) month m task.day orders sink answer) answer
+    (λ m month. WritesOrders task.results (unwrap_or task.language l) (day_of month task.day) m orders sink answer) answer

@@ -5,7 +5,6 @@ use Rattle.kd_tables.specs.Ports.{Port}
 use Rattle.kd_tables.specs.Writing.{TakesPrefix}
 use Rattle.kd_state.specs.declared.machine.parts.Parts.{Parts}
 use Rattle.kd_state.specs.SheetDay.{Day}
-use Rattle.kd_sheet.specs.Sheet.{day_of}
 use Rattle.kd_form.specs.OnTheKey.{IsKeyFault, IsReadyOnKey}
 use Rattle.kd_form.specs.declared.fault.FormFault.{FormFault}
 use Rattle.kd_lost.specs.DamagedForm.{AreFormParts, IsFormFault, damaged_parts_of}
@@ -31,33 +30,33 @@ abbrev pub IsReceivedAs : List DamagedPart → Result (Unit {0}) Refused → Typ
 IsReceivedAs parts answer =
     (IsWhole parts × (answer ≡ Ok tt)) ⊎ (¬ (IsWhole parts) × (answer ≡ Err (refused_whole NotWhole)))
 
--- The cases of `run_receive`, for the day `number`:
--- - `NoDay`: the sheet doesn't have the day.
+-- The cases of `run_receive`, for the sheet's day `day`:
+-- - `NoDay`: the sheet doesn't have the day that the command names.
 -- - `OffKey`: the machine isn't ready, or isn't on the day's key.
 -- - `NotRead`: the form has too many parts, or memory ran out.
 -- - `Page`: the page of the form's parts was written.
 -- - `Cut`: only a prefix of the page was written, since the sink failed.
-pub data WritesReceivePage (results : Results) (l : Language) (month : List (Option Day)) (m : Parts) (number : ℕ)
+pub data WritesReceivePage (results : Results) (l : Language) (day : Option Day) (m : Parts)
     (form : List ℕ) (sink : Port) (answer : Result (Unit {0}) Refused) : Type 0 where
-  NoDay : day_of month number ≡ None → answer ≡ Err (refused_whole NoSuchDay)
-      → WritesReceivePage results l month m number form sink answer
-  OffKey : (s : Day) → day_of month number ≡ Some s → (fault : FormFault) → IsKeyFault m s fault
-      → answer ≡ Err (refused_message fault) → WritesReceivePage results l month m number form sink answer
-  NotRead : (s : Day) → day_of month number ≡ Some s → IsReadyOnKey m s → (fault : DamagedFormFault)
+  NoDay : day ≡ None → answer ≡ Err (refused_whole NoSuchDay)
+      → WritesReceivePage results l day m form sink answer
+  OffKey : (s : Day) → day ≡ Some s → (fault : FormFault) → IsKeyFault m s fault
+      → answer ≡ Err (refused_message fault) → WritesReceivePage results l day m form sink answer
+  NotRead : (s : Day) → day ≡ Some s → IsReadyOnKey m s → (fault : DamagedFormFault)
       → IsFormFault (damaged_parts_of form) fault → answer ≡ Err (refused_form fault)
-      → WritesReceivePage results l month m number form sink answer
-  Page : (s : Day) → day_of month number ≡ Some s → (parts : List DamagedPart)
+      → WritesReceivePage results l day m form sink answer
+  Page : (s : Day) → day ≡ Some s → (parts : List DamagedPart)
       → IsFormRead m s form parts → Appends sink.had sink.has (receive_text results l s parts)
-      → IsReceivedAs parts answer → WritesReceivePage results l month m number form sink answer
-  Cut : (s : Day) → day_of month number ≡ Some s → (parts : List DamagedPart)
+      → IsReceivedAs parts answer → WritesReceivePage results l day m form sink answer
+  Cut : (s : Day) → day ≡ Some s → (parts : List DamagedPart)
       → IsFormRead m s form parts → TakesPrefix sink.had sink.has (receive_text results l s parts)
-      → answer ≡ Err refused_device → WritesReceivePage results l month m number form sink answer
+      → answer ≡ Err refused_device → WritesReceivePage results l day m form sink answer
 
 -- The notes on standard error satisfy `Told`. The notes say what is wrong with the form's parts, and what the sender
 -- should repeat. If no page is written, there may be no notes.
-pub data TellsOfForm (l : Language) (month : List (Option Day)) (m : Parts) (number : ℕ) (form : List ℕ)
+pub data TellsOfForm (l : Language) (day : Option Day) (m : Parts) (form : List ℕ)
     (Told : List ℕ → Type 0) (answer : Result (Unit {0}) Refused) : Type 0 where
-  OfParts : (s : Day) → day_of month number ≡ Some s → IsReadyOnKey m s → (parts : List DamagedPart)
+  OfParts : (s : Day) → day ≡ Some s → IsReadyOnKey m s → (parts : List DamagedPart)
       → AreFormParts s form parts → Told (receive_notes l s parts)
-      → TellsOfForm l month m number form Told answer
-  OfNothing : IsErr answer → has_written answer ≡ false → TellsOfForm l month m number form Told answer
+      → TellsOfForm l day m form Told answer
+  OfNothing : IsErr answer → has_written answer ≡ false → TellsOfForm l day m form Told answer

@@ -3,7 +3,6 @@ use Rattle.std.specs.Prelude.{◌≡◌, ℕ, List, None, Option, Some, Result, 
 use Rattle.kd_tables.specs.Ports.{Port}
 use Rattle.kd_state.specs.declared.machine.parts.Parts.{Parts}
 use Rattle.kd_state.specs.SheetDay.{Day}
-use Rattle.kd_sheet.specs.Sheet.{day_of}
 use Rattle.kd_host.specs.Writing.{WritesText}
 use Rattle.kd_form.specs.OnTheKey.{IsReadyOnKey}
 use Rattle.kd_form.specs.Sending.{IsFormOf}
@@ -15,16 +14,16 @@ use Rattle.kd_curator.specs.Refusals.{refused_device, refused_message, refused_w
 use Rattle.kd_curator.specs.declared.fault.PageFault.TheVariants.{NoSuchDay}
 use Rattle.kd_curator.specs.declared.fault.Refused.{Refused}
 
--- The cases of `run_send`, for the day `number`:
--- - `NoDay`: the sheet doesn't have the day.
+-- The cases of `run_send`, for the sheet's day `day`:
+-- - `NoDay`: the sheet doesn't have the day that the command names.
 -- - `NoPage`: the order is refused on this day, for the fault that `send` returns.
 -- - `Page`: the order's page was written in language `l`. If the sink failed, only a prefix of the page was written.
-pub data WritesSendPage (results : Results) (l : Language) (month : List (Option Day)) (m : Parts) (number : ℕ) (order : List ℕ)
+pub data WritesSendPage (results : Results) (l : Language) (day : Option Day) (m : Parts) (order : List ℕ)
     (sink : Port) (answer : Result (Unit {0}) Refused) : Type 0 where
-  NoDay : day_of month number ≡ None → answer ≡ Err (refused_whole NoSuchDay)
-      → WritesSendPage results l month m number order sink answer
-  NoPage : (s : Day) → day_of month number ≡ Some s → (fault : FormFault) → IsSendRefusal m s order fault
-      → answer ≡ Err (refused_message fault) → WritesSendPage results l month m number order sink answer
-  Page : (s : Day) → day_of month number ≡ Some s → (form page : List ℕ)
+  NoDay : day ≡ None → answer ≡ Err (refused_whole NoSuchDay)
+      → WritesSendPage results l day m order sink answer
+  NoPage : (s : Day) → day ≡ Some s → (fault : FormFault) → IsSendRefusal m s order fault
+      → answer ≡ Err (refused_message fault) → WritesSendPage results l day m order sink answer
+  Page : (s : Day) → day ≡ Some s → (form page : List ℕ)
       → IsReadyOnKey m s → IsFormOf s order form → IsSendPage results l s order form page
-      → WritesText refused_device page sink answer → WritesSendPage results l month m number order sink answer
+      → WritesText refused_device page sink answer → WritesSendPage results l day m order sink answer

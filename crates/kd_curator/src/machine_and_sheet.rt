@@ -17,6 +17,17 @@ use kd_state::Machine;
 use std::alloc::Global;
 use toml::Table;
 
+/// The files that a command for one day reads, and the day's number.
+#[derive(Clone, Copy)]
+pub struct DayFiles<'f> {
+    /// The bytes of the machine file.
+    pub machine: &'f [u8],
+    /// The bytes of the key sheet.
+    pub sheet: &'f [u8],
+    /// The number of a day of the key sheet.
+    pub number: u8,
+}
+
 /// The sort of file that a command needs: a machine file, or a key sheet.
 #[derive(Clone, Copy)]
 pub(crate) enum Needed {

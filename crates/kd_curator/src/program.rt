@@ -9,7 +9,7 @@ ghost use Rattle.kd_pictures.specs.declared.language.Language.{Language};
 ghost use Rattle.kd_new_file.specs.NewFiles.{AddsFile, FilesByName};
 ghost use Rattle.kd_curator.specs.OutputFile.{EndsFile, EndsWithFile, GoesToSink, IsMeantBySome, RunsTo};
 ghost use Rattle.kd_curator.specs.Ending.{blame_of};
-ghost use Rattle.kd_curator.specs.Files.{names_of};
+ghost use Rattle.kd_curator.specs.Files.{names_of, text_at};
 ghost use Rattle.kd_curator.specs.Program.{CarriesOut, DoesCommand, DoesTask, IsRun, port_with_untaken};
 ghost use Rattle.kd_curator.specs.Program.{HasMonth, HasNotes, HasTold};
 ghost use Rattle.kd_curator.specs.Program.{IsAnswerAfterFlush, is_stopped_before_writing, is_stopped_by_device};
@@ -22,6 +22,7 @@ use crate::buffered_sink::BufferedSink;
 use crate::fault::{PageFault, Refused};
 use crate::files::{Contents, FileBytes, name_at, names_of, read_contents, text_at};
 use crate::looks::look_at_files;
+use crate::machine_and_sheet::DayFiles;
 use crate::output_file::end_unwritten;
 use crate::run_list::run_list;
 use crate::run_orders::send_orders;
@@ -36,6 +37,8 @@ use kd_curator_command::{
     Command, CommandLine, MessageTask, NamedCommand, NoCommand, Task, parse_words,
 };
 use kd_host::{FileFault, Files};
+use kd_look::NamedFile;
+use kd_message::PageOptions;
 use kd_new_file::{NewFileFault, NewFiles, begin, publish};
 use kd_page::Language;
 use kd_tables::{Direction, Failed, Sink, put_all};
@@ -72,14 +75,14 @@ pub fn run_curator<'n, S: AsStr, F: Files<'n>, N: NewFiles, W: Sink + Drop, E: S
     match parse_words(alloc, words) {
         Ok(CommandLine { command, output }) => match output {
             Some(name) => {
-                let status = run_to_file(alloc, language, command, name, files, new_files, errors);
+                let request = Request { language, command };
+                let status = run_to_file(alloc, request, name, files, new_files, errors);
                 (status, sink)
             }
             None => {
                 let names = names_of(&command);
-                let (answer, sink) = run_gathering(
-                    alloc, language, command, files, new_files, sink, errors,
-                );
+                let request = Request { language, command };
+                let (answer, sink) = run_gathering(alloc, request, files, new_files, sink, errors);
                 (end_program(&answer, names.as_slice(), errors), sink)
             }
         },
@@ -91,29 +94,36 @@ pub fn run_curator<'n, S: AsStr, F: Files<'n>, N: NewFiles, W: Sink + Drop, E: S
     }
 }
 
-/// Carries out `command`, with its output in the new file `name`.
-fn run_to_file<'n, F: Files<'n>, N: NewFiles, E: Sink>(
-    alloc: Global,
+/// A command that the command line asks for.
+#[derive(Drop)]
+struct Request<'n> {
+    /// The language of pages and tables, unless the command has its own.
     language: Language,
     command: NamedCommand<'n>,
+}
+
+/// Carries out `request`, with its output in the new file `name`.
+fn run_to_file<'n, F: Files<'n>, N: NewFiles, E: Sink>(
+    alloc: Global,
+    request: Request<'n>,
     name: &str,
     files: &mut F,
     new_files: &mut N,
     errors: &mut E,
 ) -> u8
-    requires meant { IsMeantBySome (unborrowed_command command) }
+    requires meant { IsMeantBySome (unborrowed_command request.command) }
     requires asked { F.asked files.old ≡ [] }
-    ensures { (words : List (List ℕ)) → IsCommandLineOf words (unborrowed_command command.entry)
-        → EndsWithFile language words (F.known files.old) (F.asked files.new)
-        (N.held new_files.old) (N.held new_files.new) name.now (names_of (unborrowed_command command.entry))
+    ensures { (words : List (List ℕ)) → IsCommandLineOf words (unborrowed_command request.entry.command)
+        → EndsWithFile request.entry.language words (F.known files.old) (F.asked files.new)
+        (N.held new_files.old) (N.held new_files.new) name.now (names_of (unborrowed_command request.entry.command))
         (port E.taken E.has_failed errors.old errors.new) result }
 {
-    let names = names_of(&command);
+    let names = names_of(&request.command);
     let (other, file) = match begin(alloc, new_files, name) {
         Ok(begun) => begun,
         Err(fault) => return end_unwritten(name, fault, errors),
     };
-    let (answer, file) = run_gathering(alloc, language, command, files, new_files, file, errors);
+    let (answer, file) = run_gathering(alloc, request, files, new_files, file, errors);
     match end_file(&answer, new_files, file, other.as_str(), name) {
         Ok(()) => end_program(&answer, names.as_slice(), errors),
         Err(fault) => end_unwritten(name, fault, errors),
@@ -147,57 +157,48 @@ fn end_file<N: NewFiles>(
     }
 }
 
-/// Carries out `command`. The command's output is gathered before it is passed on to `sink`.
+/// Carries out `request`. The command's output is gathered before it is passed on to `sink`.
 fn run_gathering<'n, F: Files<'n>, N: NewFiles, W: Sink + Drop, E: Sink>(
     alloc: Global,
-    language: Language,
-    command: NamedCommand<'n>,
+    request: Request<'n>,
     files: &mut F,
     folders: &N,
     sink: W,
     errors: &mut E,
 ) -> (Result<(), Stop>, W)
-    requires meant { IsMeantBySome (unborrowed_command command) }
+    requires meant { IsMeantBySome (unborrowed_command request.command) }
     requires asked { F.asked files.old ≡ [] }
-    ensures { (words : List (List ℕ)) → IsCommandLineOf words (unborrowed_command command.entry)
-        → (left : List ℕ) × IsRun language words (F.known files.old) (F.asked files.new)
+    ensures { (words : List (List ℕ)) → IsCommandLineOf words (unborrowed_command request.entry.command)
+        → (left : List ℕ) × IsRun request.entry.language words (F.known files.old) (F.asked files.new)
         (port_with_untaken W.taken W.has_failed sink result.1 left) (result.1 ≡ sink)
         (port E.taken E.has_failed errors.old errors.new) left result.0 }
 {
     let mut gathering = BufferedSink::new(sink);
-    let done = run_command(
-        alloc,
-        language,
-        command,
-        files,
-        folders,
-        &mut gathering,
-        errors,
-    );
+    let done = run_command(alloc, request, files, folders, &mut gathering, errors);
     let answer = pass_rest_on(done, &mut gathering);
     (answer, gathering.into_sink())
 }
 
-/// Reads the files of `command`, and carries out the command.
+/// Reads the command's files, and carries out the command.
 fn run_command<'n, F: Files<'n>, N: NewFiles, W: Sink, E: Sink>(
     alloc: Global,
-    language: Language,
-    command: NamedCommand<'n>,
+    request: Request<'n>,
     files: &mut F,
     folders: &N,
     sink: &mut W,
     errors: &mut E,
 ) -> Result<(), Stop>
-    requires meant { IsMeantBySome (unborrowed_command command) }
+    requires meant { IsMeantBySome (unborrowed_command request.command) }
     requires asked { F.asked files.old ≡ [] }
-    ensures carried { (words : List (List ℕ)) → IsCommandLineOf words (unborrowed_command command.entry)
-        → CarriesOut language words (F.known files.old) (F.asked files.new)
+    ensures carried { (words : List (List ℕ)) → IsCommandLineOf words (unborrowed_command request.entry.command)
+        → CarriesOut request.entry.language words (F.known files.old) (F.asked files.new)
         (port W.taken W.has_failed sink.old sink.new) [] result }
     ensures untouched { IsTrue (is_stopped_before_writing result) → sink.new ≡ sink.old }
     ensures failed { W.has_failed sink.new ≡ (W.has_failed sink.old || is_stopped_by_device result) }
-    ensures noted { (words : List (List ℕ)) → IsCommandLineOf words (unborrowed_command command.entry)
+    ensures noted { (words : List (List ℕ)) → IsCommandLineOf words (unborrowed_command request.entry.command)
         → HasNotes words (F.asked files.new) (port E.taken E.has_failed errors.old errors.new) }
 {
+    let Request { language, command } = request;
     let names = names_of(&command);
     let mut contents = Contents::new();
     if let Err(fault) = read_contents(alloc, names.as_slice(), files, &mut contents) {
@@ -266,20 +267,11 @@ fn carry_out<W: Sink, E: Sink>(
         (port E.taken E.has_failed errors.old errors.new) }
 {
     match command {
-        Command::OnMachine {
-            task,
-            sheet: name,
-            ..
-        } => {
-            let machine = text_at(contents, 0);
-            let sheet = text_at(contents, 1);
-            do_task(alloc, language, task, name, machine, sheet, sink)
+        Command::OnMachine { task, sheet, .. } => {
+            do_task(alloc, language, task, sheet, contents, sink)
         }
         Command::Message { task, .. } => {
-            let machine = text_at(contents, 0);
-            let sheet = text_at(contents, 1);
-            let message = text_at(contents, 2);
-            work_message(alloc, language, task, machine, sheet, message, sink, errors)
+            work_message(alloc, language, task, contents, sink, errors)
         }
         Command::Orders { orders, task, .. } => {
             send_orders(alloc, language, task, orders.as_slice(), contents, sink)
@@ -287,23 +279,18 @@ fn carry_out<W: Sink, E: Sink>(
         Command::TypingPage {
             language: chosen,
             ..
-        } => run_type(
-            alloc,
-            chosen.unwrap_or(language),
-            text_at(contents, 0),
-            sink,
-        ),
+        } => {
+            let language = chosen.unwrap_or(language);
+            run_type(alloc, language, text_at(contents, 0), sink)
+        }
         Command::Table {
             form,
             language: chosen,
             ..
-        } => run_table(
-            alloc,
-            chosen.unwrap_or(language),
-            form,
-            text_at(contents, 0),
-            sink,
-        ),
+        } => {
+            let language = chosen.unwrap_or(language);
+            run_table(alloc, language, form, text_at(contents, 0), sink)
+        }
         Command::Sheet { options, .. } => {
             make_sheet(alloc, text_at(contents, 0), &options, sink, errors)
         }
@@ -312,60 +299,66 @@ fn carry_out<W: Sink, E: Sink>(
     }
 }
 
-/// Carries out `task` with the machine in the file `machine` and the key sheet `sheet`. `name` is the name of the key
-/// sheet's file.
+/// Carries out `task`. `contents` are the bytes of the machine file, and of the key sheet, whose file has the name
+/// `name`.
 fn do_task<W: Sink>(
     alloc: Global,
     language: Language,
     task: Task,
     name: &str,
-    machine: &[u8],
-    sheet: &[u8],
+    contents: &[FileBytes],
     sink: &mut W,
 ) -> Result<(), Refused>
-    ensures does { DoesTask language task name.now machine.now sheet.now
+    requires { length contents.now ≡ 2 }
+    ensures does { DoesTask language task name.now (text_at contents.now 0) (text_at contents.now 1)
         (port W.taken W.has_failed sink.old sink.new) result }
     ensures untouched { IsErr result → is_device result ≡ false → sink.new ≡ sink.old }
     ensures failed { W.has_failed sink.new ≡ (W.has_failed sink.old || is_device result) }
 {
+    let machine = text_at(contents, 0);
+    let bytes = text_at(contents, 1);
     match task {
         Task::Page {
             days,
             language: chosen,
         } => {
             let language = chosen.unwrap_or(language);
-            run_page(alloc, language, name, machine, sheet, days, sink)
+            let sheet = NamedFile { name, bytes };
+            run_page(alloc, language, machine, sheet, days, sink)
         }
-        Task::List(day) => run_list(alloc, machine, sheet, day, sink),
+        Task::List(day) => run_list(alloc, machine, bytes, day, sink),
     }
 }
 
-/// Carries out `task` with the machine in the file `machine`, the key sheet `sheet`, and the message `message`.
+/// Carries out `task`. `contents` are the bytes of the machine file, of the key sheet, and of the message.
 fn work_message<W: Sink, E: Sink>(
     alloc: Global,
     language: Language,
     task: MessageTask,
-    machine: &[u8],
-    sheet: &[u8],
-    message: &[u8],
+    contents: &[FileBytes],
     sink: &mut W,
     errors: &mut E,
 ) -> Result<(), Refused>
-    ensures does { WorksMessage language task machine.now sheet.now message.now
-        (port W.taken W.has_failed sink.old sink.new) result }
+    requires { length contents.now ≡ 3 }
+    ensures does { WorksMessage language task (text_at contents.now 0) (text_at contents.now 1)
+        (text_at contents.now 2) (port W.taken W.has_failed sink.old sink.new) result }
     ensures untouched { IsErr result → has_written result ≡ false → sink.new ≡ sink.old }
     ensures failed { W.has_failed sink.new ≡ (W.has_failed sink.old || is_device result) }
     ensures told { TellsOfMessage task.direction (port E.taken E.has_failed errors.old errors.new) }
 {
-    let language = task.language.unwrap_or(language);
-    let (day, results) = (task.day, task.results);
+    let options = PageOptions {
+        language: task.language.unwrap_or(language),
+        results: task.results,
+    };
+    let files = DayFiles {
+        machine: text_at(contents, 0),
+        sheet: text_at(contents, 1),
+        number: task.day,
+    };
+    let message = text_at(contents, 2);
     match task.direction {
-        Direction::Send => {
-            run_send(alloc, language, results, machine, sheet, day, message, sink)
-        }
-        Direction::Receive => run_receive(
-            alloc, language, results, machine, sheet, day, message, sink, errors,
-        ),
+        Direction::Send => run_send(alloc, options, files, message, sink),
+        Direction::Receive => run_receive(alloc, options, files, message, sink, errors),
     }
 }
 

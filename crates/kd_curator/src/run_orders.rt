@@ -1,6 +1,8 @@
 //! The command `send` for several orders: writes an HTML file with a page for each order.
 ghost use Rattle.std.specs.Prelude.{◌≡◌, ◌≤◌, ◌+◌, ◌++◌, ◌||◌, drop, false, length, map, IsErr};
 ghost use Rattle.arrayvec.specs.ArrayVec.{array_vec_len};
+ghost use Rattle.std.specs.Option.{option_copied};
+ghost use Rattle.kd_sheet.specs.Sheet.{day_of};
 ghost use Rattle.kd_tables.specs.Ports.{port};
 ghost use Rattle.kd_curator_command.specs.CommandLine.{unborrowed_names};
 ghost use Rattle.kd_message.specs.SendBooklet.{order_text};
@@ -11,65 +13,59 @@ ghost use Rattle.kd_curator.specs.RunOrders.{SendsOrders, WritesOrders, order_te
 
 use crate::fault::{PageFault, Refused};
 use crate::files::{FileBytes, text_at};
-use crate::machine_and_sheet::read_both;
+use crate::machine_and_sheet::{DayFiles, read_both};
 use arrayvec::ArrayVec;
 use kd_curator_command::MessageTask;
-use kd_message::{OrderFile, write_send_booklet};
-use kd_pictures::{Language, Results};
-use kd_sheet::Sheet;
-use kd_state::Machine;
+use kd_message::{OrderFile, PageOptions, write_send_booklet};
+use kd_pictures::Language;
+use kd_state::{Machine, SheetDay};
 use kd_tables::Sink;
 use std::alloc::Global;
 
-/// Writes a file with a page for each of `orders`, for sending on the machine in the file `machine`. The machine must
-/// be on the key of the day `number` of the sheet `sheet`.
+/// Writes a file with a page for each of `orders`, for sending on the machine of `files`. The machine must be on the
+/// day's key.
 ///
 /// Faults are tested as in `run_send`, and the orders are tested one after another. For all faults
 /// but `Device`, nothing is written. For `Device`, only a prefix of the file is written.
 pub fn run_orders<W: Sink>(
     alloc: Global,
-    language: Language,
-    results: Results,
-    machine: &[u8],
-    sheet: &[u8],
-    number: u8,
+    options: PageOptions,
+    files: DayFiles<'_>,
     orders: &[OrderFile<'_>],
     sink: &mut W,
 ) -> Result<(), Refused>
     requires { length orders.now ≤ 32 }
-    ensures pages { IsAnswerOnSheet machine.now sheet.now
-        (λ m month. WritesOrders results language month m number (map order_text orders.now)
-        (port W.taken W.has_failed sink.old sink.new) result) result }
+    ensures pages { IsAnswerOnSheet files.entry.machine.now files.entry.sheet.now
+        (λ m month. WritesOrders options.results options.language (day_of month files.entry.number) m
+        (map order_text orders.now) (port W.taken W.has_failed sink.old sink.new) result) result }
     ensures untouched { IsErr result → is_device result ≡ false → sink.new ≡ sink.old }
     ensures failed { W.has_failed sink.new ≡ (W.has_failed sink.old || is_device result) }
 {
-    let (machine, sheet) = read_both(alloc, machine, sheet)?;
-    write_orders(
-        alloc, language, results, &machine, &sheet, number, orders, sink,
-    )
+    let (machine, sheet) = read_both(alloc, files.machine, files.sheet)?;
+    let day = sheet.day(files.number);
+    write_orders(alloc, options, &machine, day, orders, sink)
 }
 
-/// Does what `run_orders` does, for a machine and a sheet that are already read.
+/// Does what `run_orders` does, for a machine and a day that are already read. `day` is `None` if the sheet lacks the
+/// day.
 fn write_orders<W: Sink>(
     alloc: Global,
-    language: Language,
-    results: Results,
+    options: PageOptions,
     machine: &Machine,
-    sheet: &Sheet,
-    number: u8,
+    day: Option<&SheetDay>,
     orders: &[OrderFile<'_>],
     sink: &mut W,
 ) -> Result<(), Refused>
     requires { length orders.now ≤ 32 }
-    ensures pages { WritesOrders results language sheet.now machine.now number (map order_text orders.now)
-        (port W.taken W.has_failed sink.old sink.new) result }
+    ensures pages { WritesOrders options.results options.language (option_copied day.entry) machine.now
+        (map order_text orders.now) (port W.taken W.has_failed sink.old sink.new) result }
     ensures untouched { IsErr result → is_device result ≡ false → sink.new ≡ sink.old }
     ensures failed { W.has_failed sink.new ≡ (W.has_failed sink.old || is_device result) }
 {
-    let Some(day) = sheet.day(number) else {
+    let Some(day) = day else {
         return Err(Refused::from(PageFault::NoSuchDay));
     };
-    match write_send_booklet(alloc, language, results, machine, day, orders, sink) {
+    match write_send_booklet(alloc, options, machine, day, orders, sink) {
         Ok(()) => Ok(()),
         Err(fault) => Err(Refused::of_orders(fault)),
     }
@@ -95,17 +91,16 @@ pub(crate) fn send_orders<W: Sink>(
 {
     let mut orders = ArrayVec::new();
     push_orders(&mut orders, names, &contents[2..]);
-    let language = task.language.unwrap_or(language);
-    run_orders(
-        alloc,
-        language,
-        task.results,
-        text_at(contents, 0),
-        text_at(contents, 1),
-        task.day,
-        orders.as_slice(),
-        sink,
-    )
+    let options = PageOptions {
+        language: task.language.unwrap_or(language),
+        results: task.results,
+    };
+    let files = DayFiles {
+        machine: text_at(contents, 0),
+        sheet: text_at(contents, 1),
+        number: task.day,
+    };
+    run_orders(alloc, options, files, orders.as_slice(), sink)
 }
 
 /// Appends to `orders` a file for each of `names`, with the file's bytes from `contents`.

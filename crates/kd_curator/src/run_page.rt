@@ -14,6 +14,7 @@ use crate::fault::{PageFault, Refused};
 use crate::machine_and_sheet::read_both;
 use kd_booklet::{DayPlans, plan_days, write_pages};
 use kd_curator_command::Days;
+use kd_look::NamedFile;
 use kd_page::Language;
 use kd_sheet::Sheet;
 use kd_state::Machine;
@@ -23,28 +24,27 @@ use std::alloc::Global;
 /// Writes the pages of `days` in one HTML file, in `language`. The first page starts from the machine in the file
 /// `machine`.
 ///
-/// `name` is the name of the key sheet's file. The pages show this name without its folder and its ending. If `days` is
-/// `None`, the pages are for all days that the sheet has for the machine's model. Faults are tested in this order:
-/// faults of the machine file, faults of the sheet, and then, day by day, `NoSuchDay` and `OtherModel`. For all of
-/// these faults, nothing is written. For `Device`, only a prefix of the file is written.
+/// The pages show the name of the key sheet's file, without its folder and its ending. If `days` is `None`, the pages
+/// are for all days that the sheet has for the machine's model. Faults are tested in this order: faults of the machine
+/// file, faults of the sheet, and then, day by day, `NoSuchDay` and `OtherModel`. For all of these faults, nothing is
+/// written. For `Device`, only a prefix of the file is written.
 pub fn run_page<W: Sink>(
     alloc: Global,
     language: Language,
-    name: &str,
     machine: &[u8],
-    sheet: &[u8],
+    sheet: NamedFile<'_>,
     days: Option<Days>,
     sink: &mut W,
 ) -> Result<(), Refused>
-    ensures pages { IsAnswerOnSheet machine.now sheet.now
-        (λ m month. WritesPages language name.now month m (wanted_days days (model_of m) month)
+    ensures pages { IsAnswerOnSheet machine.now sheet.entry.bytes.now
+        (λ m month. WritesPages language sheet.entry.name.now month m (wanted_days days (model_of m) month)
         (port W.taken W.has_failed sink.old sink.new) result) result }
     ensures untouched { IsErr result → is_device result ≡ false → sink.new ≡ sink.old }
     ensures failed { W.has_failed sink.new ≡ (W.has_failed sink.old || is_device result) }
 {
-    let (machine, sheet) = read_both(alloc, machine, sheet)?;
-    let days = wanted_days(days, machine.model(), &sheet);
-    write_days(language, name, &machine, &sheet, &days, sink)
+    let (machine, month) = read_both(alloc, machine, sheet.bytes)?;
+    let days = wanted_days(days, machine.model(), &month);
+    write_days(language, sheet.name, &machine, &month, &days, sink)
 }
 
 /// Does what `run_page` does, for a machine and a sheet that are already read. Allocates no memory.

@@ -24,8 +24,8 @@ returns-in-Ok-end_file g c = λ words says.
     let apart : c.as_str.result.now ≢ c.args.name.now =
     λ same. part_name-apart c.args.name.now c.in-Ok.ensures.other.0
     (sym c.in-Ok.ensures.other.1 ∙ sym c.as_str.ensures.value ∙ same) in
-    ends_well c.args.language words (g.F.Files.known c.args.files.now) (g.F.Files.asked c.run_gathering-answer.new.files)
-    before (g.N.NewFiles.held c.end_file.new.new_files) c.args.name.now (names_of (unborrowed_command c.args.command))
+    ends_well c.args.request.language words (g.F.Files.known c.args.files.now) (g.F.Files.asked c.run_gathering-answer.new.files)
+    before (g.N.NewFiles.held c.end_file.new.new_files) c.args.name.now (names_of (unborrowed_command c.args.request.command))
     (port g.E.Sink.taken g.E.Sink.has_failed c.args.errors.now c.end_program.new.errors) c.end_program.result
     (g.E.Sink.taken between) (g.E.Sink.has_failed between) c.run_gathering-answer.result.0 _ _ _ _
     c.in-Ok.ensures.empty c.in-Ok.ensures.fresh _ (c.in-Ok-end_file.ensures.published before added apart) run.0 run.1
@@ -44,8 +44,8 @@ returns g c = λ words says.
     let apart : c.as_str.result.now ≢ c.args.name.now =
     λ same. part_name-apart c.args.name.now c.in-Ok.ensures.other.0
     (sym c.in-Ok.ensures.other.1 ∙ sym c.as_str.ensures.value ∙ same) in
-    ends_badly c.args.language words (g.F.Files.known c.args.files.now) (g.F.Files.asked c.run_gathering-answer.new.files)
-    before (g.N.NewFiles.held c.end_file.new.new_files) c.args.name.now (names_of (unborrowed_command c.args.command))
+    ends_badly c.args.request.language words (g.F.Files.known c.args.files.now) (g.F.Files.asked c.run_gathering-answer.new.files)
+    before (g.N.NewFiles.held c.end_file.new.new_files) c.args.name.now (names_of (unborrowed_command c.args.request.command))
     (port g.E.Sink.taken g.E.Sink.has_failed c.args.errors.now c.end_unwritten-in-Err-end_file.new.errors)
     c.end_unwritten-in-Err-end_file.result
     (g.E.Sink.taken between) (g.E.Sink.has_failed between) c.run_gathering-answer.result.0 _ _ _ _

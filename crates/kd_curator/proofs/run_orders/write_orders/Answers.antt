@@ -5,11 +5,11 @@ use Rattle.kd_curator.proofs.run_orders.write_orders.Goals as goal
 
 pub returns-in-Ok-clause-pages : goal.returns-in-Ok-clause-pages
 returns-in-Ok-clause-pages g c =
-    pages_told _ _ _ _ _ _ _ _ (search rules) (Ok tt) c.in-Ok.ensures.pages
+    pages_told _ _ _ _ _ _ _ (search rules) (Ok tt) c.in-Ok.ensures.pages
 
 pub returns-in-Err-clause-pages : goal.returns-in-Err-clause-pages
 returns-in-Err-clause-pages g c =
-    rw c.of_orders.ensures (pages_told _ _ _ _ _ _ _ _ (search rules) (Err c.in-Err.fault) c.in-Err.ensures.pages)
+    rw c.of_orders.ensures (pages_told _ _ _ _ _ _ _ (search rules) (Err c.in-Err.fault) c.in-Err.ensures.pages)
 
 pub returns-in-Err-clause-untouched : goal.returns-in-Err-clause-untouched
 returns-in-Err-clause-untouched g c =

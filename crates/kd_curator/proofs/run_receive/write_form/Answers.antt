@@ -8,34 +8,34 @@ returns-in-Err-clause-page g c = OffKey _ (search rules) c.in-Err.fault c.in-Err
 
 pub returns-in-Ok-true-clause-page : goal.returns-in-Ok-true-clause-page
 returns-in-Ok-true-clause-page g c =
-    page_told _ _ _ _ _ _ _ _ (search rules) (search rules) (Ok true)
+    page_told _ _ _ _ _ _ _ (search rules) (search rules) (Ok true)
     (rw c.in-Ok-true.field-0-test at c.in-Ok-true.ensures.page)
 
 pub returns-in-Ok-false-clause-page : goal.returns-in-Ok-false-clause-page
 returns-in-Ok-false-clause-page g c =
-    rw c.from-in-Ok-false.ensures (page_told _ _ _ _ _ _ _ _ (search rules) (search rules) (Ok false)
+    rw c.from-in-Ok-false.ensures (page_told _ _ _ _ _ _ _ (search rules) (search rules) (Ok false)
     (rw c.in-Ok-false.field-0-test at c.in-Ok-false.ensures.page))
 
 pub returns-in-Err-write_receive_page-clause-page : goal.returns-in-Err-write_receive_page-clause-page
 returns-in-Err-write_receive_page-clause-page g c =
     rw c.of_receive.ensures
-    (page_told _ _ _ _ _ _ _ _ (search rules) (search rules) (Err c.in-Err-write_receive_page.fault)
+    (page_told _ _ _ _ _ _ _ (search rules) (search rules) (Err c.in-Err-write_receive_page.fault)
     c.in-Err-write_receive_page.ensures.page)
 
 pub returns-in-Ok-true-clause-told : goal.returns-in-Ok-true-clause-told
 returns-in-Ok-true-clause-told g c =
-    notes_told _ _ _ _ _ _ _ (search rules) (search rules) (Ok true)
+    notes_told _ _ _ _ _ _ (search rules) (search rules) (Ok true)
     (rw c.in-Ok-true.field-0-test at c.in-Ok-true.ensures.noted)
 
 pub returns-in-Ok-false-clause-told : goal.returns-in-Ok-false-clause-told
 returns-in-Ok-false-clause-told g c =
-    rw c.from-in-Ok-false.ensures (notes_told _ _ _ _ _ _ _ (search rules) (search rules) (Ok false)
+    rw c.from-in-Ok-false.ensures (notes_told _ _ _ _ _ _ (search rules) (search rules) (Ok false)
     (rw c.in-Ok-false.field-0-test at c.in-Ok-false.ensures.noted))
 
 pub returns-in-Err-write_receive_page-clause-told : goal.returns-in-Err-write_receive_page-clause-told
 returns-in-Err-write_receive_page-clause-told g c =
     rw c.of_receive.ensures
-    (notes_told _ _ _ _ _ _ _ (search rules) (search rules) (Err c.in-Err-write_receive_page.fault)
+    (notes_told _ _ _ _ _ _ (search rules) (search rules) (Err c.in-Err-write_receive_page.fault)
     c.in-Err-write_receive_page.ensures.noted)
 
 pub returns-in-Ok-true-clause-tells : goal.returns-in-Ok-true-clause-tells

@@ -2,4 +2,5 @@ use Rattle.kd_curator.proofs.Answers.{on_found}
 use Rattle.kd_curator.proofs.run_send.run_send.Goals as goal
 
 pub returns-clause-page : goal.returns-clause-page
-returns-clause-page g c = on_found _ _ _ _ c.in_ok-machine.ensures.found c.write_order.ensures.page
+returns-clause-page g c = on_found _ _ _ _ c.in_ok-machine.ensures.found
+    (rw c.day-day.ensures.value at c.write_order.ensures.page)

@@ -5,11 +5,11 @@ use Rattle.kd_curator.proofs.run_send.write_order.Goals as goal
 
 pub returns-in-Ok-clause-page : goal.returns-in-Ok-clause-page
 returns-in-Ok-clause-page g c =
-    page_told _ _ _ _ _ _ _ _ (search rules) (Ok tt) c.in-Ok.ensures.page
+    page_told _ _ _ _ _ _ _ (search rules) (Ok tt) c.in-Ok.ensures.page
 
 pub returns-in-Err-clause-page : goal.returns-in-Err-clause-page
 returns-in-Err-clause-page g c =
-    rw c.of_send.ensures (page_told _ _ _ _ _ _ _ _ (search rules) (Err c.in-Err.fault) c.in-Err.ensures.page)
+    rw c.of_send.ensures (page_told _ _ _ _ _ _ _ (search rules) (Err c.in-Err.fault) c.in-Err.ensures.page)
 
 pub returns-in-Err-clause-untouched : goal.returns-in-Err-clause-untouched
 returns-in-Err-clause-untouched g c =
