@@ -48,7 +48,7 @@ abbrev pub after_model : KeyPlace → (Model → List (KeyPlace × SheetFault)) 
 after_model place faults (Ok model) = faults model
 after_model place faults (Err fault) = (place, fault) ∷ []
 
--- the faults of a rotor machine's file, at the keys that are tested after `model`
+-- the faults of a rotor machine's file, at the file's keys after its key `model`
 unfoldable pub rotor_file_faults : Model → Members → List (KeyPlace × SheetFault)
 rotor_file_faults model table =
     fault_at (in_file keys.Reflector) (reflector_in model table)
@@ -57,7 +57,7 @@ rotor_file_faults model table =
     ++ (fault_at (in_file keys.Letters) (letters_at keys.Letters (length (box_of model)) table)
     ++ fault_at (in_file keys.Cables) (cables_in table))))
 
--- the faults of a Converter's file, at the keys that are tested after `model`
+-- the faults of a Converter's file, at the file's keys after its key `model`
 unfoldable pub pin_file_faults : Members → List (KeyPlace × SheetFault)
 pin_file_faults table =
     fault_at (in_file keys.Letters) (shown_letters_in keys.Letters table)

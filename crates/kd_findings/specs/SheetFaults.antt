@@ -48,7 +48,7 @@ new_day earlier table = do
   demand (not (list_any (has_number number) earlier)) (DayTwice number)
   Ok number
 
--- the faults of a rotor machine's day, at the keys that are tested after `model`
+-- the faults of a rotor machine's day, at the file's keys after its key `model`
 unfoldable pub rotor_day_faults : KeyPlace → Model → Members → List (KeyPlace × SheetFault)
 rotor_day_faults place model table =
     fault_at (at_key place keys.Reflector) (reflector_in model table)
@@ -57,7 +57,7 @@ rotor_day_faults place model table =
     ++ (fault_at (at_key place keys.Window) (letters_at keys.Window (slots_of model) table)
     ++ (fault_at (at_key place keys.Plugs) (pairs_in table) ++ fault_at (at_key place keys.Groups) (groups_in table)))))
 
--- the faults of a Converter's day, at the keys that are tested after `model`
+-- the faults of a Converter's day, at the file's keys after its key `model`
 unfoldable pub pin_day_faults : KeyPlace → Members → List (KeyPlace × SheetFault)
 pin_day_faults place table =
     fault_at (at_key place keys.Rows) (rows_in table)

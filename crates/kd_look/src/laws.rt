@@ -2,9 +2,9 @@
 ghost use Rattle.kd_look.specs.Laws.{FaultlessFormsAreReceived, FaultlessOrdersAreSent, FormFaultsAreThoseOfReceive};
 ghost use Rattle.kd_look.specs.Laws.{HeadFaultsAreThoseOfSend, HeadsEndWhereSendEndsThem, OrderFaultsAreThoseOfSend};
 
-/// For the head of an order, this crate and `send` find the same end, or the same first wrong byte.
+/// For an order's head, this crate and `send` find the same end, or the same first wrong byte.
 ///
-/// The day is for the machine that the order is for.
+/// For `send`, the law takes any day of a machine that the order can be for.
 pub fn heads_are_read_as_send_reads_them()
     ensures faults { HeadFaultsAreThoseOfSend }
     ensures ends { HeadsEndWhereSendEndsThem }

@@ -66,15 +66,16 @@ pub const LONE_ASK: Text = (
     "<label><input type=checkbox> diesen Teil wiederholen lassen: <b>",
 );
 
-/// The link to the form, at the end of the list of the sheets. An order's number may stand between
-/// this text and the next. The third text is the list's end with a link to the message's text.
+/// The start of the link to the form, in the list of the sheets. An order's number may follow.
 pub const LISTED_FORM: &str = "<li><a href=\"#form";
 
+/// The rest of the link to the form, and the end of the list.
 pub const LIST_END_WITH_FORM: Text = (
     "\">Form</a>\n</ul>\n</nav>\n",
     "\">Funkspruch</a>\n</ul>\n</nav>\n",
 );
 
+/// The link to the sheet with the text, and the end of the list.
 pub const LIST_END_WITH_TEXT: Text = (
     "<li><a href=\"#text\">Text</a>\n</ul>\n</nav>\n",
     "<li><a href=\"#text\">Klartext</a>\n</ul>\n</nav>\n",

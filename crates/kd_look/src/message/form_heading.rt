@@ -1,4 +1,4 @@
-//! Reads a heading line of a form without a machine.
+//! Reads a form's heading line, without knowing the machine.
 ghost use Rattle.std.specs.Prelude.{◌≡◌, ◌≤◌, ◌<◌, ◌+◌, ◌*◌, length, IfErr, IfOk};
 ghost use Rattle.kd_look.specs.FormHeading.{digits_at, heading_at, heading_end, heading_keys, is_letter_count};
 ghost use Rattle.kd_look.specs.FormHeading.{keys_or, keys_pattern, number_at, with_digit};

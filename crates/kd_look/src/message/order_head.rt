@@ -32,7 +32,7 @@ pub fn key_line_of(text: &[u8]) -> KeyLine
     }
 }
 
-/// The index of the text in the order `text`, whose next line begins at `index`; or the first wrong byte.
+/// Finds the end of an order's head, whose next line begins at `index`; or the first wrong byte.
 ///
 /// At most `left` lines of keys may still come, and then the line `TEXT`.
 #[tactic(auto, using(crate::proofs::OrderHead::keys_next, crate::proofs::OrderHead::text_next, crate::proofs::OrderHead::none_left))]
