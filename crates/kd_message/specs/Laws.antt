@@ -22,7 +22,7 @@ use Rattle.kd_message.specs.declared.texts.TheConstants.{TEXT_END}
 use Rattle.kd_message.specs.ReceivePage.{receive_text, sheet_to_receive}
 use Rattle.kd_lost.specs.OneMessage.{letters_agree}
 use Rattle.kd_message.specs.ReceivedWork.{received_work}
-use Rattle.kd_message.specs.SendPage.{part_name}
+use Rattle.kd_message.specs.SendPage.{part_name, sheet_number}
 use Rattle.kd_lost.specs.ShownParts.{IsWhole, is_number, shown_under, times_of, total_of}
 use Rattle.kd_lost.specs.Texts.{lost_in, shown_text}
 use Rattle.kd_message.specs.TextSheet.{came_text, read_text, text_begin, text_part_head}
@@ -145,3 +145,12 @@ WholeMessagesAreRead =
     → (ordered : List (List ℕ)) × (letters : List ℕ) × All (Contains (form_parts form)) ordered
     × (length ordered ≡ total_of parts) × ReadsPartsTo s (IsAnswerAt s (Ok tt)) first_part_start ordered letters
     × (map (shown_byte (space_letter s)) (message_letters parts) ≡ plaintext_bytes s letters)
+
+-- ---- Files of several orders.
+
+-- In a file of several orders, no two parts have the same sheet number: parts with one sheet number are of one order, and
+-- have one part number.
+abbrev pub SheetsHaveTheirOwnNumbers : Type 0
+SheetsHaveTheirOwnNumbers =
+    (order other part later : ℕ) → 1 ≤ part → part ≤ 99 → 1 ≤ later → later ≤ 99
+    → sheet_number (Some order) part ≡ sheet_number (Some other) later → (order ≡ other) × (part ≡ later)

@@ -2,7 +2,7 @@
 ghost use Rattle.kd_message.specs.Checked.{TemplatesTakeTheirValues};
 ghost use Rattle.kd_message.specs.Laws.{FormsReadAreWhole, NothingReadIsHidden, RowsAreDeciphered, RowsAreEnciphered};
 ghost use Rattle.kd_message.specs.Laws.{RepetitionsHaveTheLetters, WholeMessagesAreOnThePage, WholeMessagesAreRead};
-ghost use Rattle.kd_message.specs.Laws.{WholeMessagesHaveOneTotal};
+ghost use Rattle.kd_message.specs.Laws.{SheetsHaveTheirOwnNumbers, WholeMessagesHaveOneTotal};
 
 /// The lamps that light up for a row depend only on the letters pressed in this row, and on the windows at the row's
 /// start.
@@ -56,4 +56,10 @@ pub fn whole_messages_are_on_the_page()
 /// `desk receive` gives the text that the page shows.
 pub fn whole_messages_are_read()
     ensures { WholeMessagesAreRead }
+{}
+
+/// In a file of several orders, each part's sheet has a number of its own.
+#[tactic(auto, using(crate::proofs::SheetNumbers::own_sheet_numbers))]
+pub fn sheets_have_their_own_numbers()
+    ensures { SheetsHaveTheirOwnNumbers }
 {}
