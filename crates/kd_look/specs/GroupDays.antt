@@ -56,7 +56,7 @@ suits search group day = can_be_for search.keys (day_model day) && has_group gro
 unfoldable pub is_day_with : GroupSearch → List ℕ → ℕ → Bool
 is_day_with search group number = option_map_or (suits search group) (day_of search.month number) false
 
--- the numbers of the sheet's days that have the group, in ascending order
+-- the numbers of the sheet's days that suit the message and the group, in ascending order
 abbrev pub days_with : GroupSearch → List ℕ → List ℕ
 days_with search group = filter (is_day_with search group) (range_with_len 1 31)
 
@@ -66,10 +66,10 @@ group_day_line search part group day =
     search.name ++ titled (codes ": part ") part ++ codes ": group " ++ letters_text group
     ++ titled (codes " is of day ") day ++ codes " in " ++ search.sheet ++ codes "\n"
 
--- the warning that no day of the sheet has the group of part `part`
+-- the warning that no day of the sheet suits the message and the group of part `part`
 unfoldable pub no_group_line : GroupSearch → ℕ → List ℕ → List ℕ
 no_group_line search part group =
-    search.name ++ titled (codes ": warning: part ") part ++ codes ": no day in " ++ search.sheet
+    search.name ++ titled (codes ": warning: part ") part ++ codes ": no day for such a machine in " ++ search.sheet
     ++ codes " has the group " ++ letters_text group ++ codes "\n"
 
 -- a line for each of the days that have the group; if there are none, the warning

@@ -209,7 +209,7 @@ fn push_day(
     lines.push_str("\n")
 }
 
-/// Appends the warning that no day of the sheet has the group of part `part`.
+/// Appends the warning that no day of the sheet suits the message and the group of part `part`.
 #[tactic(auto, using(std::proofs::Common::append_assoc), unfolding(crate::specs::GroupDays::no_group_line))]
 fn push_no_group(
     lines: &mut String,
@@ -222,14 +222,14 @@ fn push_no_group(
 {
     lines.push_str(search.name)?;
     push_titled(lines, ": warning: part ", part)?;
-    lines.push_str(": no day in ")?;
+    lines.push_str(": no day for such a machine in ")?;
     lines.push_str(search.sheet)?;
     lines.push_str(" has the group ")?;
     push_letters(lines, group)?;
     lines.push_str("\n")
 }
 
-/// The numbers of the sheet's days that have `group`, in ascending order.
+/// The numbers of the sheet's days that suit the message and `group`, in ascending order.
 fn days_with(alloc: Global, search: &Search<'_>, group: [Letter; 3]) -> Result<Vec<u8>, AllocError>
     ensures { IfOk result (λ days. days.items ≡ days_with (search_of search.now) group) }
 {
