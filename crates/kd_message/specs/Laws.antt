@@ -148,8 +148,8 @@ WholeMessagesAreRead =
 
 -- ---- Files of several orders.
 
--- In a file of several orders, no two parts have the same sheet number: parts with one sheet number are of one order, and
--- have one part number.
+-- In a file of several orders, no two parts have the same sheet number: parts with one sheet number are of one order,
+-- and have one part number.
 abbrev pub SheetsHaveTheirOwnNumbers : Type 0
 SheetsHaveTheirOwnNumbers =
     (order other part later : ℕ) → 1 ≤ part → part ≤ 99 → 1 ≤ later → later ≤ 99
