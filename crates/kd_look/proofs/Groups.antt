@@ -11,7 +11,7 @@ use Rattle.kd_look.specs.Groups.{letters_of}
 
 -- ---- Letters of a text
 
-letters_of-append : (front back : List ℕ) → letters_of (front ++ back) ≡ letters_of front ++ letters_of back
+pub letters_of-append : (front back : List ℕ) → letters_of (front ++ back) ≡ letters_of front ++ letters_of back
 letters_of-append front back =
     ap (map (λ byte. byte - 65)) (filter-append is_capital front back)
     ∙ map-append (λ byte. byte - 65) (filter is_capital front) (filter is_capital back)
@@ -22,7 +22,7 @@ one_letter true byte is = refl
 one_letter false byte is = absurd (false≢true is)
 
 -- the letter of a capital letter's byte
-letters_of-one : (byte letter : ℕ) → byte ≡ letter + 65 → byte ≤ 90 → letters_of (byte ∷ []) ≡ letter ∷ []
+pub letters_of-one : (byte letter : ℕ) → byte ≡ letter + 65 → byte ≤ 90 → letters_of (byte ∷ []) ≡ letter ∷ []
 letters_of-one byte letter is last =
     let capital : is_capital byte ≡ true = grind arith in
     let same : byte - 65 ≡ letter = omega arith in

@@ -44,7 +44,7 @@ words_bytes part parts count None rest = simp append_assoc
 words_bytes part parts count (Some i) rest = simp append_assoc
 
 -- if two steps succeed, the first step has a value with which the second succeeds
-with_ok : {A B F P : Type 0} (first : Result A F) (next : A → Result B F) {y : B} → (first >>= next) ≡ Ok y
+pub with_ok : {A B F P : Type 0} (first : Result A F) (next : A → Result B F) {y : B} → (first >>= next) ≡ Ok y
     → ((x : A) → first ≡ Ok x → next x ≡ Ok y → P) → P
 with_ok (Ok x) next is on = on x refl is
 with_ok (Err fault) next is on = absurd (cc)

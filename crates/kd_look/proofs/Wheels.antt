@@ -41,7 +41,7 @@ use Rattle.kd_look.specs.declared.message.order_head.KeyLine.TheVariants as line
 -- -------- columns
 
 -- the byte begins a character, and is no line feed
-abbrev IsOrdinary : ℕ → Type 0
+abbrev pub IsOrdinary : ℕ → Type 0
 IsOrdinary byte = (byte ≢ 10) × (byte < 128)
 
 column-next : (text : List ℕ) (index : ℕ) → index < length text → IsOrdinary (get_or text index 0)
@@ -71,7 +71,7 @@ column-on text start (suc count) first inside ordinary =
     ∙ ap (λ n. n + 1) before ∙ omega arith)
 
 -- bytes are ordinary if a computed test passes for each of them
-ordinary_codes : (text : List ℕ) → list_all (λ byte. nat_le 32 byte && nat_le byte 127) text ≡ true
+pub ordinary_codes : (text : List ℕ) → list_all (λ byte. nat_le 32 byte && nat_le byte 127) text ≡ true
     → All IsOrdinary text
 ordinary_codes text passes = All-weaker (λ byte. (nat_le 32 byte && nat_le byte 127) ≡ true) IsOrdinary
     (λ byte fits. grind (arith, nat_tests, cases_Bool (nat_le 32 byte))) text
@@ -81,12 +81,12 @@ ordinary_codes text passes = All-weaker (λ byte. (nat_le 32 byte && nat_le byte
 
 -- In the text, the line `line` begins at `start`, and `rest` follows it. All bytes of the line are
 -- ordinary, but for the LF at its end.
-record IsLineFrom (text : List ℕ) (start : ℕ) (line rest : List ℕ) : Type 0 where
-  body : List ℕ
-  ended : line ≡ body ++ 10 ∷ []
-  ordinary : All IsOrdinary body
-  first : column_at text start ≡ 1
-  joined : drop start text ≡ line ++ rest
+pub record IsLineFrom (text : List ℕ) (start : ℕ) (line rest : List ℕ) : Type 0 where
+  pub body : List ℕ
+  pub ended : line ≡ body ++ 10 ∷ []
+  pub ordinary : All IsOrdinary body
+  pub first : column_at text start ≡ 1
+  pub joined : drop start text ≡ line ++ rest
 
 module _ {text : List ℕ} {start : ℕ} {line rest : List ℕ} (is : IsLineFrom text start line rest) where
   size : length line ≡ length is.body + 1
@@ -102,12 +102,12 @@ module _ {text : List ℕ} {start : ℕ} {line rest : List ℕ} (is : IsLineFrom
   body_at : (i : ℕ) → i < length is.body → get_or line i 0 ≡ get_or is.body i 0
   body_at i less = ap (λ l. get_or l i 0) is.ended ∙ get_or-append is.body (10 ∷ []) 0 i less
 
-  column_of : (i : ℕ) → i < length line → column_at text (start + i) ≡ i + 1
+  pub column_of : (i : ℕ) → i < length line → column_at text (start + i) ≡ i + 1
   column_of i less = column-on text start i is.first (omega (arith, within, less)) (λ j before.
       subst IsOrdinary (sym (byte_at j (omega (arith, before, less)) ∙ body_at j (omega (arith, before, less, size))))
       (is.ordinary j 0 (omega (arith, before, less, size))))
 
-  next_first : column_at text (start + length line) ≡ 1
+  pub next_first : column_at text (start + length line) ≡ 1
   next_first =
       let place : start + length line ≡ start + length is.body + 1 = omega (arith, size) in
       let last : get_or text (start + length is.body) 0 ≡ 10 =
@@ -115,7 +115,7 @@ module _ {text : List ℕ} {start : ℕ} {line rest : List ℕ} (is : IsLineFrom
       ∙ get_or-append_seam is.body 10 [] 0 in
       rw place (column-fresh text (start + length is.body) (omega (arith, within, size)) last)
 
-  next_joined : drop (start + length line) text ≡ rest
+  pub next_joined : drop (start + length line) text ≡ rest
   next_joined = sym (drop-drop (length line) start text) ∙ ap (drop (length line)) is.joined ∙ drop_at line rest
       (length line) refl
 
@@ -162,7 +162,7 @@ from_test wheel letter first last small off =
 -- -------- a line of keys
 
 -- the line with the keys `k`, without its end
-abbrev pin_text : PinKeys → List ℕ
+abbrev pub pin_text : PinKeys → List ℕ
 pin_text k = codes "PART " ++ (k.chosen + 65) ∷ 32 ∷ letters_text k.external
 
 ordinary_text : (k : PinKeys) → ArePinKeys k → All IsOrdinary (pin_text k)
@@ -173,7 +173,7 @@ ordinary_text k are = All-append IsOrdinary (codes "PART ") ((k.chosen + 65) ∷
     (All-map IsOrdinary (λ l. l + 65) k.external
     (λ i d inside. let small = are.external.within i d inside in grind (arith, small)))))
 
-line_from : {text : List ℕ} {start : ℕ} {line rest : List ℕ} (words : List ℕ) → All IsOrdinary words
+pub line_from : {text : List ℕ} {start : ℕ} {line rest : List ℕ} (words : List ℕ) → All IsOrdinary words
     → IsLineWithEnd words line
     → column_at text start ≡ 1 → drop start text ≡ line ++ rest → IsLineFrom text start line rest
 line_from words ordinary (inl ended) first joined =
@@ -187,7 +187,7 @@ line_from words ordinary (inr ended) first joined = record {
   joined = joined;
 }
 
-with_tail : (words line : List ℕ) → IsLineWithEnd words line → (tail : List ℕ) × (line ≡ words ++ tail)
+pub with_tail : (words line : List ℕ) → IsLineWithEnd words line → (tail : List ℕ) × (line ≡ words ++ tail)
 with_tail words line (inl ended) = (10 ∷ [], ended)
 with_tail words line (inr ended) = (13 ∷ 10 ∷ [], ended)
 

@@ -1,11 +1,13 @@
 -- The statements of this crate's laws: `look` says of an order what `send` says, and of a form what
 -- `receive` says, on a day for the same machine.
 use Rattle.std.specs.Prelude.{codes, ◌≡◌, ◌⊎◌, ℕ, ◌+◌, ◌≤◌, List, Result, Ok, Err, IfOk, None, Contains, drop, length}
-use Rattle.std.specs.Prelude.{take}
+use Rattle.std.specs.Prelude.{take, [], ◌∷◌, Some}
+use Rattle.std.specs.List.{flat_map}
 use Rattle.kd_state.specs.SheetDay.{Day, Rotor, Pin}
 use Rattle.kd_form.specs.declared.fault.FormFault.{FormFault}
 use Rattle.kd_form.specs.declared.fault.FormFault.TheVariants.{BadByte, IndicatorSpent, WrongGroup}
 use Rattle.kd_form.specs.declared.keys.Keys.{Keys}
+use Rattle.kd_form.specs.declared.keys.Keys.TheVariants.{Rotor, Pin}
 use Rattle.kd_form.specs.declared.heading.Heading.{Heading}
 use Rattle.kd_form.specs.BodyCipher.{IsLettersAnswer}
 use Rattle.kd_form.specs.FormParts.{parts_of}
@@ -18,7 +20,9 @@ use Rattle.kd_form.specs.Sending.{IsOrderAnswer, letters_from}
 use Rattle.kd_sheet.specs.Document.{◌>>=◌}
 use Rattle.kd_look.specs.Form.{form_answer}
 use Rattle.kd_look.specs.FormHeading.{heading_keys, number_at}
-use Rattle.kd_look.specs.Order.{keys_given, order_answer, text_start}
+use Rattle.kd_look.specs.Groups.{KnownMessage, message_of}
+use Rattle.kd_look.specs.Order.{keys_given, order_answer, order_start, text_start}
+use Rattle.kd_look.specs.OrderHead.{key_line_of}
 use Rattle.kd_look.specs.Signs.{marks_end}
 use Rattle.kd_look.specs.declared.message.fault.MessageFault.{MessageFault}
 use Rattle.kd_look.specs.declared.message.form_heading.FormHeading.{FormHeading}
@@ -92,6 +96,19 @@ FaultlessOrdersAreSent =
     (s : Day) (form : KeyLine) (order : List ℕ) (start : ℕ) (answer : Result (List ℕ) FormFault)
     → HasKeyLineForm s form → order_answer order form ≡ Ok start → IsOrderAnswer s order answer
     → ((made : List ℕ) × (answer ≡ Ok made)) ⊎ IsRefusedByDay s order answer
+
+-- the group of a rotor machine's keys, as a list with one item; a Converter's keys have no group
+abbrev pub group_of_keys : Keys → List (List ℕ)
+group_of_keys (Rotor k) = k.group ∷ []
+group_of_keys (Pin k) = []
+
+-- If `look` finds no fault in an order, the groups that it names are the groups of the order's lines of keys: one for
+-- each line, in this order, and none for a Converter.
+abbrev pub OrderGroupsAreThoseOfKeys : Type 0
+OrderGroupsAreThoseOfKeys =
+    (s : Day) (order : List ℕ) (start : ℕ) (keys : List Keys) (head text : List ℕ)
+    → HasKeyLineForm s (key_line_of order) → order_start order ≡ Ok start → IsOrder s order keys head text
+    → message_of order ≡ Some (record { keys = key_line_of order; groups = flat_map group_of_keys keys })
 
 -- ---- Forms.
 

@@ -1,6 +1,7 @@
 //! Laws: this crate says of an order what `send` says of it, and of a form what `receive` says.
 ghost use Rattle.kd_look.specs.Laws.{FaultlessFormsAreReceived, FaultlessOrdersAreSent, FormFaultsAreThoseOfReceive};
 ghost use Rattle.kd_look.specs.Laws.{HeadFaultsAreThoseOfSend, HeadsEndWhereSendEndsThem, OrderFaultsAreThoseOfSend};
+ghost use Rattle.kd_look.specs.Laws.{OrderGroupsAreThoseOfKeys};
 
 /// For an order's head, this crate and `send` find the same end, or the same first wrong byte.
 ///
@@ -28,4 +29,11 @@ pub fn orders_are_judged_as_send_judges_them()
 pub fn forms_are_judged_as_receive_judges_them()
     ensures faults { FormFaultsAreThoseOfReceive }
     ensures faultless { FaultlessFormsAreReceived }
+{}
+
+/// The groups that this crate names for an order without a fault are the order's own.
+///
+/// Each line of keys gives its group, in the order of the lines. A Converter's order has no groups.
+pub fn groups_of_orders_are_those_of_their_keys()
+    ensures groups { OrderGroupsAreThoseOfKeys }
 {}
