@@ -254,11 +254,11 @@ test_first P true fault x next holds = holds
 test_first P false fault x next holds = holds
 
 -- the day's keys have the form that `look` takes the heading at `index` to have
-abbrev IsKeyed : Day → List ℕ → Option FormHeading → ℕ → Type 0
+abbrev pub IsKeyed : Day → List ℕ → Option FormHeading → ℕ → Type 0
 IsKeyed s text None index = (end : ℕ) → count_end text index ≡ Ok end → HasKeyLineForm s (heading_keys text end)
 IsKeyed s text (Some first) index = HasKeyLineForm s first.keys
 
-keys_known : (s : Day) (text : List ℕ) (first : Option FormHeading) (index : ℕ) → IsKeyed s text first index
+pub keys_known : (s : Day) (text : List ℕ) (first : Option FormHeading) (index : ℕ) → IsKeyed s text first index
     → (end : ℕ) → count_end text index ≡ Ok end
     → HasKeyLineForm s (keys_or (heading_keys text end) (option_map (λ heading. heading.keys) first))
 keys_known s text None index keyed end is = keyed end is
@@ -347,7 +347,7 @@ parts_known (Some f) number heading due =
     let tests = both_true (heading.part == number) (heading.parts == f.parts) due in
     (eqb-true heading.part number tests.0, eqb-true heading.parts f.parts tests.1)
 
-keyed_on : (s : Day) (text : List ℕ) (first : Option FormHeading) (index : ℕ) (heading : FormHeading)
+pub keyed_on : (s : Day) (text : List ℕ) (first : Option FormHeading) (index : ℕ) (heading : FormHeading)
     → IsKeyed s text first index → HasKeyLineForm s heading.keys → HasKeyLineForm s (first_or heading first).keys
 keyed_on s text None index heading keyed own = own
 keyed_on s text (Some first) index heading keyed own = keyed

@@ -49,7 +49,7 @@ pub with_ok : {A B F P : Type 0} (first : Result A F) (next : A → Result B F) 
 with_ok (Ok x) next is on = on x refl is
 with_ok (Err fault) next is on = absurd (cc)
 
-with_demand : {B F P : Type 0} (test : Bool) (fault : F) (next : Result B F) {y : B}
+pub with_demand : {B F P : Type 0} (test : Bool) (fault : F) (next : Result B F) {y : B}
     → (demand test fault >> next) ≡ Ok y → (test ≡ true → next ≡ Ok y → P) → P
 with_demand true fault next is on = on refl is
 with_demand false fault next is on = absurd (cc)

@@ -1,9 +1,8 @@
 -- The groups in an order's lines of keys: `look` finds each of them, and no others.
-use Rattle.std.proofs.Common.{◌≡◌, ◌≢◌, ◌∙◌, ℕ, zero, suc, ◌+◌, ◌-◌, ◌<◌, ◌≤◌, ◌==◌, ◌⊎◌, ◌&&◌, Bool, true, false, All}
+use Rattle.std.proofs.Common.{◌≡◌, ◌≢◌, ◌∙◌, ℕ, zero, suc, ◌+◌, ◌<◌, ◌≤◌, ◌==◌, ◌⊎◌, ◌&&◌, Bool, true, false, All}
 use Rattle.std.proofs.Common.{List, [], ◌∷◌, ◌++◌, Option, Some, None, Result, Ok, Err, ap, arith, codes, cond, drop}
 use Rattle.std.proofs.Common.{get_or, inl, inr, length, refl, subst, sym, take, nat_le, nat_eq, append_assoc}
-use Rattle.std.proofs.Common.{length-append, option_to_list}
-use Rattle.std.proofs.Math.{ListN.get_or-append}
+use Rattle.std.proofs.Common.{length-append}
 use Rattle.std.proofs.lemmas.Bool.{Decides.nat_tests, cases_Bool, cases_lt, eq-eqb}
 use Rattle.std.proofs.lemmas.List.{append-nil, length-take-le, drop_at, length-map, take_at}
 use Rattle.std.proofs.lemmas.List.Elements.{All-append, All-cons, All-head, All-map, All-tail}
@@ -17,12 +16,12 @@ use Rattle.kd_form.specs.declared.keys.Keys.{Keys}
 use Rattle.kd_form.specs.declared.keys.Keys.TheVariants.{Rotor, Pin}
 use Rattle.kd_form.specs.declared.keys.RotorKeys.{RotorKeys}
 use Rattle.kd_form.specs.Keys.{AreRotorKeys}
-use Rattle.kd_form.specs.Order.{BeginsWithKeys, IsLineWithEnd, IsOrder}
+use Rattle.kd_form.specs.Order.{BeginsWithKeys, IsLineWithEnd}
 use Rattle.kd_form.specs.Sending.{IsBytesAnswer}
 use Rattle.kd_form.proofs.OneOrder.{one_order}
 use Rattle.kd_findings.specs.NotToml.{column_at}
-use Rattle.kd_sheet.specs.Document.{◌>>=◌, ◌>>◌}
-use Rattle.kd_look.specs.Groups.{filler_column, form_message, group_of, letters_of, message_of, order_group}
+use Rattle.kd_sheet.specs.Document.{◌>>◌}
+use Rattle.kd_look.specs.Groups.{filler_column, form_message, group_of, letters_of, order_group}
 use Rattle.kd_look.specs.Groups.{order_groups, order_message, three_letters}
 use Rattle.kd_look.specs.Form.{form_answer}
 use Rattle.kd_look.specs.Laws.{HasHeadTo, HasKeyLineForm, OrderGroupsAreThoseOfKeys, group_of_keys}
@@ -308,7 +307,7 @@ no_form (Rotor s) form (Rotor k ∷ keys) order head text position same joined (
 
 -- -------- the law
 
-with_then : {B F P : Type 0} (first : Result (Unit {0}) F) (next : Result B F) {y : B} → (first >> next) ≡ Ok y
+pub with_then : {B F P : Type 0} (first : Result (Unit {0}) F) (next : Result B F) {y : B} → (first >> next) ≡ Ok y
     → ((x : Unit {0}) → first ≡ Ok x → next ≡ Ok y → P) → P
 with_then (Ok x) next is on = on x refl is
 with_then (Err fault) next is on = absurd (cc)

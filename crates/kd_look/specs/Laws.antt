@@ -1,15 +1,15 @@
 -- The statements of this crate's laws: `look` says of an order what `send` says, and of a form what
--- `receive` says, on a day for the same machine.
+-- `receive` says, on a day for the same machine. The groups that `look` names are the message's own.
 use Rattle.std.specs.Prelude.{codes, ◌≡◌, ◌⊎◌, ℕ, ◌+◌, ◌≤◌, List, Result, Ok, Err, IfOk, None, Contains, drop, length}
 use Rattle.std.specs.Prelude.{take, [], ◌∷◌, Some}
 use Rattle.std.specs.List.{flat_map}
-use Rattle.kd_state.specs.SheetDay.{Day, Rotor, Pin}
+use Rattle.kd_state.specs.SheetDay.{Day, PinDay, RotorDay, Rotor, Pin}
 use Rattle.kd_form.specs.declared.fault.FormFault.{FormFault}
 use Rattle.kd_form.specs.declared.fault.FormFault.TheVariants.{BadByte, IndicatorSpent, WrongGroup}
 use Rattle.kd_form.specs.declared.keys.Keys.{Keys}
 use Rattle.kd_form.specs.declared.keys.Keys.TheVariants.{Rotor, Pin}
 use Rattle.kd_form.specs.declared.heading.Heading.{Heading}
-use Rattle.kd_form.specs.BodyCipher.{IsLettersAnswer}
+use Rattle.kd_form.specs.BodyCipher.{IsLettersAnswer, group_of_body}
 use Rattle.kd_form.specs.FormParts.{parts_of}
 use Rattle.kd_form.specs.FormText.{IsFormAnswer}
 use Rattle.kd_form.specs.InTurn.{InTurn}
@@ -20,7 +20,7 @@ use Rattle.kd_form.specs.Sending.{IsOrderAnswer, letters_from}
 use Rattle.kd_sheet.specs.Document.{◌>>=◌}
 use Rattle.kd_look.specs.Form.{form_answer}
 use Rattle.kd_look.specs.FormHeading.{heading_keys, number_at}
-use Rattle.kd_look.specs.Groups.{KnownMessage, message_of}
+use Rattle.kd_look.specs.Groups.{message_of}
 use Rattle.kd_look.specs.Order.{keys_given, order_answer, order_start, text_start}
 use Rattle.kd_look.specs.OrderHead.{key_line_of}
 use Rattle.kd_look.specs.Signs.{marks_end}
@@ -154,3 +154,31 @@ FaultlessFormsAreReceived =
     (s : Day) (form : List ℕ) (first : FormHeading) (answer : Result (List ℕ) FormFault) → IsDayOfForm s form
     → form_answer form ≡ Ok first → IsFormAnswer s form answer
     → ((text : List ℕ) × (answer ≡ Ok text)) ⊎ IsRefusedForLetters s form answer
+
+-- `group` is the group in the body of `part`: the three letters after the two fillers.
+pub record HasGroup (s : Day) (part group : List ℕ) : Type 0 where
+  pub heading : Heading
+  pub body : List ℕ
+  pub headed : HasHeading s part heading body
+  pub is : group ≡ group_of_body (letters_from None body)
+
+-- `groups` are the groups in the bodies of `parts`: one for each part, in the order of the parts.
+abbrev pub AreGroupsOfParts : Day → List (List ℕ) → List (List ℕ) → Type 0
+AreGroupsOfParts s [] [] = Unit {0}
+AreGroupsOfParts s (part ∷ parts) (group ∷ groups) = HasGroup s part group × AreGroupsOfParts s parts groups
+AreGroupsOfParts s [] (group ∷ groups) = ⊥
+AreGroupsOfParts s (part ∷ parts) [] = ⊥
+
+-- If `look` finds no fault in a rotor machine's form, the groups that it names are the groups in the bodies of the
+-- form's parts.
+abbrev pub FormGroupsAreThoseOfBodies : Type 0
+FormGroupsAreThoseOfBodies =
+    (s : RotorDay) (form : List ℕ) (first : FormHeading) → IsDayOfForm (Rotor s) form → form_answer form ≡ Ok first
+    → (groups : List (List ℕ)) × (message_of form ≡ Some (record { keys = first.keys; groups = groups }))
+    × AreGroupsOfParts (Rotor s) (parts_of form) groups
+
+-- If `look` finds no fault in a Converter's form, it names no group.
+abbrev pub ConverterFormsHaveNoGroups : Type 0
+ConverterFormsHaveNoGroups =
+    (s : PinDay) (form : List ℕ) (first : FormHeading) → IsDayOfForm (Pin s) form → form_answer form ≡ Ok first
+    → message_of form ≡ Some (record { keys = lines.Converter; groups = [] })

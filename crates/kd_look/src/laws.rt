@@ -1,6 +1,8 @@
-//! Laws: this crate says of an order what `send` says of it, and of a form what `receive` says.
+//! Laws: this crate says of an order what `send` says of it, and of a form what `receive` says. The
+//! groups that this crate names are the message's own.
 ghost use Rattle.kd_look.specs.Laws.{FaultlessFormsAreReceived, FaultlessOrdersAreSent, FormFaultsAreThoseOfReceive};
 ghost use Rattle.kd_look.specs.Laws.{HeadFaultsAreThoseOfSend, HeadsEndWhereSendEndsThem, OrderFaultsAreThoseOfSend};
+ghost use Rattle.kd_look.specs.Laws.{ConverterFormsHaveNoGroups, FormGroupsAreThoseOfBodies};
 ghost use Rattle.kd_look.specs.Laws.{OrderGroupsAreThoseOfKeys};
 
 /// For an order's head, this crate and `send` find the same end, or the same first wrong byte.
@@ -36,4 +38,13 @@ pub fn forms_are_judged_as_receive_judges_them()
 /// Each line of keys gives its group, in the order of the lines. A Converter's order has no groups.
 pub fn groups_of_orders_are_those_of_their_keys()
     ensures groups { OrderGroupsAreThoseOfKeys }
+{}
+
+/// The groups that this crate names for a form without a fault are the form's own.
+///
+/// Each part gives the group in its body, in the order of the parts. A Converter's form has no
+/// groups.
+pub fn groups_of_forms_are_those_of_their_bodies()
+    ensures groups { FormGroupsAreThoseOfBodies }
+    ensures none { ConverterFormsHaveNoGroups }
 {}
