@@ -30,8 +30,9 @@ use Rattle.kd_sheet.specs.Document.{◌>>=◌, ◌>>◌, demand}
 use Rattle.kd_look.specs.Form.{body_end, body_signs, due_heading, first_or, form_answer, form_from, has_due_numbers}
 use Rattle.kd_look.specs.Form.{heading_fault, part_at}
 use Rattle.kd_look.specs.FormHeading.{heading_at, heading_keys, keys_or}
+use Rattle.kd_look.specs.FormShown.{IsShownPartAnswer}
 use Rattle.kd_look.specs.Laws.{FaultlessFormsAreReceived, FormFaultsAreThoseOfReceive, HasKeyLineForm, IsDayOfForm}
-use Rattle.kd_look.specs.Laws.{IsRefusedForLetters, count_end}
+use Rattle.kd_look.specs.Laws.{IsNextPart, IsRefusedForLetters, count_end}
 use Rattle.kd_look.specs.Signs.{wrong_sign}
 use Rattle.kd_look.specs.declared.message.fault.MessageFault.{MessageFault}
 use Rattle.kd_look.specs.declared.message.fault.Reason.TheVariants as reasons
@@ -54,6 +55,15 @@ HasOneAnswer-letters s part None letters = search (one_answers, one_internal_key
 
 HasOneAnswer-part : (s : Day) (p : PartStart) (part : List ℕ) → HasOneAnswer (IsPartAnswer s p part)
 HasOneAnswer-part s p part = search (one_answers, HasOneAnswer-content, HasOneAnswer-letters)
+
+-- a fault that shows without deciphering is the part's first fault
+shown_refused : (s : Day) (p : PartStart) (part : List ℕ) (fault : FormFault)
+    → IsShownPartAnswer s p part (Err fault) → IsPartAnswer s p part (Err fault)
+shown_refused s p part fault (HasFault other found is) =
+    let same : fault ≡ other = cc in HasFault other found (ap Err same)
+shown_refused s p part fault (GoesOn content found (HasFault other wrong is)) =
+    let same : fault ≡ other = cc in GoesOn content found (HasFault other (HasFault other wrong refl) (ap Err same))
+shown_refused s p part fault (GoesOn content found (GoesOn done counted is)) = absurd (cc)
 
 -- -------- the letters of a body
 
@@ -96,34 +106,35 @@ numbers_agree (Some f) number heading h part parts = (
 )
 
 -- the fault is one of the letters of the part `part`
-record IsLettersFault (s : Day) (part : List ℕ) (fault : FormFault) : Type 0 where
-  heading : Heading
-  body : List ℕ
-  headed : HasHeading s part heading body
-  found : IsLettersAnswer s heading.part heading.indicator (letters_from None body) (Err fault)
+pub record IsLettersFault (s : Day) (part : List ℕ) (fault : FormFault) : Type 0 where
+  pub heading : Heading
+  pub body : List ℕ
+  pub headed : HasHeading s part heading body
+  pub found : IsLettersAnswer s heading.part heading.indicator (letters_from None body) (Err fault)
 
 -- the answer for a part without another fault: its letters, or a fault of the letters
-abbrev IsLettersTold : Day → List ℕ → FormHeading → Result ReadPart FormFault → Type 0
+abbrev pub IsLettersTold : Day → List ℕ → FormHeading → Result ReadPart FormFault → Type 0
 IsLettersTold s part heading (Ok read) = read.parts ≡ heading.parts
 IsLettersTold s part heading (Err fault) = IsLettersFault s part fault
 
 module _ (s : Day) (text : List ℕ) (first : Option FormHeading) (number index : ℕ) (inside : index ≤ length text)
     (cut : IsPartCut text index (first_end text index)) where
-  abbrev place : PartStart
+  abbrev pub place : PartStart
   place = start_of number (option_map (λ heading. heading.parts) first) index
 
   -- A part without a fault for `look`.
-  record IsPartFaultless (read : FormPart) : Type 0 where
-    ends : read.end ≡ first_end text index
-    keyed : HasKeyLineForm s read.heading.keys
-    due : has_due_numbers first number read.heading ≡ true
-    few : read.heading.part ≤ 99
-    told : (answer : Result ReadPart FormFault) → IsPartAnswer s place cut.part answer
+  pub record IsPartFaultless (read : FormPart) : Type 0 where
+    pub ends : read.end ≡ first_end text index
+    pub keyed : HasKeyLineForm s read.heading.keys
+    pub due : has_due_numbers first number read.heading ≡ true
+    pub few : read.heading.part ≤ 99
+    pub shown : IsShownPartAnswer s place cut.part (Ok read.heading.parts)
+    pub told : (answer : Result ReadPart FormFault) → IsPartAnswer s place cut.part answer
         → IsLettersTold s cut.part read.heading answer
 
-  abbrev IsPartSeen : Result FormPart MessageFault → Type 0
+  abbrev pub IsPartSeen : Result FormPart MessageFault → Type 0
   IsPartSeen (Ok read) = IsPartFaultless read
-  IsPartSeen (Err found) = IsPartAnswer s place cut.part (Err found.fault)
+  IsPartSeen (Err found) = IsShownPartAnswer s place cut.part (Err found.fault)
 
   module _ (heading : FormHeading) (h : Heading)
       (agree : HeadingsAgree s (drop index text) heading h (drop heading.body text))
@@ -149,7 +160,7 @@ module _ (s : Day) (text : List ℕ) (first : Option FormHeading) (number index 
       content = record { heading = h; body = body }
 
       sign_refused : (fault : FormFault) → IsBytesAnswer (heading.body + 1) body (Err fault)
-          → IsPartAnswer s place cut.part (Err fault)
+          → IsShownPartAnswer s place cut.part (Err fault)
       sign_refused fault wrong =
           HasFault fault (GoesOn content has (GoesOn tt due (HasFault fault (rw position wrong) refl))) refl
 
@@ -158,10 +169,9 @@ module _ (s : Day) (text : List ℕ) (first : Option FormHeading) (number index 
         content_right = GoesOn content has (GoesOn tt due (GoesOn tt (rw position allowed) refl))
 
         count_refused : length (letters_from None body) ≢ h.letters
-            → IsPartAnswer s place cut.part (Err (CountWrong number))
+            → IsShownPartAnswer s place cut.part (Err (CountWrong number))
         count_refused other =
-            GoesOn content content_right (HasFault (CountWrong number)
-            (HasFault (CountWrong number) ((λ _ same. other same), refl) refl) refl)
+            GoesOn content content_right (HasFault (CountWrong number) ((λ _ same. other same), refl) refl)
 
         body_told : length (letters_from None body) ≡ h.letters → (answer : Result ReadPart FormFault)
             → ThenNext (IsBodyAnswer s number h (letters_from None body))
@@ -201,7 +211,14 @@ module _ (s : Day) (text : List ℕ) (first : Option FormHeading) (number index 
         count_stage true same right =
             let counted : length (letters_from None body) ≡ h.letters =
             capitals_agree body ∙ eqb-true (count_by is_capital body) heading.letters same ∙ sym agree.letters in
-            record { ends = refl; keyed = keyed; due = right; few = few; told = letters_told counted }
+            record {
+              ends = refl;
+              keyed = keyed;
+              due = right;
+              few = few;
+              shown = GoesOn content content_right (GoesOn tt counted (ap Ok (sym agree.parts)));
+              told = letters_told counted;
+            }
         count_stage false same right = count_refused (λ counted.
             let equal = eq-eqb (count_by is_capital body) heading.letters
             (sym (capitals_agree body) ∙ counted ∙ agree.letters) in false≢true (sym same ∙ equal))
@@ -241,7 +258,7 @@ module _ (s : Day) (text : List ℕ) (first : Option FormHeading) (number index 
         (numbers_agree first number heading h agree.part agree.parts).1 due))
       where
         GoesOn-fault : ¬ (HasDueNumbers number (option_map (λ heading. heading.parts) first) h)
-            → IsPartAnswer s place cut.part (Err PartOrder)
+            → IsShownPartAnswer s place cut.part (Err PartOrder)
         GoesOn-fault undue =
             HasFault PartOrder
             (GoesOn (record { heading = h; body = body }) has
@@ -302,44 +319,72 @@ module _ (s : Day) (text : List ℕ) (first : Option FormHeading) (number index 
       (omega (arith, read.in_order, read.few)) start.more ends (omega (arith, before, ends)) whole
       (has_due_numbers first number heading) refl)
 
-  part_seen : IsPartSeen s text first number index inside cut (part_at text first number index)
+  pub part_seen : IsPartSeen s text first number index inside cut (part_at text first number index)
   unfolding part_at due_heading
   part_seen = heading_stage (heading_at text (option_map (λ heading. heading.keys) first) index) refl
 
 -- -------- all parts
 
--- the answer is the fault of the letters of one of the parts
-record IsLettersRefusal (s : Day) (parts : List (List ℕ)) (answer : Result (Unit {0}) FormFault) : Type 0 where
+-- The answer is the fault of the letters of one of the parts of `all`. The parts before it, of which the first starts
+-- at `p`, are read.
+record IsLettersRefusal (s : Day) (all : List (List ℕ)) (p : PartStart) (parts : List (List ℕ))
+    (answer : Result (Unit {0}) FormFault) : Type 0 where
   part : List ℕ
   fault : FormFault
-  is_part : Contains parts part
+  is_part : Contains all part
+  letters : List ℕ
+  before : ReadsPartsTo s (IsNextPart part) p parts letters
   by : IsLettersFault s part fault
   answered : answer ≡ Err fault
 
--- what `look` says agrees with what `receive` answers
-abbrev IsTold : Day → List (List ℕ) → Result (Unit {0}) FormFault → Result FormHeading MessageFault → Type 0
-IsTold s parts answer (Ok first) = (answer ≡ Ok tt) ⊎ IsLettersRefusal s parts answer
-IsTold s parts answer (Err found) = (answer ≡ Err found.fault) ⊎ IsLettersRefusal s parts answer
+-- what `look` says of the parts agrees with what `receive` answers
+abbrev IsTold : Day → List (List ℕ) → PartStart → List (List ℕ) → Result (Unit {0}) FormFault
+    → Result FormHeading MessageFault → Type 0
+IsTold s all p parts answer (Ok first) = (answer ≡ Ok tt) ⊎ IsLettersRefusal s all p parts answer
+IsTold s all p parts answer (Err found) = (answer ≡ Err found.fault) ⊎ IsLettersRefusal s all p parts answer
 
-refused_told : (s : Day) (parts : List (List ℕ)) (answer : Result (Unit {0}) FormFault)
-    (seen : Result FormHeading MessageFault) → IsLettersRefusal s parts answer → IsTold s parts answer seen
-refused_told s parts answer (Ok first) by = inr by
-refused_told s parts answer (Err found) by = inr by
+refused_told : (s : Day) (all : List (List ℕ)) (p : PartStart) (parts : List (List ℕ))
+    (answer : Result (Unit {0}) FormFault) (seen : Result FormHeading MessageFault)
+    → IsLettersRefusal s all p parts answer → IsTold s all p parts answer seen
+refused_told s all p parts answer (Ok first) by = inr by
+refused_told s all p parts answer (Err found) by = inr by
+
+module _ (s : Day) (all : List (List ℕ)) (p : PartStart) (part : List ℕ) (parts : List (List ℕ))
+    (answer : Result (Unit {0}) FormFault) (read : ReadPart) (is : IsPartAnswer s p part (Ok read)) where
+  refused_later : IsLettersRefusal s all (next_part_start p read.parts part) parts answer
+      → IsLettersRefusal s all p (part ∷ parts) answer
+  refused_later by = record {
+    part = by.part;
+    fault = by.fault;
+    is_part = by.is_part;
+    letters = read.letters ++ by.letters;
+    before = inr (read, by.letters, is, by.before, refl);
+    by = by.by;
+    answered = by.answered;
+  }
+
+  -- what is told of the later parts is told from a part on that is read
+  told_later : (seen : Result FormHeading MessageFault)
+      → IsTold s all (next_part_start p read.parts part) parts answer seen → IsTold s all p (part ∷ parts) answer seen
+  told_later (Ok first) (inl same) = inl same
+  told_later (Ok first) (inr by) = inr (refused_later by)
+  told_later (Err found) (inl same) = inl same
+  told_later (Err found) (inr by) = inr (refused_later by)
 
 -- after the last part
-count_told : (s : Day) (parts : List (List ℕ)) (answer : Result (Unit {0}) FormFault) (number count length : ℕ)
-    (first : FormHeading) (right : Bool)
+count_told : (s : Day) (all : List (List ℕ)) (p : PartStart) (parts : List (List ℕ))
+    (answer : Result (Unit {0}) FormFault) (number count length : ℕ) (first : FormHeading) (right : Bool)
     → (count == number) ≡ right → Demands (number + 1 ≡ count + 1) PartOrder answer
-    → IsTold s parts answer (demand right (record { index = length; fault = PartOrder; reason = reasons.PartsMissing })
+    → IsTold s all p parts answer (demand right (record { index = length; fault = PartOrder; reason = reasons.PartsMissing })
     >> Ok first)
-count_told s parts (Ok done) number count length first true right is = inl refl
-count_told s parts (Err fault) number count length first true right (none, is) =
+count_told s all p parts (Ok done) number count length first true right is = inl refl
+count_told s all p parts (Err fault) number count length first true right (none, is) =
     let same = eqb-true count number right in absurd (none tt (ap (λ n. n + 1) (sym same)))
-count_told s parts (Ok done) number count length first false wrong is =
+count_told s all p parts (Ok done) number count length first false wrong is =
     let same : count ≡ number = omega (arith, is) in absurd (false≢true (sym wrong ∙ eq-eqb count number same))
-count_told s parts (Err fault) number count length first false wrong (none, is) = inl (ap Err is)
+count_told s all p parts (Err fault) number count length first false wrong (none, is) = inl (ap Err is)
 
-parts_known : (first : Option FormHeading) (number : ℕ) (heading : FormHeading)
+pub parts_known : (first : Option FormHeading) (number : ℕ) (heading : FormHeading)
     → has_due_numbers first number heading ≡ true
     → (heading.part ≡ number) × (heading.parts ≡ (first_or heading first).parts)
 parts_known None number heading due = (eqb-true heading.part number due, refl)
@@ -364,7 +409,8 @@ module _ (s : Day) (text : List ℕ) (all : List (List ℕ)) (answer : Result (U
       (later : (heading : FormHeading) (end : ℕ) (more : List ℕ) → end ≤ length text → number + 1 ≤ 100
       → HasKeyLineForm s heading.keys → cut.others ≡ parts_of (drop end text)
       → ReadsFrom (Some heading) (number + 1) end more
-      → IsTold s all answer (form_from text left (Some heading) (number + 1) end)) where
+      → IsTold s all (start_of (number + 1) (Some heading.parts) end) (parts_of (drop end text)) answer
+      (form_from text left (Some heading) (number + 1) end)) where
     abbrev start : PartStart
     start = start_of number (option_map (λ heading. heading.parts) first) index
 
@@ -372,7 +418,7 @@ module _ (s : Day) (text : List ℕ) (all : List (List ℕ)) (answer : Result (U
         → read.parts ≡ part.heading.parts → (more : List ℕ)
         → ReadsPartsTo s (IsAnswerAt s answer) (next_part_start start read.parts cut.part) cut.others more
         → (last : Bool) → (part.end == length text) ≡ last → IsAfterPart text cut.part (first_end text index) cut.others
-        → IsTold s all answer (if not last
+        → IsTold s all (next_part_start start read.parts cut.part) cut.others answer (if not last
         then form_from text left (Some (first_or part.heading first)) (number + 1) part.end
         else demand (part.heading.parts == number)
         (record { index = length text; fault = PartOrder; reason = reasons.PartsMissing })
@@ -384,7 +430,7 @@ module _ (s : Day) (text : List ℕ) (all : List (List ℕ)) (answer : Result (U
         rest in
         let (count, expected, right) = held in
         let counts : count ≡ part.heading.parts = cc (expected, same) in
-        count_told s all answer number part.heading.parts (length text) (first_or part.heading first)
+        count_told s all (next_part_start start read.parts cut.part) cut.others answer number part.heading.parts (length text) (first_or part.heading first)
         (part.heading.parts == number) refl (subst (λ n. Demands (number + 1 ≡ n + 1) PartOrder answer) counts right)
     after_part part faultless read same more rest false ended (Last at none) =
         absurd (false≢true (sym ended ∙ eq-eqb part.end (length text) (faultless.ends ∙ at)))
@@ -400,38 +446,48 @@ module _ (s : Day) (text : List ℕ) (all : List (List ℕ)) (answer : Result (U
         let place : next_part_start start read.parts cut.part
         ≡ start_of (number + 1) (Some (first_or part.heading first).parts) part.end =
         λ i. record { number = number + 1; expected = Some (counts i); bytes_before = end i } in
-        later (first_or part.heading first) part.end more (omega (arith, faultless.ends, less))
+        let seen = form_from text left (Some (first_or part.heading first)) (number + 1) part.end in
+        subst (λ others. IsTold s all (next_part_start start read.parts cut.part) others answer seen) (sym parts_left)
+        (subst (λ p. IsTold s all p (parts_of (drop part.end text)) answer seen) (sym place)
+        (later (first_or part.heading first) part.end more (omega (arith, faultless.ends, less))
         (omega (arith, numbered, faultless.few)) key parts_left
         (subst (λ p. ReadsPartsTo s (IsAnswerAt s answer) p (parts_of (drop part.end text)) more) place
         (subst (λ others. ReadsPartsTo s (IsAnswerAt s answer) (next_part_start start read.parts cut.part) others more)
-        parts_left rest))
+        parts_left rest))))
 
     part_told : (seen : Result FormPart MessageFault) → IsPartSeen s text first number index inside cut seen
         → ReadsPartsTo s (IsAnswerAt s answer) start (cut.part ∷ cut.others) letters
-        → IsTold s all answer (seen >>= (λ part. if not (part.end == length text)
+        → IsTold s all start (cut.part ∷ cut.others) answer (seen >>= (λ part. if not (part.end == length text)
         then form_from text left (Some (first_or part.heading first)) (number + 1) part.end
         else demand (part.heading.parts == number)
         (record { index = length text; fault = PartOrder; reason = reasons.PartsMissing })
         >> Ok (first_or part.heading first)))
     part_told (Err found) seen (inl ((fault, refused, is), nil)) =
-        let one = HasOneAnswer-part s start cut.part (Err fault) (Err found.fault) refused seen in inl (cc (is, one))
+        let right = shown_refused s start cut.part found.fault seen in
+        let one = HasOneAnswer-part s start cut.part (Err fault) (Err found.fault) refused right in inl (cc (is, one))
     part_told (Err found) seen (inr (read, more, is, rest, joined)) =
-        let clash = HasOneAnswer-part s start cut.part (Ok read) (Err found.fault) is seen in absurd (cc)
+        let right = shown_refused s start cut.part found.fault seen in
+        let clash = HasOneAnswer-part s start cut.part (Ok read) (Err found.fault) is right in absurd (cc)
     part_told (Ok part) faultless (inl ((fault, refused, is), nil)) =
-        refused_told s all answer _ (record {
+        refused_told s all start (cut.part ∷ cut.others) answer _ (record {
           part = cut.part;
           fault = fault;
           is_part = known cut.part (0, omega arith, refl);
+          letters = [];
+          before = inl ((cut.others, refl), refl);
           by = faultless.told (Err fault) refused;
           answered = is;
         })
     part_told (Ok part) faultless (inr (read, more, is, rest, joined)) =
-        after_part part faultless read (faultless.told (Ok read) is) more rest (part.end == length text) refl cut.after
+        told_later s all start cut.part cut.others answer read is _
+        (after_part part faultless read (faultless.told (Ok read) is) more rest (part.end == length text) refl cut.after)
 
   form_told : (left : ℕ) (first : Option FormHeading) (number index : ℕ) (letters : List ℕ) → index ≤ length text
       → left + number ≡ 101 → number ≤ 100 → IsKeyed s text first index
       → ((part : List ℕ) → Contains (parts_of (drop index text)) part → Contains all part)
-      → ReadsFrom first number index letters → IsTold s all answer (form_from text left first number index)
+      → ReadsFrom first number index letters
+      → IsTold s all (start_of number (option_map (λ heading. heading.parts) first) index) (parts_of (drop index text))
+      answer (form_from text left first number index)
   form_told zero first number index letters inside count few keyed known reads = absurd (omega (arith, count, few))
   form_told (suc left) first number index letters inside count few keyed known reads =
       let cut = cut_of text index inside in
@@ -439,33 +495,38 @@ module _ (s : Day) (text : List ℕ) (all : List (List ℕ)) (answer : Result (U
       as_parts (drop index text) cut.part cut.others cut.cut in
       let here : (part : List ℕ) → Contains (cut.part ∷ cut.others) part → Contains all part =
       λ part is. known part (subst (λ ps. Contains ps part) (sym parts) is) in
-      part_told left first number index letters inside cut keyed here
+      subst (λ ps. IsTold s all (start_of number (option_map (λ heading. heading.parts) first) index) ps answer
+      (form_from text (suc left) first number index)) (sym parts)
+      (part_told left first number index letters inside cut keyed here
       (λ heading end more within few key others rest. form_told left (Some heading) (number + 1) end more within
       (omega (arith, count)) few key
       (λ part is. here part (Contains-append_right (cut.part ∷ []) cut.others part
       (subst (λ ps. Contains ps part) (sym others) is))) rest)
       (part_at text first number index) (part_seen s text first number index inside cut keyed)
       (subst (λ ps. ReadsPartsTo s (IsAnswerAt s answer) (start_of number (option_map (λ heading. heading.parts) first)
-      index) ps letters) parts reads)
+      index) ps letters) parts reads))
 
 form_judged : (s : Day) (form : List ℕ) (answer : Result (Unit {0}) FormFault) (letters : List ℕ)
     (seen : Result FormHeading MessageFault) → IsDayOfForm s form → form_answer form ≡ seen
     → ReadsPartsTo s (IsAnswerAt s answer) first_part_start (parts_of form) letters
-    → IsTold s (parts_of form) answer seen
+    → IsTold s (parts_of form) first_part_start (parts_of form) answer seen
 form_judged s form answer letters seen day is reads =
-    subst (IsTold s (parts_of form) answer) is
+    subst (IsTold s (parts_of form) first_part_start (parts_of form) answer) is
     (form_told s form (parts_of form) answer 100 None 1 0 letters (omega arith) (omega arith) (omega arith)
     (λ end counted. subst (λ r. IfOk r (λ end. HasKeyLineForm s (heading_keys form end))) counted day)
     (λ part is. is) reads)
 
 refused_letters : (s : Day) (form : List ℕ) (fault : FormFault)
-    → IsLettersRefusal s (parts_of form) (Err fault) → IsRefusedForLetters s form (Err fault)
+    → IsLettersRefusal s (parts_of form) first_part_start (parts_of form) (Err fault)
+    → IsRefusedForLetters s form (Err fault)
 refused_letters s form fault refused = record {
   part = refused.part;
   heading = refused.by.heading;
   body = refused.by.body;
   fault = refused.fault;
   is_part = refused.is_part;
+  letters = refused.letters;
+  before = refused.before;
   headed = refused.by.headed;
   found = refused.by.found;
   answered = cc (refused.answered);

@@ -186,3 +186,19 @@ heading_there s text first index h rest inside has keyed =
     (tail_low h.indicator tail rest ends) bytes in
     heading_made s text first index h tail rest is ends numbers
     (keyed numbers.end (count_made s text first index h tail rest is ends numbers))
+
+-- The number of letters in a heading for `receive` is where `look` seeks it, and the indicator follows.
+pub count_there : (s : Day) (text : List ℕ) (index : ℕ) (h : Heading) (rest : List ℕ) → index ≤ length text
+    → HasHeading s (drop index text) h rest
+    → (end : ℕ) × (tail : List ℕ) × IsLineEnd tail rest × (count_end text index ≡ Ok end)
+    × (drop end text ≡ indicator_text h.indicator ++ tail)
+count_there s text index h rest inside has =
+    let (tail, joined, ends) = line_tail (drop index text) (line_of (heading_words h)) rest has.first in
+    let is = has.is_heading in
+    let bytes : drop index text ≡ heading_bytes h.part h.parts h.letters (indicator_text h.indicator ++ tail) =
+    joined ∙ words_bytes h.part h.parts h.letters h.indicator tail in
+    let numbers =
+    numbers_there text index h.part h.parts h.letters (indicator_text h.indicator ++ tail) inside is.number.first
+    is.number.in_order is.number.few (least_count s h.letters is.letters) (at_most s h.letters is.letters)
+    (tail_low h.indicator tail rest ends) bytes in
+    (numbers.end, tail, ends, count_made s text None index h tail rest is ends numbers, numbers.next)

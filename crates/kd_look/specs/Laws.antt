@@ -1,26 +1,28 @@
 -- The statements of this crate's laws: `look` says of an order what `send` says, and of a form what
 -- `receive` says, on a day for the same machine. The groups that `look` names are the message's own.
-use Rattle.std.specs.Prelude.{codes, ◌≡◌, ◌⊎◌, ℕ, ◌+◌, ◌≤◌, List, Result, Ok, Err, IfOk, None, Contains, drop, length}
-use Rattle.std.specs.Prelude.{take, [], ◌∷◌, Some}
+use Rattle.std.specs.Prelude.{codes, ◌≡◌, ◌⊎◌, ℕ, ◌+◌, ◌≤◌, ◌&&◌, List, Result, Ok, Err, IfOk, None, Contains, drop}
+use Rattle.std.specs.Prelude.{[], ◌∷◌, Some, length, take, true, false}
 use Rattle.std.specs.List.{flat_map}
-use Rattle.kd_state.specs.SheetDay.{Day, PinDay, RotorDay, Rotor, Pin}
+use Rattle.kd_state.specs.SheetDay.{Day, IsLegalDay, PinDay, RotorDay, Rotor, Pin}
 use Rattle.kd_form.specs.declared.fault.FormFault.{FormFault}
 use Rattle.kd_form.specs.declared.fault.FormFault.TheVariants.{BadByte, IndicatorSpent, WrongGroup}
 use Rattle.kd_form.specs.declared.keys.Keys.{Keys}
 use Rattle.kd_form.specs.declared.keys.Keys.TheVariants.{Rotor, Pin}
 use Rattle.kd_form.specs.declared.heading.Heading.{Heading}
 use Rattle.kd_form.specs.BodyCipher.{IsLettersAnswer, group_of_body}
-use Rattle.kd_form.specs.FormParts.{parts_of}
-use Rattle.kd_form.specs.FormText.{IsFormAnswer}
+use Rattle.kd_form.specs.FormParts.{begins_heading, parts_of}
+use Rattle.kd_form.specs.FormText.{IsFormAnswer, IsTextOf, PartsProperty, ReadsPartsTo, first_part_start}
 use Rattle.kd_form.specs.InTurn.{InTurn}
 use Rattle.kd_form.specs.Order.{IsOrder, IsOrderHeadFault}
 use Rattle.kd_form.specs.PartMaking.{IsKeysAnswer}
 use Rattle.kd_form.specs.PartReading.{HasHeading}
-use Rattle.kd_form.specs.Sending.{IsOrderAnswer, letters_from}
+use Rattle.kd_form.specs.Sending.{IsFormOf, IsOrderAnswer, letters_from}
 use Rattle.kd_sheet.specs.Document.{◌>>=◌}
 use Rattle.kd_look.specs.Form.{form_answer}
 use Rattle.kd_look.specs.FormHeading.{heading_keys, number_at}
+use Rattle.kd_look.specs.FormShown.{IsShownFormAnswer}
 use Rattle.kd_look.specs.Groups.{message_of}
+use Rattle.kd_look.specs.MessageWords.{is_form, is_message}
 use Rattle.kd_look.specs.Order.{keys_given, order_answer, order_start, text_start}
 use Rattle.kd_look.specs.OrderHead.{key_line_of}
 use Rattle.kd_look.specs.Signs.{marks_end}
@@ -127,14 +129,20 @@ count_end text index = do
 abbrev pub IsDayOfForm : Day → List ℕ → Type 0
 IsDayOfForm s form = IfOk (count_end form 0) (λ end. HasKeyLineForm s (heading_keys form end))
 
--- `answer` is the fault of the letters of one of the form's parts. Only the day shows this fault,
--- or the part's indicators.
+-- `part` is the first of the unread parts.
+abbrev pub IsNextPart : List ℕ → PartsProperty
+IsNextPart part p parts = (others : List (List ℕ)) × (parts ≡ part ∷ others)
+
+-- `answer` is the fault of the letters of one of the form's parts. All earlier parts are read without
+-- a fault, and `letters` are their letters. Only the day shows this fault, or the part's indicators.
 pub record IsRefusedForLetters (s : Day) (form : List ℕ) (answer : Result (List ℕ) FormFault) : Type 0 where
   pub part : List ℕ
   pub heading : Heading
   pub body : List ℕ
   pub fault : FormFault
   pub is_part : Contains (parts_of form) part
+  pub letters : List ℕ
+  pub before : ReadsPartsTo s (IsNextPart part) first_part_start (parts_of form) letters
   pub headed : HasHeading s part heading body
   pub found : IsLettersAnswer s heading.part heading.indicator (letters_from None body) (Err fault)
   pub answered : answer ≡ Err fault
@@ -182,3 +190,38 @@ abbrev pub ConverterFormsHaveNoGroups : Type 0
 ConverterFormsHaveNoGroups =
     (s : PinDay) (form : List ℕ) (first : FormHeading) → IsDayOfForm (Pin s) form → form_answer form ≡ Ok first
     → message_of form ≡ Some (record { keys = lines.Converter; groups = [] })
+
+-- what `look` says of a form: success, or the fault, without the fault's place and reason
+abbrev pub form_result : Result FormHeading MessageFault → Result (Unit {0}) FormFault
+form_result (Ok first) = Ok tt
+form_result (Err found) = Err found.fault
+
+-- `look` says of a form what `receive` would say if it didn't decipher the form's letters. So a fault of the letters
+-- makes no difference to what `look` says.
+abbrev pub FormsAreSeenWithoutLetters : Type 0
+FormsAreSeenWithoutLetters =
+    (s : Day) (form : List ℕ) → IsDayOfForm s form → IsShownFormAnswer s form (form_result (form_answer form))
+
+-- ---- The machine that a message is for.
+
+-- If `send` makes a form of an order, `look` takes the order for the day's machine.
+abbrev pub OrdersAreForTheirMachine : Type 0
+OrdersAreForTheirMachine =
+    (s : Day) (order form : List ℕ) → IsLegalDay s → IsFormOf s order form → HasKeyLineForm s (key_line_of order)
+
+-- If `receive` reads a form, the form's first heading shows the day's machine. `look` takes the form for this machine.
+abbrev pub FormsAreForTheirMachine : Type 0
+FormsAreForTheirMachine =
+    (s : Day) (form text : List ℕ) → IsLegalDay s → IsTextOf s form text
+    → IsDayOfForm s form × ((first : FormHeading) × (form_answer form ≡ Ok first) × HasKeyLineForm s first.keys)
+
+-- ---- The kind of a message: an order, or a form.
+
+-- `look` takes a text for a form exactly if the text begins as a heading line does.
+abbrev pub FormsBeginWithHeadings : Type 0
+FormsBeginWithHeadings = (text : List ℕ) → (is_message text && is_form text) ≡ begins_heading text
+
+-- If `send` makes a form of an order, `look` takes the order for an order.
+abbrev pub OrdersAreNoForms : Type 0
+OrdersAreNoForms =
+    (s : Day) (order form : List ℕ) → IsFormOf s order form → (is_message order ≡ true) × (is_form order ≡ false)

@@ -2,6 +2,7 @@ pub mod FaultWords
 pub mod File
 pub mod Form
 pub mod FormHeading
+pub mod FormShown
 pub mod GroupDays
 pub mod Groups
 pub mod Laws

@@ -1,6 +1,8 @@
 //! Laws: this crate says of an order what `send` says of it, and of a form what `receive` says. The
 //! groups that this crate names are the message's own.
 ghost use Rattle.kd_look.specs.Laws.{FaultlessFormsAreReceived, FaultlessOrdersAreSent, FormFaultsAreThoseOfReceive};
+ghost use Rattle.kd_look.specs.Laws.{FormsAreForTheirMachine, FormsBeginWithHeadings, OrdersAreForTheirMachine};
+ghost use Rattle.kd_look.specs.Laws.{FormsAreSeenWithoutLetters, OrdersAreNoForms};
 ghost use Rattle.kd_look.specs.Laws.{HeadFaultsAreThoseOfSend, HeadsEndWhereSendEndsThem, OrderFaultsAreThoseOfSend};
 ghost use Rattle.kd_look.specs.Laws.{ConverterFormsHaveNoGroups, FormGroupsAreThoseOfBodies};
 ghost use Rattle.kd_look.specs.Laws.{OrderGroupsAreThoseOfKeys};
@@ -47,4 +49,28 @@ pub fn groups_of_orders_are_those_of_their_keys()
 pub fn groups_of_forms_are_those_of_their_bodies()
     ensures groups { FormGroupsAreThoseOfBodies }
     ensures none { ConverterFormsHaveNoGroups }
+{}
+
+/// This crate says of a form what `receive` would say if it didn't decipher the form's letters.
+///
+/// So the law says which fault this crate names, even in a form whose letters have a fault.
+pub fn forms_are_judged_without_their_letters()
+    ensures { FormsAreSeenWithoutLetters }
+{}
+
+/// This crate takes a message for the right machine.
+///
+/// If `send` makes a form of an order on a day, or `receive` reads a form on a day, this machine is
+/// the day's.
+pub fn messages_are_taken_for_their_machine()
+    ensures orders { OrdersAreForTheirMachine }
+    ensures forms { FormsAreForTheirMachine }
+{}
+
+/// This crate takes a text for a form exactly if the text begins as a heading line does.
+///
+/// If `send` makes a form of an order, this crate takes the order for an order.
+pub fn messages_are_taken_for_their_kind()
+    ensures forms { FormsBeginWithHeadings }
+    ensures orders { OrdersAreNoForms }
 {}
