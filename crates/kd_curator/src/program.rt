@@ -113,9 +113,11 @@ fn run_to_file<'n, F: Files<'n>, N: NewFiles, E: Sink>(
 ) -> u8
     requires meant { IsMeantBySome (unborrowed_command request.command) }
     requires asked { F.asked files.old ≡ [] }
-    ensures { (words : List (List ℕ)) → IsCommandLineOf words (unborrowed_command request.entry.command)
+    ensures { (words : List (List ℕ))
+        → IsCommandLineOf words (unborrowed_command request.entry.command)
         → EndsWithFile request.entry.language words (F.known files.old) (F.asked files.new)
-        (N.held new_files.old) (N.held new_files.new) name.now (names_of (unborrowed_command request.entry.command))
+        (N.held new_files.old) (N.held new_files.new) name.now
+        (names_of (unborrowed_command request.entry.command))
         (port E.taken E.has_failed errors.old errors.new) result }
 {
     let names = names_of(&request.command);
@@ -168,7 +170,8 @@ fn run_gathering<'n, F: Files<'n>, N: NewFiles, W: Sink + Drop, E: Sink>(
 ) -> (Result<(), Stop>, W)
     requires meant { IsMeantBySome (unborrowed_command request.command) }
     requires asked { F.asked files.old ≡ [] }
-    ensures { (words : List (List ℕ)) → IsCommandLineOf words (unborrowed_command request.entry.command)
+    ensures { (words : List (List ℕ))
+        → IsCommandLineOf words (unborrowed_command request.entry.command)
         → (left : List ℕ) × IsRun request.entry.language words (F.known files.old) (F.asked files.new)
         (port_with_untaken W.taken W.has_failed sink result.1 left) (result.1 ≡ sink)
         (port E.taken E.has_failed errors.old errors.new) left result.0 }
@@ -190,12 +193,14 @@ fn run_command<'n, F: Files<'n>, N: NewFiles, W: Sink, E: Sink>(
 ) -> Result<(), Stop>
     requires meant { IsMeantBySome (unborrowed_command request.command) }
     requires asked { F.asked files.old ≡ [] }
-    ensures carried { (words : List (List ℕ)) → IsCommandLineOf words (unborrowed_command request.entry.command)
+    ensures carried { (words : List (List ℕ))
+        → IsCommandLineOf words (unborrowed_command request.entry.command)
         → CarriesOut request.entry.language words (F.known files.old) (F.asked files.new)
         (port W.taken W.has_failed sink.old sink.new) [] result }
     ensures untouched { IsTrue (is_stopped_before_writing result) → sink.new ≡ sink.old }
     ensures failed { W.has_failed sink.new ≡ (W.has_failed sink.old || is_stopped_by_device result) }
-    ensures noted { (words : List (List ℕ)) → IsCommandLineOf words (unborrowed_command request.entry.command)
+    ensures noted { (words : List (List ℕ))
+        → IsCommandLineOf words (unborrowed_command request.entry.command)
         → HasNotes words (F.asked files.new) (port E.taken E.has_failed errors.old errors.new) }
 {
     let Request { language, command } = request;

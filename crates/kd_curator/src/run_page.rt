@@ -37,7 +37,8 @@ pub fn run_page<W: Sink>(
     sink: &mut W,
 ) -> Result<(), Refused>
     ensures pages { IsAnswerOnSheet machine.now sheet.entry.bytes.now
-        (λ m month. WritesPages language sheet.entry.name.now month m (wanted_days days (model_of m) month)
+        (λ m month. WritesPages language sheet.entry.name.now month m
+        (wanted_days days (model_of m) month)
         (port W.taken W.has_failed sink.old sink.new) result) result }
     ensures untouched { IsErr result → is_device result ≡ false → sink.new ≡ sink.old }
     ensures failed { W.has_failed sink.new ≡ (W.has_failed sink.old || is_device result) }

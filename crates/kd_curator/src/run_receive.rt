@@ -32,7 +32,8 @@ pub fn run_receive<W: Sink, E: Sink>(
     errors: &mut E,
 ) -> Result<(), Refused>
     ensures page { IsAnswerOnSheet files.entry.machine.now files.entry.sheet.now
-        (λ m month. WritesReceivePage options.results options.language (day_of month files.entry.number) m form.now
+        (λ m month. WritesReceivePage options.results options.language
+        (day_of month files.entry.number) m form.now
         (port W.taken W.has_failed sink.old sink.new) result) result }
     ensures untouched { IsErr result → has_written result ≡ false → sink.new ≡ sink.old }
     ensures failed { W.has_failed sink.new ≡ (W.has_failed sink.old || is_device result) }
@@ -58,8 +59,9 @@ fn write_form<W: Sink, E: Sink>(
     sink: &mut W,
     errors: &mut E,
 ) -> Result<(), Refused>
-    ensures page { WritesReceivePage options.results options.language (option_copied day.entry) machine.now
-        form.now (port W.taken W.has_failed sink.old sink.new) result }
+    ensures page { WritesReceivePage options.results options.language
+        (option_copied day.entry) machine.now form.now
+        (port W.taken W.has_failed sink.old sink.new) result }
     ensures untouched { IsErr result → has_written result ≡ false → sink.new ≡ sink.old }
     ensures failed { W.has_failed sink.new ≡ (W.has_failed sink.old || is_device result) }
     ensures told { TellsOfForm options.language (option_copied day.entry) machine.now form.now

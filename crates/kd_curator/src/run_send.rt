@@ -27,7 +27,8 @@ pub fn run_send<W: Sink>(
     sink: &mut W,
 ) -> Result<(), Refused>
     ensures page { IsAnswerOnSheet files.entry.machine.now files.entry.sheet.now
-        (λ m month. WritesSendPage options.results options.language (day_of month files.entry.number) m order.now
+        (λ m month. WritesSendPage options.results options.language
+        (day_of month files.entry.number) m order.now
         (port W.taken W.has_failed sink.old sink.new) result) result }
     ensures untouched { IsErr result → is_device result ≡ false → sink.new ≡ sink.old }
     ensures failed { W.has_failed sink.new ≡ (W.has_failed sink.old || is_device result) }
