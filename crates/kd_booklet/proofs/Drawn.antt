@@ -3,7 +3,7 @@ use Rattle.std.proofs.Common.{◌≡◌, ℕ, List, [], ◌∷◌, ◌++◌, Opt
 use Rattle.std.proofs.Common.{arith, length}
 use Rattle.kd_page.specs.DayPage.{day_text}
 use Rattle.kd_page.specs.Page.{page_of}
-use Rattle.kd_pictures.specs.declared.language.Language.{Language}
+use Rattle.kd_language.specs.declared.language.Language.{Language}
 use Rattle.kd_state.specs.declared.machine.parts.Parts.{Parts}
 use Rattle.kd_state.specs.declared.setting.Setting.{Setting}
 use Rattle.kd_state.specs.declared.setting.why.IllegalAt.{IllegalAt}

@@ -5,7 +5,7 @@ use Rattle.kd_page.specs.DayPage.{day_text}
 use Rattle.kd_page.specs.Head.{file_text}
 use Rattle.kd_page.specs.Page.{page_of}
 use Rattle.kd_page.specs.declared.head.ListedDay.{ListedDay}
-use Rattle.kd_pictures.specs.declared.language.Language.{Language}
+use Rattle.kd_language.specs.declared.language.Language.{Language}
 use Rattle.kd_state.specs.declared.machine.parts.Parts.{Parts}
 use Rattle.kd_state.specs.Machine.{model_of}
 use Rattle.kd_state.specs.Setting.{Leads}

@@ -9,7 +9,7 @@ use Rattle.kd_host.specs.Ending.{EndsWithLine}
 use Rattle.kd_host.specs.Files.{AskedName}
 use Rattle.kd_new_file.specs.NewFiles.{AddsFile, FilesByName}
 use Rattle.kd_new_file.specs.declared.new_file_fault.NewFileFault.{NewFileFault}
-use Rattle.kd_pictures.specs.declared.language.Language.{Language}
+use Rattle.kd_language.specs.declared.language.Language.{Language}
 use Rattle.kd_curator_command.specs.CommandLine.{IsNoCommandLine, curator_grammar}
 use Rattle.kd_curator.specs.Ending.{EndsAs, stop_after}
 use Rattle.kd_curator.specs.OutputFile.{Discarded, EndsFile, EndsWithFile, IsRunToFile, IsWhyUnwritten, Published, Unwritten, unwritten_line}

@@ -28,7 +28,7 @@ use Rattle.kd_look.specs.declared.outcome.Outcome.{Outcome}
 use Rattle.kd_tables.specs.Writing.{Writes}
 use Rattle.kd_curator.specs.Sheets.{MakesSheet, Sheet, Faulty, NoMemory as NoSheetMemory}
 use Rattle.kd_spreadsheet.specs.Options.{OptionTexts}
-use Rattle.kd_pictures.specs.declared.language.Language.{Language}
+use Rattle.kd_language.specs.declared.language.Language.{Language}
 use Rattle.kd_pictures.specs.declared.results.Results.{Results}
 use Rattle.kd_curator_command.specs.CommandLine.{NamedCommand}
 use Rattle.kd_curator_command.specs.declared.command.Command.TheVariants as commands

@@ -8,7 +8,7 @@ use Rattle.kd_pictures.specs.Drawing.{Draws}
 use Rattle.kd_state.specs.declared.machine.parts.Parts.{Parts}
 use Rattle.kd_state.specs.SheetDay.{Day}
 use Rattle.kd_form.specs.OnTheKey.{IsReadyOnKey}
-use Rattle.kd_pictures.specs.declared.language.Language.{Language}
+use Rattle.kd_language.specs.declared.language.Language.{Language}
 use Rattle.kd_pictures.specs.declared.results.Results.{Results}
 use Rattle.kd_lost.specs.declared.form.DamagedFormFault.{DamagedFormFault}
 use Rattle.kd_lost.specs.declared.form.DamagedFormFault.TheVariants.{NoMemory, TooManyParts}

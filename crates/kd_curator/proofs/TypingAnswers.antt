@@ -4,7 +4,7 @@ use Rattle.kd_tables.specs.Ports.{port}
 use Rattle.kd_state.specs.TwoCiphers.{IsReady}
 use Rattle.kd_state.specs.declared.machine.parts.Parts.{Parts}
 use Rattle.kd_pictures.specs.Drawing.{Draws}
-use Rattle.kd_pictures.specs.declared.language.Language.{Language}
+use Rattle.kd_language.specs.declared.language.Language.{Language}
 use Rattle.kd_pictures.proofs.Drawings.{writes_part}
 use Rattle.kd_typing.specs.MachineTable.{TypesAsMachine}
 use Rattle.kd_typing_page.specs.TypingPage.{typing_page}

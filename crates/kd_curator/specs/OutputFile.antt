@@ -11,7 +11,7 @@ use Rattle.kd_host.specs.Files.{AskedName}
 use Rattle.kd_new_file.specs.NewFiles.{AddsFile, FilesByName, IsWhyNotBegun, IsWhyUnnamed}
 use Rattle.kd_new_file.specs.declared.new_file_fault.NewFileFault.{NewFileFault}
 use Rattle.kd_new_file.specs.declared.new_file_fault.NewFileFault.TheVariants as new_files
-use Rattle.kd_pictures.specs.declared.language.Language.{Language}
+use Rattle.kd_language.specs.declared.language.Language.{Language}
 use Rattle.kd_curator_command.specs.CommandLine.{IsCommandLineOf, IsNoCommandLine, NamedCommand, output_of}
 use Rattle.kd_curator.specs.Ending.{EndsAs, memory_stop}
 use Rattle.kd_curator.specs.Files.{names_of}

@@ -5,7 +5,7 @@ use Rattle.kd_state.specs.declared.machine.parts.Parts.{Parts}
 use Rattle.kd_state.specs.SheetDay.{Day}
 use Rattle.kd_sheet.specs.Sheet.{day_of}
 use Rattle.kd_host.specs.Writing.{WritesText}
-use Rattle.kd_pictures.specs.declared.language.Language.{Language}
+use Rattle.kd_language.specs.declared.language.Language.{Language}
 use Rattle.kd_pictures.specs.declared.results.Results.{Results}
 use Rattle.kd_message.specs.SendBooklet.{CanBeSent, IsFirstRefusal, IsSendBooklet, OrderText}
 use Rattle.kd_message.specs.declared.booklet.OrderFault.{OrderFault}

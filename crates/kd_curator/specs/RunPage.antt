@@ -9,7 +9,7 @@ use Rattle.kd_state.specs.Machine.{model_of}
 use Rattle.kd_state.specs.SheetDay.{Day}
 use Rattle.kd_host.specs.Writing.{WritesText}
 use Rattle.kd_sheet.specs.Sheet.{has_day_of}
-use Rattle.kd_pictures.specs.declared.language.Language.{Language}
+use Rattle.kd_language.specs.declared.language.Language.{Language}
 use Rattle.kd_booklet.specs.Booklet.{IsBooklet}
 use Rattle.kd_booklet.specs.Chain.{ArePlanned, IsFirstFault}
 use Rattle.kd_booklet.specs.declared.day_plan.DayPlan.{DayPlan}

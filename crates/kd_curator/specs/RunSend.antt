@@ -7,7 +7,7 @@ use Rattle.kd_host.specs.Writing.{WritesText}
 use Rattle.kd_form.specs.OnTheKey.{IsReadyOnKey}
 use Rattle.kd_form.specs.Sending.{IsFormOf}
 use Rattle.kd_form.specs.declared.fault.FormFault.{FormFault}
-use Rattle.kd_pictures.specs.declared.language.Language.{Language}
+use Rattle.kd_language.specs.declared.language.Language.{Language}
 use Rattle.kd_pictures.specs.declared.results.Results.{Results}
 use Rattle.kd_message.specs.SendPage.{IsSendPage, IsSendRefusal}
 use Rattle.kd_curator.specs.Refusals.{refused_device, refused_message, refused_whole}

@@ -6,7 +6,7 @@ use Rattle.kd_state.specs.declared.machine.parts.Parts.{Parts}
 use Rattle.kd_state.specs.TwoCiphers.{IsReady}
 use Rattle.kd_form.specs.declared.fault.FormFault.TheVariants.{NotReady}
 use Rattle.kd_host.specs.Writing.{WritesText}
-use Rattle.kd_pictures.specs.declared.language.Language.{Language}
+use Rattle.kd_language.specs.declared.language.Language.{Language}
 use Rattle.kd_typing.specs.MachineTable.{TypesAsMachine}
 use Rattle.kd_typing_page.specs.TypingPage.{typing_page}
 use Rattle.kd_curator.specs.Refusals.{refused_device, refused_message}

@@ -5,7 +5,7 @@ ghost use Rattle.std.specs.Io.KnownBytes.{Keeps, append_known};
 ghost use Rattle.kd_tables.specs.Ports.{port};
 ghost use Rattle.kd_host.specs.Writing.{WritesText};
 ghost use Rattle.kd_curator_command.specs.CommandLine.{HasNoCommand, IsCommandLineOf, unborrowed_command};
-ghost use Rattle.kd_pictures.specs.declared.language.Language.{Language};
+ghost use Rattle.kd_language.specs.declared.language.Language.{Language};
 ghost use Rattle.kd_new_file.specs.NewFiles.{AddsFile, FilesByName};
 ghost use Rattle.kd_curator.specs.OutputFile.{EndsFile, EndsWithFile, GoesToSink, IsMeantBySome, RunsTo};
 ghost use Rattle.kd_curator.specs.Ending.{blame_of};

@@ -22,7 +22,7 @@ use Rattle.kd_tables.specs.declared.direction.Direction.{Direction}
 use Rattle.kd_tables.specs.declared.direction.Direction.TheVariants as directions
 use Rattle.kd_curator_command.specs.Locale.{language_code}
 use Rattle.kd_curator_command.specs.declared.command.MessageTask.{MessageTask}
-use Rattle.kd_pictures.specs.declared.language.Language.{Language}
+use Rattle.kd_language.specs.declared.language.Language.{Language}
 use Rattle.kd_spreadsheet.specs.Options.{OptionTexts}
 use Rattle.kd_curator_command.specs.CommandLine.{IsMonthNamed, are_blank, option_text, option_texts}
 use Rattle.kd_tables.specs.declared.model.Model.{Model}

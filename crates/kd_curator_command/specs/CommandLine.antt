@@ -14,7 +14,7 @@ use Rattle.clap.specs.Simple.{new_shape, with_subcommand}
 use Rattle.kd_state.specs.SheetDay.{IsDayNumber}
 use Rattle.kd_curator_command.specs.Days.{AreDays}
 use Rattle.kd_curator_command.specs.Locale.{language_code}
-use Rattle.kd_pictures.specs.declared.language.Language.{Language}
+use Rattle.kd_language.specs.declared.language.Language.{Language}
 use Rattle.kd_pictures.specs.declared.results.Results.{Results}
 use Rattle.kd_pictures.specs.declared.results.Results.TheVariants.{LeftOpen, Shown}
 use Rattle.clap.specs.declared.builder.action.ArgAction.TheVariants.{Append, SetTrue}

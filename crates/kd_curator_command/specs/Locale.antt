@@ -2,8 +2,8 @@
 -- Test: tests/page-refusals
 use Rattle.std.specs.Prelude.{codes, ℕ, nat_eq, List, if◌then◌else◌}
 use Rattle.std.specs.List.{starts_with}
-use Rattle.kd_pictures.specs.declared.language.Language.{Language}
-use Rattle.kd_pictures.specs.declared.language.Language.TheVariants.{English, German}
+use Rattle.kd_language.specs.declared.language.Language.{Language}
+use Rattle.kd_language.specs.declared.language.Language.TheVariants.{English, German}
 
 -- The language for a locale, for example `de_DE.UTF-8`. If the locale begins with `de`, the language is German,
 -- otherwise English.

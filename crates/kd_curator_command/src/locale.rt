@@ -2,7 +2,7 @@
 ghost use Rattle.std.specs.Prelude.{◌≡◌, ◌≢◌, IfSome};
 ghost use Rattle.kd_curator_command.specs.Locale.{language_code, language_of};
 
-use kd_pictures::Language;
+use kd_language::Language;
 
 /// The language for a locale, which is the value of the environment variable `LANG`. If the locale begins with `de`,
 /// the language is German, otherwise English.

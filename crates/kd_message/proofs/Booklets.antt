@@ -6,7 +6,7 @@ use Rattle.std.proofs.lemmas.List.Elements.{All-cons, All-head, All-nil, All-tai
 use Rattle.kd_state.specs.SheetDay.{Day}
 use Rattle.kd_pictures.specs.Drawing.{Draws}
 use Rattle.kd_pictures.proofs.Drawings.{both}
-use Rattle.kd_pictures.specs.declared.language.Language.{Language}
+use Rattle.kd_language.specs.declared.language.Language.{Language}
 use Rattle.kd_pictures.specs.declared.results.Results.{Results}
 use Rattle.kd_message.specs.declared.booklet.OrderFault.{OrderFault}
 use Rattle.kd_message.specs.declared.booklet.OrderFile.{OrderFile}

@@ -19,7 +19,7 @@ use Rattle.kd_lost.specs.DamagedForm.{AreReadOf, IsReadAs, IsReadOf, PlacedPart,
 use Rattle.kd_lost.proofs.Counting.{numbers_given}
 use Rattle.kd_lost.proofs.CompletedParts.{read_somehow}
 use Rattle.kd_lost.specs.DamagedPart.{AreNumbersRead, IsDamagedHeading, IsDamagedTextAnswer, first_line}
-use Rattle.kd_pictures.specs.declared.language.Language.{Language}
+use Rattle.kd_language.specs.declared.language.Language.{Language}
 use Rattle.kd_part_sheet.specs.declared.part_sheet.PartName.{PartName}
 use Rattle.kd_pictures.specs.declared.results.Results.TheVariants.{Shown}
 use Rattle.kd_message.specs.declared.receiving.Section.TheVariants as sections

@@ -20,7 +20,7 @@ use Rattle.kd_lost.specs.DamagedPart.{IsDamagedTextAnswer}
 use Rattle.kd_lost.specs.DamagedText.{AreTextKeys}
 use Rattle.kd_lost.proofs.CompletedParts.{read_somehow}
 use Rattle.kd_lost.proofs.PartShown.{shown_there}
-use Rattle.kd_pictures.specs.declared.language.Language.{Language}
+use Rattle.kd_language.specs.declared.language.Language.{Language}
 use Rattle.kd_message.specs.ReceivedWork.{AreShowable}
 use Rattle.kd_lost.specs.Texts.{text_or}
 use Rattle.kd_pictures.specs.declared.results.Results.{Results}

@@ -21,7 +21,7 @@ use Rattle.kd_form.proofs.MadeParts.{size_some}
 use Rattle.kd_form.proofs.OneOrder.{all_of_the_day, one_order, orders_have_one_answer}
 use Rattle.kd_pictures.specs.Drawing.{Draws}
 use Rattle.kd_pictures.proofs.Drawings.{both}
-use Rattle.kd_pictures.specs.declared.language.Language.{Language}
+use Rattle.kd_language.specs.declared.language.Language.{Language}
 use Rattle.kd_part_sheet.specs.PartWork.{IsWork, Work}
 use Rattle.kd_part_sheet.specs.Rows.{pieces}
 use Rattle.kd_part_sheet.proofs.Pieces.{pieces-next, pieces-none}

@@ -17,7 +17,7 @@ use Rattle.kd_part_sheet.specs.Cells.{received_cells}
 use Rattle.kd_part_sheet.specs.LettersAfter.{letters_after}
 use Rattle.kd_part_sheet.specs.declared.part_sheet.PartName.{PartName}
 use Rattle.kd_pictures.specs.declared.results.Results.TheVariants.{Shown}
-use Rattle.kd_pictures.specs.declared.language.Language.{Language}
+use Rattle.kd_language.specs.declared.language.Language.{Language}
 use Rattle.kd_message.specs.declared.texts.TheConstants.{TEXT_END}
 use Rattle.kd_message.specs.ReceivePage.{receive_text, sheet_to_receive}
 use Rattle.kd_lost.specs.OneMessage.{letters_agree}

@@ -5,9 +5,9 @@ use Rattle.kd_tables.specs.declared.model.Model.{Model}
 use Rattle.kd_tables.specs.declared.model.Model.TheVariants as models
 use Rattle.kd_lost.specs.declared.part.DamagedPart.{DamagedPart}
 use Rattle.kd_state.specs.SheetDay.{Day, day_model, day_number}
-use Rattle.kd_pictures.specs.declared.language.Language.{Language}
-use Rattle.kd_pictures.specs.Language.{text_in}
-use Rattle.kd_pictures.specs.Template.{filled}
+use Rattle.kd_language.specs.declared.language.Language.{Language}
+use Rattle.kd_language.specs.Language.{text_in}
+use Rattle.kd_language.specs.Template.{filled}
 use Rattle.kd_pictures.specs.Words.{model_name}
 use Rattle.kd_part_sheet.specs.declared.markup.TheConstants.{SECTION_END}
 use Rattle.kd_message.specs.declared.texts.TheConstants as texts

@@ -15,9 +15,9 @@ use Rattle.kd_lost.specs.declared.form.DamagedFormFault.TheVariants as form_faul
 use Rattle.kd_lost.specs.declared.part.{DamagedPart.{DamagedPart}, PartNumbers.{PartNumbers}}
 use Rattle.kd_lost.specs.DamagedForm.{AreFormParts, IsFormFault, damaged_parts_of}
 use Rattle.kd_pictures.specs.declared.texts.TheConstants.{FOOT}
-use Rattle.kd_pictures.specs.declared.language.Language.{Language}
-use Rattle.kd_pictures.specs.Language.{text_in}
-use Rattle.kd_pictures.specs.Template.{filled}
+use Rattle.kd_language.specs.declared.language.Language.{Language}
+use Rattle.kd_language.specs.Language.{text_in}
+use Rattle.kd_language.specs.Template.{filled}
 use Rattle.kd_pictures.specs.Words.{is_converter}
 use Rattle.kd_part_sheet.specs.declared.markup.TheConstants.{SECTION_END}
 use Rattle.kd_part_sheet.specs.declared.part_sheet.PartName.{PartName}

@@ -10,10 +10,10 @@ use Rattle.kd_form.specs.OnTheKey.{IsReadyOnKey}
 use Rattle.kd_form.specs.Sending.{IsFormOf}
 use Rattle.kd_form.specs.Streams.{IsUntouched}
 use Rattle.kd_pictures.specs.declared.texts.TheConstants as page_texts
-use Rattle.kd_pictures.specs.declared.language.Language.{Language}
-use Rattle.kd_pictures.specs.Language.{text_in}
+use Rattle.kd_language.specs.declared.language.Language.{Language}
+use Rattle.kd_language.specs.Language.{text_in}
 use Rattle.kd_pictures.specs.SheetName.{sheet_name}
-use Rattle.kd_pictures.specs.Template.{filled}
+use Rattle.kd_language.specs.Template.{filled}
 use Rattle.kd_pictures.specs.Words.{model_name}
 use Rattle.kd_pictures.specs.declared.results.Results.{Results}
 use Rattle.kd_message.specs.declared.booklet.OrderFault.{OrderFault}

@@ -16,10 +16,10 @@ use Rattle.kd_form.specs.PartMaking.{IsKeysAnswer, IsPartMade, part_size}
 use Rattle.kd_form.specs.Sending.{IsFormOf, IsReadAnswer, IsSendFault, OrderParts, text_letters}
 use Rattle.kd_form.specs.Streams.{IsUntouched}
 use Rattle.kd_pictures.specs.declared.texts.TheConstants as page_texts
-use Rattle.kd_pictures.specs.declared.language.Language.{Language}
+use Rattle.kd_language.specs.declared.language.Language.{Language}
 use Rattle.kd_pictures.specs.FileHead.{file_head}
-use Rattle.kd_pictures.specs.Language.{text_in}
-use Rattle.kd_pictures.specs.Template.{filled}
+use Rattle.kd_language.specs.Language.{text_in}
+use Rattle.kd_language.specs.Template.{filled}
 use Rattle.kd_pictures.specs.Words.{is_converter, model_name}
 use Rattle.kd_tables.specs.declared.model.Model.{Model}
 use Rattle.kd_part_sheet.specs.declared.part_sheet.PartName.{PartName}

@@ -16,9 +16,9 @@ use Rattle.kd_lost.specs.declared.short_line.ShortLine.{ShortLine}
 use Rattle.kd_lost.specs.declared.wrong_sign.WrongSign.{WrongSign}
 use Rattle.kd_lost.specs.ByCount.{heading_count, part_line}
 use Rattle.kd_lost.specs.DamagedForm.{shown_byte}
-use Rattle.kd_pictures.specs.declared.language.Language.{Language}
-use Rattle.kd_pictures.specs.Language.{text_in}
-use Rattle.kd_pictures.specs.Template.{filled}
+use Rattle.kd_language.specs.declared.language.Language.{Language}
+use Rattle.kd_language.specs.Language.{text_in}
+use Rattle.kd_language.specs.Template.{filled}
 use Rattle.kd_pictures.specs.Words.{is_converter, model_name}
 use Rattle.kd_part_sheet.specs.declared.markup.TheConstants.{COMMA}
 use Rattle.kd_part_sheet.specs.declared.part_sheet.PartName.{PartName}

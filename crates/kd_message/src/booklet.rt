@@ -12,10 +12,11 @@ use crate::texts::{
     ARTICLE_END, LISTED_ORDER, LISTED_ORDER_END, ORDER_NAME_END, ORDER_PAGE, ORDERS, TITLE_TO_SEND,
 };
 use kd_form::{FormFault, send};
+use kd_language::Language;
+use kd_pictures::draw;
 use kd_pictures::sheet_name::draw_sheet_name;
 use kd_pictures::template::{Value, fill, fill_in};
 use kd_pictures::texts::{FOOT, NAV_END};
-use kd_pictures::{Language, draw};
 use kd_state::{Machine, SheetDay};
 use kd_tables::{Sink, WriteFault};
 use std::alloc::Global;

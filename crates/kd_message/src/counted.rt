@@ -10,10 +10,11 @@ use crate::texts::{
     REASON_END, SHORT_GROUP, SHORT_GROUP_END,
 };
 use crate::unread::{draw_count_asked, draw_counts, draw_line_words};
+use kd_language::Language;
 use kd_lost::{DamagedPart, DamagedText, PartDamage};
 use kd_part_sheet::part_sheet::PartPage;
 use kd_pictures::template::{Value, fill_in};
-use kd_pictures::{Language, draw, draw_in};
+use kd_pictures::{draw, draw_in};
 use kd_state::SheetDay;
 use kd_tables::Sink;
 

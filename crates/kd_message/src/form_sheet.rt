@@ -12,10 +12,11 @@ use crate::texts::{
     FORM_NUMBER, FORM_PART, FORM_PIN_NOTE, FORM_ROTOR_NOTE, OPEN_LETTER,
 };
 use kd_form::heading::Indicator;
+use kd_language::Language;
 use kd_part_sheet::cutting::first_piece;
 use kd_part_sheet::part_sheet::PartName;
 use kd_pictures::template::{Value, draw_letters, fill, fill_in};
-use kd_pictures::{Language, Results, draw, draw_in};
+use kd_pictures::{Results, draw, draw_in};
 use kd_state::SheetDay;
 use kd_tables::{Letter, Sink};
 

@@ -6,9 +6,10 @@ ghost use Rattle.kd_message.specs.TextSheet.{group_words, groups_words, has_lost
 
 use crate::text_sheet::draw_count;
 use crate::texts::{GROUP, GROUPS, TO_GROUP};
+use kd_language::Language;
 use kd_part_sheet::cutting::first_piece;
 use kd_part_sheet::markup::COMMA;
-use kd_pictures::{Language, draw, draw_in};
+use kd_pictures::{draw, draw_in};
 use kd_tables::{Letter, Sink};
 
 /// Whether one of the letters is lost.

@@ -12,10 +12,11 @@ use crate::texts::{
     UNREAD,
 };
 use crate::unread::draw_heading_fault;
+use kd_language::Language;
 use kd_lost::DamagedPart;
 use kd_part_sheet::markup::SECTION_END;
 use kd_pictures::template::{Value, fill_in};
-use kd_pictures::{Language, draw, draw_in};
+use kd_pictures::{draw, draw_in};
 use kd_state::SheetDay;
 use kd_tables::{Model, Sink};
 

@@ -13,10 +13,11 @@ use crate::texts::{
     NOTE_OTHER_DAY, NOTE_PART, NOTE_SEVERAL,
 };
 use crate::unread::{draw_asked, draw_count_asked, draw_reason};
+use kd_language::Language;
 use kd_lost::{DamagedPart, DamagedText, GroupTest, PartDamage, is_one_message, is_wrong_day};
 use kd_part_sheet::part_sheet::PartName;
 use kd_pictures::template::{Value, fill_in};
-use kd_pictures::{Language, draw, draw_in};
+use kd_pictures::{draw, draw_in};
 use kd_tables::{Letter, Model, Sink};
 
 /// Writes the note that the parts aren't of one message. If the parts are of one message, writes nothing.

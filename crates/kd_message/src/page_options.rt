@@ -1,5 +1,6 @@
 //! `PageOptions`: how the page of a message is written.
-use kd_pictures::{Language, Results};
+use kd_language::Language;
+use kd_pictures::Results;
 
 /// How the page of a message is written: in which language, and whether with the results.
 #[derive(Clone, Copy)]

@@ -27,6 +27,7 @@ use crate::text_sheet::{
 };
 use crate::texts::{ARTICLE_END, LIST_END_WITH_TEXT, LISTED_UNREAD, TITLE_TO_RECEIVE};
 use crate::unread::{draw_damage, draw_missing};
+use kd_language::Language;
 use kd_lost::{
     DamagedFormFault, DamagedPart, DamagedText, PartNumbers, is_any_read, is_one_message, is_whole,
     read_damaged_form, shown_text, shown_under, times_of, total_of,
@@ -37,7 +38,7 @@ use kd_part_sheet::sheet::Sheet;
 use kd_pictures::template::{Value, fill_in};
 use kd_pictures::texts::FOOT;
 use kd_pictures::words::is_converter;
-use kd_pictures::{Language, Results, draw, draw_in};
+use kd_pictures::{Results, draw, draw_in};
 use kd_state::SheetDay;
 use kd_tables::{Model, Sink, WriteFault};
 use std::alloc::Global;

@@ -18,6 +18,7 @@ use crate::texts::{
 };
 use itoa::Buffer;
 use kd_form::text_bytes::space_letter;
+use kd_language::Language;
 use kd_lost::{
     DamagedPart, DamagedText, GroupTest, LostCopies, PartNumbers, are_in_order, is_one_message,
     is_wrong_day,
@@ -26,7 +27,7 @@ use kd_part_sheet::markup::{COMMA, LOST_LETTER, SPACE};
 use kd_part_sheet::part_sheet::{PartName, PartPage, Warnings, draw_warnings};
 use kd_pictures::template::{Value, draw_letter, fill_in};
 use kd_pictures::words::is_converter;
-use kd_pictures::{Language, Results, draw, draw_in};
+use kd_pictures::{Results, draw, draw_in};
 use kd_state::SheetDay;
 use kd_tables::{Letter, Model, Sink};
 

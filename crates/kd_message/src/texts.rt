@@ -1,7 +1,7 @@
 //! The fixed texts of a message's pages, except the texts of the parts' sheets. Texts with words are in English and in
 //! German.
 
-use kd_pictures::texts::Text;
+use kd_language::Text;
 
 /// The title of the page for sending. The next text is the title of the page for receiving. The values are the model
 /// and the day.

@@ -19,11 +19,12 @@ use crate::texts::{
     NO_INTERNAL_KEY, NO_LETTER, REASON_END, THIS_SIGN, UNREAD,
 };
 use itoa::Buffer;
+use kd_language::Language;
 use kd_lost::{DamagedPart, PartDamage, PartNumbers, ShortLine, WrongSign, part_line};
 use kd_part_sheet::markup::COMMA;
 use kd_part_sheet::part_sheet::{PartName, PartPage, draw_warnings};
 use kd_pictures::template::{Value, fill_in};
-use kd_pictures::{Language, draw, draw_in};
+use kd_pictures::{draw, draw_in};
 use kd_tables::{Letter, Sink};
 
 /// Writes that a part didn't come.

@@ -1,9 +1,9 @@
 -- The whole file of the pages.
 use Rattle.std.proofs.Common.{◌≡◌, ℕ, List, ◌∷◌, refl}
 use Rattle.kd_tables.specs.declared.model.Model.{Model}
-use Rattle.kd_pictures.specs.declared.language.Language.{Language}
+use Rattle.kd_language.specs.declared.language.Language.{Language}
 unfoldable use Rattle.kd_pictures.specs.FileHead.{file_head}
-unfoldable use Rattle.kd_pictures.specs.Template.{filled}
+unfoldable use Rattle.kd_language.specs.Template.{filled}
 use Rattle.kd_page.specs.declared.head.ListedDay.{ListedDay}
 unfoldable use Rattle.kd_page.specs.Head.{file_text, head_text}
 

@@ -9,7 +9,7 @@ use Rattle.kd_state.specs.declared.machine.parts.Parts.{Parts}
 use Rattle.kd_state.specs.declared.machine.parts.Parts.TheVariants.{Pin, Rotor}
 use Rattle.kd_state.specs.declared.setting.Setting.{Setting}
 use Rattle.kd_state.specs.Machine.{IsMachine, model_of}
-use Rattle.kd_pictures.specs.declared.language.Language.{Language}
+use Rattle.kd_language.specs.declared.language.Language.{Language}
 use Rattle.kd_pictures.specs.Words.{is_converter}
 use Rattle.kd_page.specs.declared.spots.Step.TheVariants.{Lugs, Turns}
 use Rattle.kd_page.specs.Boxes.{box_text}

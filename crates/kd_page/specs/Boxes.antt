@@ -14,7 +14,7 @@ use Rattle.kd_state.specs.declared.setting.Setting.{Setting}
 use Rattle.kd_state.specs.declared.setting.Setting.TheVariants as settings
 use Rattle.kd_state.specs.Line.{setting_line}
 use Rattle.kd_state.specs.Machine.{machine_ring, machine_standing, model_of}
-use Rattle.kd_pictures.specs.declared.language.Language.{Language}
+use Rattle.kd_language.specs.declared.language.Language.{Language}
 use Rattle.kd_pictures.specs.declared.numbers.TheConstants.{SLOTS}
 use Rattle.kd_page.specs.declared.spots.Spot.{Spot}
 use Rattle.kd_pictures.specs.declared.words.Word.{Word}
@@ -23,10 +23,11 @@ use Rattle.kd_pictures.specs.declared.words.Mark.{Mark}
 use Rattle.kd_pictures.specs.declared.words.Mark.TheVariants.{Effective, Ineffective}
 use Rattle.kd_pictures.specs.declared.texts.TheConstants.{BOX_RING, LUG, LUG_END, LUG_FROM, PIN, PLUG, REFLECTOR, RING, SEAT, SEAT_END, SEAT_FROM}
 use Rattle.kd_pictures.specs.declared.texts.TheConstants.{TURN}
-use Rattle.kd_pictures.specs.Language.{text_in}
+use Rattle.kd_language.specs.Language.{text_in}
 use Rattle.kd_page.specs.Page.{Page}
 use Rattle.kd_page.specs.Spots.{is_at}
-use Rattle.kd_pictures.specs.Template.{filled, letter_text, ordinal_text}
+use Rattle.kd_language.specs.Template.{filled}
+use Rattle.kd_pictures.specs.Template.{letter_text, ordinal_text}
 use Rattle.kd_pictures.specs.Wheels.{is_seated}
 use Rattle.kd_pictures.specs.Words.{mark_text, word_text}
 

@@ -1,15 +1,16 @@
 -- The text of a day's page.
 use Rattle.std.specs.Prelude.{decimal, ℕ, ◌==◌, if◌then◌else◌, List, [], ◌∷◌, ◌++◌, length}
 use Rattle.kd_state.specs.Machine.{model_of}
-use Rattle.kd_pictures.specs.declared.language.Language.{Language}
+use Rattle.kd_language.specs.declared.language.Language.{Language}
 use Rattle.kd_pictures.specs.declared.words.Mark.TheVariants.{LugLeaves, LugStays}
 use Rattle.kd_pictures.specs.declared.texts.TheConstants as texts
-use Rattle.kd_pictures.specs.Language.{text_in}
+use Rattle.kd_language.specs.Language.{text_in}
 use Rattle.kd_page.specs.Drum.{lugs_step}
 use Rattle.kd_page.specs.Page.{Page}
 use Rattle.kd_page.specs.Pins.{pins_step}
 use Rattle.kd_page.specs.PlugSteps.{in_step, out_step}
-use Rattle.kd_pictures.specs.Template.{count_text, filled}
+use Rattle.kd_language.specs.Template.{filled}
+use Rattle.kd_pictures.specs.Template.{count_text}
 use Rattle.kd_page.specs.Steps.{page_title}
 use Rattle.kd_page.specs.Test.{test_step}
 use Rattle.kd_pictures.specs.Wheels.{both_bands, one_band}

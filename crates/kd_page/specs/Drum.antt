@@ -9,17 +9,17 @@ use Rattle.kd_state.specs.Machine.{machine_standing}
 use Rattle.kd_state.specs.Setting.{is_same_place}
 use Rattle.kd_pictures.specs.declared.numbers.TheConstants.{BARS}
 use Rattle.kd_page.specs.declared.spots.Step.TheVariants.{Lugs}
-use Rattle.kd_pictures.specs.declared.language.Language.{Language}
+use Rattle.kd_language.specs.declared.language.Language.{Language}
 use Rattle.kd_pictures.specs.declared.words.Mark.{Mark}
 use Rattle.kd_pictures.specs.declared.words.Mark.TheVariants.{LugComes, LugLeaves, LugStays}
 use Rattle.kd_pictures.specs.declared.words.Word.TheVariants as words
 use Rattle.kd_pictures.specs.declared.texts.TheConstants as texts
-use Rattle.kd_pictures.specs.Language.{text_in}
+use Rattle.kd_language.specs.Language.{text_in}
 use Rattle.kd_page.specs.Boxes.{boxes_at}
 use Rattle.kd_page.specs.Page.{Page}
 use Rattle.kd_page.specs.Spots.{count_at, row_spot, step_spot}
 use Rattle.kd_page.specs.Steps.{step_text}
-use Rattle.kd_pictures.specs.Template.{filled}
+use Rattle.kd_language.specs.Template.{filled}
 use Rattle.kd_pictures.specs.Words.{mark_text}
 
 abbrev pub has_lug : Place × Place → Place → Bool

@@ -1,11 +1,12 @@
 -- The head and the foot of a file with the pages of one or more days, in language `l`.
 use Rattle.std.specs.Prelude.{decimal, ℕ, List, [], ◌∷◌, ◌++◌, flat_map}
 use Rattle.kd_tables.specs.declared.model.Model.{Model}
-use Rattle.kd_pictures.specs.declared.language.Language.{Language}
+use Rattle.kd_language.specs.declared.language.Language.{Language}
 use Rattle.kd_pictures.specs.FileHead.{file_head}
-use Rattle.kd_pictures.specs.Language.{text_in}
+use Rattle.kd_language.specs.Language.{text_in}
 use Rattle.kd_pictures.specs.SheetName.{sheet_name}
-use Rattle.kd_pictures.specs.Template.{count_text, filled}
+use Rattle.kd_language.specs.Template.{filled}
+use Rattle.kd_pictures.specs.Template.{count_text}
 use Rattle.kd_pictures.specs.Words.{model_name}
 use Rattle.kd_page.specs.declared.head.ListedDay.{ListedDay}
 use Rattle.kd_pictures.specs.declared.texts.TheConstants.{BODY, FOOT, NAV, NAV_DAY, NAV_END, NAV_LIST, STYLE}

@@ -9,16 +9,17 @@ use Rattle.kd_state.specs.Machine.{machine_pin}
 use Rattle.kd_pictures.specs.declared.numbers.TheConstants.{PIN_WHEELS}
 use Rattle.kd_page.specs.declared.spots.Spot.{Spot}
 use Rattle.kd_page.specs.declared.spots.Step.TheVariants.{Pins}
-use Rattle.kd_pictures.specs.declared.language.Language.{Language}
+use Rattle.kd_language.specs.declared.language.Language.{Language}
 use Rattle.kd_pictures.specs.declared.words.Mark.TheVariants.{Effective, Ineffective}
 use Rattle.kd_pictures.specs.declared.words.Word.TheVariants as words
 use Rattle.kd_pictures.specs.declared.texts.TheConstants as texts
-use Rattle.kd_pictures.specs.Language.{text_in}
+use Rattle.kd_language.specs.Language.{text_in}
 use Rattle.kd_page.specs.Boxes.{boxes_at, pin_mark}
 use Rattle.kd_page.specs.Page.{Page}
 use Rattle.kd_page.specs.Spots.{count_at, row_spot, step_spot}
 use Rattle.kd_page.specs.Steps.{step_text}
-use Rattle.kd_pictures.specs.Template.{count_text, filled, letter_text}
+use Rattle.kd_language.specs.Template.{filled}
+use Rattle.kd_pictures.specs.Template.{count_text, letter_text}
 use Rattle.kd_pictures.specs.Words.{mark_text}
 
 abbrev pub pin_spot : ℕ → ℕ → Spot

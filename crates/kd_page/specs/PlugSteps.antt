@@ -7,12 +7,12 @@ use Rattle.kd_page.specs.declared.spots.Step.TheVariants.{PlugsIn, PlugsOut}
 use Rattle.kd_pictures.specs.declared.words.Word.TheVariants as words
 use Rattle.kd_pictures.specs.declared.texts.TheConstants as texts
 use Rattle.kd_pictures.specs.Board.{board_text, has_cables}
-use Rattle.kd_pictures.specs.Language.{text_in}
+use Rattle.kd_language.specs.Language.{text_in}
 use Rattle.kd_page.specs.Boxes.{boxes_at}
 use Rattle.kd_page.specs.Page.{Page}
 use Rattle.kd_page.specs.Spots.{count_at, row_spot, step_spot}
 use Rattle.kd_page.specs.Steps.{idle_text, step_text}
-use Rattle.kd_pictures.specs.Template.{filled}
+use Rattle.kd_language.specs.Template.{filled}
 
 -- the row of a cable, with the checkboxes for its plugs
 abbrev pub moving_row : Page → Step → ℕ → List ℕ

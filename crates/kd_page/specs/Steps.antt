@@ -1,7 +1,7 @@
 -- The title of a page, the heads of its steps, and lists of checkboxes.
 use Rattle.std.specs.Prelude.{ℕ, ◌==◌, if◌then◌else◌, List, [], ◌∷◌, ◌++◌}
 use Rattle.kd_state.specs.Machine.{model_of}
-use Rattle.kd_pictures.specs.declared.language.Language.{Language}
+use Rattle.kd_language.specs.declared.language.Language.{Language}
 use Rattle.kd_page.specs.declared.spots.Step.{Step}
 use Rattle.kd_pictures.specs.declared.words.Word.{Word}
 use Rattle.kd_pictures.specs.declared.texts.TheConstants.{IDLE_STEP, LIST, LIST_END, PLAIN_STEP, STEP, STEP_TITLED}
@@ -9,7 +9,8 @@ use Rattle.kd_page.specs.Boxes.{boxes_at}
 use Rattle.kd_page.specs.Head.{day_title}
 use Rattle.kd_page.specs.Page.{Page}
 use Rattle.kd_page.specs.Spots.{step_spot}
-use Rattle.kd_pictures.specs.Template.{count_text, filled}
+use Rattle.kd_language.specs.Template.{filled}
+use Rattle.kd_pictures.specs.Template.{count_text}
 use Rattle.kd_pictures.specs.Words.{word_text}
 
 -- the title of the page; it is repeated in the heads of the page's steps

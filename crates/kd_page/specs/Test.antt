@@ -10,15 +10,16 @@ use Rattle.kd_state.specs.declared.setting.Setting.{Setting}
 use Rattle.kd_state.specs.Machine.{model_of}
 use Rattle.kd_state.specs.TwoCiphers.{physical_cipher}
 use Rattle.kd_pictures.specs.declared.numbers.TheConstants.{LATER_WHEELS}
-use Rattle.kd_pictures.specs.declared.language.Language.{Language}
+use Rattle.kd_language.specs.declared.language.Language.{Language}
 use Rattle.kd_pictures.specs.declared.words.Word.{Word}
 use Rattle.kd_pictures.specs.declared.words.Word.TheVariants as words
 use Rattle.kd_pictures.specs.declared.texts.TheConstants as texts
-use Rattle.kd_pictures.specs.Language.{text_in}
+use Rattle.kd_language.specs.Language.{text_in}
 use Rattle.kd_page.specs.Page.{Page}
 use Rattle.kd_page.specs.Steps.{plain_step_text}
 use Rattle.kd_pictures.specs.Fives.{fives_from}
-use Rattle.kd_pictures.specs.Template.{count_text, filled, letter_text, ordinal_text}
+use Rattle.kd_language.specs.Template.{filled}
+use Rattle.kd_pictures.specs.Template.{count_text, letter_text, ordinal_text}
 use Rattle.kd_page.specs.Windows.{letter_shown}
 use Rattle.kd_pictures.specs.Words.{is_converter}
 

@@ -9,12 +9,13 @@ use Rattle.kd_tables.specs.Tables.{reflector_text, wheel_text}
 use Rattle.kd_state.specs.declared.machine.parts.Parts.{Parts}
 use Rattle.kd_state.specs.Machine.{machine_reflector, machine_ring, machine_slot}
 use Rattle.kd_state.specs.SameParts.{same_reflector}
-use Rattle.kd_pictures.specs.declared.language.Language.{Language}
+use Rattle.kd_language.specs.declared.language.Language.{Language}
 use Rattle.kd_pictures.specs.declared.numbers.TheConstants.{SLOTS}
 use Rattle.kd_pictures.specs.declared.texts.TheConstants.{BOX_AFTER, BOX_WHEEL, BOXED, BOXED_END, BOXED_REFLECTOR, BOXED_WHEEL}
 use Rattle.kd_pictures.specs.declared.words.Word.TheVariants as words
-use Rattle.kd_pictures.specs.Language.{text_in}
-use Rattle.kd_pictures.specs.Template.{filled, letter_text, ordinal_text}
+use Rattle.kd_language.specs.Language.{text_in}
+use Rattle.kd_language.specs.Template.{filled}
+use Rattle.kd_pictures.specs.Template.{letter_text, ordinal_text}
 use Rattle.kd_page.specs.declared.spots.Step.TheVariants.{Rings, Seats}
 use Rattle.kd_page.specs.Boxes.{slot_holding}
 use Rattle.kd_page.specs.Page.{Page}

@@ -7,12 +7,13 @@ use Rattle.kd_pictures.specs.declared.numbers.TheConstants.{PIN_WHEELS, SLOTS}
 use Rattle.kd_page.specs.declared.spots.Step.TheVariants.{Turns}
 use Rattle.kd_pictures.specs.declared.words.Word.TheVariants as words
 use Rattle.kd_pictures.specs.declared.texts.TheConstants as texts
-use Rattle.kd_pictures.specs.Language.{text_in}
+use Rattle.kd_language.specs.Language.{text_in}
 use Rattle.kd_page.specs.Boxes.{boxes_at}
 use Rattle.kd_page.specs.Page.{Page}
 use Rattle.kd_page.specs.Spots.{count_at, row_spot, step_spot}
 use Rattle.kd_page.specs.Steps.{full_step_text}
-use Rattle.kd_pictures.specs.Template.{filled, letter_text, ordinal_text}
+use Rattle.kd_language.specs.Template.{filled}
+use Rattle.kd_pictures.specs.Template.{letter_text, ordinal_text}
 
 -- The letter in the window of a slot. `None` if the slot is empty, or the machine has no slot with this number.
 abbrev pub letter_in_slot : Parts → ℕ → Option ℕ

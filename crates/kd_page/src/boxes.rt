@@ -10,7 +10,7 @@ ghost use Rattle.kd_pictures.specs.declared.numbers.TheConstants.{SLOTS as ALL_S
 
 use crate::page::Page;
 use crate::spots::{Spot, is_at};
-use kd_pictures::Language;
+use kd_language::Language;
 use kd_pictures::numbers::SLOTS;
 use kd_pictures::template::{Value, fill, fill_in};
 use kd_pictures::texts::{

@@ -12,11 +12,12 @@ use crate::steps::draw_page_title;
 use crate::test::draw_test_step;
 use crate::wheel_steps::{draw_rings_in_box, draw_rings_step, draw_seats_step};
 use crate::windows::{draw_letters_step, draw_windows_step};
+use kd_language::Language;
+use kd_pictures::draw;
 use kd_pictures::template::{Value, fill, fill_in};
 use kd_pictures::texts::{BOX_BEFORE, COMPARE_PIN, DAY, DAY_END, DAY_TITLED};
 use kd_pictures::wheels::{draw_both, draw_one};
 use kd_pictures::words::{Mark, is_converter};
-use kd_pictures::{Language, draw};
 use kd_tables::Sink;
 
 /// Writes a day's page: its head, its steps, and the test.

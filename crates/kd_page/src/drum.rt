@@ -10,13 +10,14 @@ use crate::boxes::draw_boxes;
 use crate::page::Page;
 use crate::spots::Step;
 use crate::steps::draw_step;
+use kd_language::Language;
+use kd_pictures::draw;
 use kd_pictures::numbers::BARS;
 use kd_pictures::template::{Value, fill, fill_in};
 use kd_pictures::texts::{
     BAR, BOXES, DRUM, DRUM_END, MARKED_LUG, NO_BOXES, NO_LUG, ONE_BOX, SET_BAR,
 };
 use kd_pictures::words::{Mark, Word};
-use kd_pictures::{Language, draw};
 use kd_tables::{Place, Sink, Standing};
 
 pub(crate) fn draw_lugs_step<W: Sink>(sink: &mut W, page: &Page<'_>)

@@ -5,13 +5,14 @@ ghost use Rattle.kd_page.specs.Head.{day_title, days_title, head_text, last_of, 
 ghost use Rattle.kd_page.specs.Head.{nav_text, title_text};
 ghost use Rattle.kd_pictures.specs.declared.texts.TheConstants.{FOOT as FOOT_TEXT};
 
+use kd_language::Language;
 use kd_pictures::file_head::draw_file_head;
 use kd_pictures::sheet_name::draw_sheet_name;
 use kd_pictures::template::{Value, fill_in};
 use kd_pictures::texts::{
     BODY, FOOT, NAV, NAV_DAY, NAV_END, NAV_LIST, STYLE, TITLE_DAY, TITLE_DAYS,
 };
-use kd_pictures::{Language, draw, draw_in};
+use kd_pictures::{draw, draw_in};
 use kd_tables::{Model, Sink};
 
 /// A day in the list of days, with its number of settings.

@@ -1,6 +1,6 @@
 //! `Page`: the values that the page of a day shows.
 use crate::spots::{Spot, count_at};
-use kd_pictures::Language;
+use kd_language::Language;
 use kd_state::{Machine, Setting};
 use kd_tables::Model;
 

@@ -11,13 +11,14 @@ use crate::boxes::{draw_boxes, pin_mark};
 use crate::page::Page;
 use crate::spots::{Spot, Step};
 use crate::steps::draw_step;
+use kd_language::Language;
+use kd_pictures::draw;
 use kd_pictures::numbers::PIN_WHEELS;
 use kd_pictures::template::{Value, fill, fill_in};
 use kd_pictures::texts::{
     CELL, NO_PIN, PIN_LINES, PIN_ROW, PIN_SHOWN, PIN_WHEEL, PINS, PINS_END, ROW_END, SET_CELL,
 };
 use kd_pictures::words::{Mark, Word};
-use kd_pictures::{Language, draw};
 use kd_tables::{Letter, Sink};
 
 pub(crate) fn draw_pins_step<W: Sink>(sink: &mut W, page: &Page<'_>)

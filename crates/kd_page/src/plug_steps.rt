@@ -1,19 +1,18 @@
 //! The two steps at the plugboard: the plugs to take out, and the plugs to put in.
 ghost use Rattle.std.specs.Prelude.{◌≡◌, ◌++◌, flat_map};
 ghost use Rattle.kd_pictures.specs.Drawing.{Draws};
-ghost use Rattle.kd_pictures.specs.Language.{in_language};
+ghost use Rattle.kd_language.specs.Language.{in_language};
 ghost use Rattle.kd_page.specs.PlugSteps.{in_step, in_table, out_step, plug_row, plug_table, plugs_in, plugs_out};
 
 use crate::boxes::draw_boxes;
 use crate::page::Page;
 use crate::spots::Step;
 use crate::steps::{draw_idle, draw_step};
+use kd_language::Text;
 use kd_pictures::board::{Plugs, draw_board, has_cables};
 use kd_pictures::numbers::CABLES;
 use kd_pictures::template::{Value, fill};
-use kd_pictures::texts::{
-    BOARD_STEP_END, CAPTION_SAME, PLUG_ROW, PLUGS_END, PLUGS_IN, PLUGS_OUT, ROW_END, Text,
-};
+use kd_pictures::texts::{BOARD_STEP_END, CAPTION_SAME, PLUG_ROW, PLUGS_END, PLUGS_IN, PLUGS_OUT, ROW_END};
 use kd_pictures::words::Word;
 use kd_pictures::{draw, draw_in};
 use kd_tables::Sink;

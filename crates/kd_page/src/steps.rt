@@ -8,10 +8,11 @@ use crate::boxes::draw_boxes;
 use crate::head::draw_day_title;
 use crate::page::Page;
 use crate::spots::Step;
+use kd_language::Language;
+use kd_pictures::draw;
 use kd_pictures::template::{Value, fill};
 use kd_pictures::texts::{IDLE_STEP, LIST, LIST_END, PLAIN_STEP, STEP, STEP_TITLED};
 use kd_pictures::words::Word;
-use kd_pictures::{Language, draw};
 use kd_tables::Sink;
 
 pub(crate) fn draw_page_title<W: Sink>(sink: &mut W, page: &Page<'_>)

@@ -11,6 +11,7 @@ use crate::page::Page;
 use crate::pins::alphabet;
 use crate::steps::draw_plain_step;
 use crate::windows::letter_shown;
+use kd_language::Language;
 use kd_pictures::fives::draw_fives;
 use kd_pictures::numbers::LATER_WHEELS;
 use kd_pictures::template::{Value, draw_letter, fill, fill_in};
@@ -19,7 +20,7 @@ use kd_pictures::texts::{
     TEST_LAMPS, TEST_PIN, TEST_ROTOR,
 };
 use kd_pictures::words::{Word, is_converter};
-use kd_pictures::{Language, draw, draw_in};
+use kd_pictures::{draw, draw_in};
 use kd_state::Machine;
 use kd_tables::{Letter, Model, Sink};
 

@@ -1,7 +1,7 @@
 //! The step of the rings, and the step of the wheels and the reflector.
 ghost use Rattle.std.specs.Prelude.{◌≡◌, ◌++◌, flat_map};
 ghost use Rattle.kd_pictures.specs.Drawing.{Draws};
-ghost use Rattle.kd_pictures.specs.Language.{in_language};
+ghost use Rattle.kd_language.specs.Language.{in_language};
 ghost use Rattle.kd_page.specs.WheelSteps.{all_boxed_text, boxed_reflector, boxed_text};
 ghost use Rattle.kd_page.specs.WheelSteps.{from_box_shown, has_lone_wheel, lone_wheel, reflector_boxed_text};
 ghost use Rattle.kd_page.specs.WheelSteps.{rings_in_box, rings_step, seats_step, some_rings_text, some_seats_text};
@@ -11,13 +11,12 @@ use crate::boxes::slot_holding;
 use crate::page::Page;
 use crate::spots::Step;
 use crate::steps::{draw_idle, draw_list, draw_step};
+use kd_language::{Language, Text};
 use kd_pictures::numbers::SLOTS;
 use kd_pictures::template::{Value, fill, fill_in};
-use kd_pictures::texts::{
-    BOX_AFTER, BOX_WHEEL, BOXED, BOXED_END, BOXED_REFLECTOR, BOXED_WHEEL, Text,
-};
+use kd_pictures::texts::{BOX_AFTER, BOX_WHEEL, BOXED, BOXED_END, BOXED_REFLECTOR, BOXED_WHEEL};
 use kd_pictures::words::Word;
-use kd_pictures::{Language, draw, draw_in};
+use kd_pictures::{draw, draw_in};
 use kd_state::Machine;
 use kd_tables::{Letter, Reflector, Sink, Wheel};
 

@@ -1,8 +1,8 @@
 -- The second sheet of paper.
 use Rattle.std.proofs.Common.{◌≡◌, ℕ, ◌<◌, List, [], ◌∷◌, ◌++◌, length, arith, refl}
 use Rattle.kd_state.specs.SheetDay.{Day}
-use Rattle.kd_pictures.specs.declared.language.Language.{Language}
-use Rattle.kd_pictures.specs.Template.{filled}
+use Rattle.kd_language.specs.declared.language.Language.{Language}
+use Rattle.kd_language.specs.Template.{filled}
 use Rattle.kd_part_sheet.specs.declared.cells.Cell.{Cell}
 use Rattle.kd_part_sheet.specs.declared.part_sheet.PartName.{PartName}
 use Rattle.kd_part_sheet.specs.declared.rows.Progress.{Progress}

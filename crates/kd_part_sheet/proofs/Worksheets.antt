@@ -2,7 +2,7 @@
 use Rattle.std.proofs.Common.{◌≡◌, ◌∙◌, ℕ, Bool, true, false, if◌then◌else◌, List, [], ◌∷◌, ◌++◌, length, take, drop, refl, sym, ap, subst}
 use Rattle.std.proofs.lemmas.List.{length-map}
 use Rattle.kd_state.specs.SheetDay.{Day}
-use Rattle.kd_pictures.specs.declared.language.Language.{Language}
+use Rattle.kd_language.specs.declared.language.Language.{Language}
 use Rattle.kd_pictures.specs.declared.results.Results.TheVariants.{LeftOpen}
 use Rattle.kd_part_sheet.specs.declared.cells.Cell.{Cell}
 use Rattle.kd_part_sheet.specs.declared.part_sheet.PartName.{PartName}
@@ -23,7 +23,7 @@ use Rattle.kd_part_sheet.specs.Sheet.{sheet_text}
 use Rattle.kd_part_sheet.specs.Windows.{windows_text}
 use Rattle.kd_part_sheet.specs.declared.markup.TheConstants.{SHEET_END}
 use Rattle.kd_part_sheet.specs.declared.texts.TheConstants as texts
-use Rattle.kd_pictures.specs.Template.{filled}
+use Rattle.kd_language.specs.Template.{filled}
 use Rattle.kd_pictures.specs.Words.{is_converter}
 use Rattle.kd_part_sheet.specs.Worksheets.{AllAskAlike, AskAlike, AskTheSame, WorksheetsHideResults}
 

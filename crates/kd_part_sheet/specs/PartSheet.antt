@@ -4,10 +4,11 @@ use Rattle.kd_tables.specs.declared.model.Model.{Model}
 use Rattle.kd_tables.specs.declared.model.Model.TheVariants.{EnigmaI, M3, M4, M209}
 use Rattle.kd_tables.specs.Tables.{reflector_text}
 use Rattle.kd_state.specs.SheetDay.{Day, Pin, Rotor, RotorDay}
-use Rattle.kd_pictures.specs.declared.language.Language.{Language}
-use Rattle.kd_pictures.specs.Language.{text_in}
+use Rattle.kd_language.specs.declared.language.Language.{Language}
+use Rattle.kd_language.specs.Language.{text_in}
 use Rattle.kd_pictures.specs.Results.{are_open}
-use Rattle.kd_pictures.specs.Template.{filled, letter_text}
+use Rattle.kd_language.specs.Template.{filled}
+use Rattle.kd_pictures.specs.Template.{letter_text}
 use Rattle.kd_pictures.specs.Words.{is_converter, model_name}
 use Rattle.kd_part_sheet.specs.declared.cells.Cell.{Cell}
 use Rattle.kd_part_sheet.specs.declared.markup.TheConstants.{KEY_END, SHEET_END}

@@ -8,7 +8,7 @@ use Rattle.std.specs.List.{count_by}
 use Rattle.std.specs.Simd.{first_chunks}
 use Rattle.kd_state.specs.SheetDay.{Day, day_model}
 use Rattle.kd_pictures.specs.Results.{are_open}
-use Rattle.kd_pictures.specs.Template.{filled}
+use Rattle.kd_language.specs.Template.{filled}
 use Rattle.kd_pictures.specs.Words.{is_converter}
 use Rattle.kd_part_sheet.specs.declared.cells.Cell.{Cell}
 use Rattle.kd_part_sheet.specs.declared.cells.Line.{Line}

@@ -1,7 +1,7 @@
 -- The texts of a part's sheet. Each text has a version for each of the four sheets, in English and in German.
 use Rattle.std.specs.Prelude.{ℕ, Bool, true, false, List}
-use Rattle.kd_pictures.specs.declared.language.Language.{Language}
-use Rattle.kd_pictures.specs.Language.{text_in}
+use Rattle.kd_language.specs.declared.language.Language.{Language}
+use Rattle.kd_language.specs.Language.{text_in}
 use Rattle.kd_part_sheet.specs.declared.sheet.Sheet.{Sheet}
 use Rattle.kd_part_sheet.specs.declared.sheet.Sheet.TheVariants.{PinReceive, PinSend, RotorReceive, RotorSend}
 

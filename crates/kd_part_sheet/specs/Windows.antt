@@ -1,8 +1,9 @@
 -- The picture of the windows, or of a Converter's wheels, that the operator has to set.
 use Rattle.std.specs.Prelude.{decimal, ℕ, ◌+◌, ◌-◌, ◌*◌, Bool, if◌then◌else◌, List, [], ◌∷◌, ◌++◌}
-use Rattle.kd_pictures.specs.declared.language.Language.{Language}
-use Rattle.kd_pictures.specs.Language.{text_in}
-use Rattle.kd_pictures.specs.Template.{filled, letter_text, ordinal_text}
+use Rattle.kd_language.specs.declared.language.Language.{Language}
+use Rattle.kd_language.specs.Language.{text_in}
+use Rattle.kd_language.specs.Template.{filled}
+use Rattle.kd_pictures.specs.Template.{letter_text, ordinal_text}
 use Rattle.kd_part_sheet.specs.declared.markup.TheConstants as markup
 use Rattle.kd_part_sheet.specs.declared.texts.TheConstants as texts
 use Rattle.kd_part_sheet.specs.Markup.{comma}

@@ -3,9 +3,10 @@ use Rattle.std.specs.Prelude.{ℕ, Bool, if◌then◌else◌, List, [], ◌∷�
 use Rattle.kd_tables.specs.Tables.{wheel_text}
 use Rattle.kd_tables.specs.Text.{letters_text}
 use Rattle.kd_state.specs.declared.sheet_day.rotor_entry.SheetWheel.{SheetWheel}
-use Rattle.kd_pictures.specs.declared.language.Language.{Language}
-use Rattle.kd_pictures.specs.Language.{text_in}
-use Rattle.kd_pictures.specs.Template.{filled, letter_text, ordinal_text}
+use Rattle.kd_language.specs.declared.language.Language.{Language}
+use Rattle.kd_language.specs.Language.{text_in}
+use Rattle.kd_language.specs.Template.{filled}
+use Rattle.kd_pictures.specs.Template.{letter_text, ordinal_text}
 use Rattle.kd_part_sheet.specs.declared.markup.TheConstants.{RING}
 use Rattle.kd_part_sheet.specs.declared.texts.TheConstants.{NO_CABLES}
 use Rattle.kd_part_sheet.specs.Markup.{comma, space, wide_space}

@@ -1,7 +1,7 @@
 -- What the law about worksheets says.
 use Rattle.std.specs.Prelude.{◌≡◌, IsFalse, IsTrue, List, [], ◌∷◌}
 use Rattle.kd_state.specs.SheetDay.{Day}
-use Rattle.kd_pictures.specs.declared.language.Language.{Language}
+use Rattle.kd_language.specs.declared.language.Language.{Language}
 use Rattle.kd_pictures.specs.declared.results.Results.TheVariants.{LeftOpen}
 use Rattle.kd_part_sheet.specs.declared.cells.Cell.{Cell}
 use Rattle.kd_part_sheet.specs.declared.part_sheet.PartName.{PartName}

@@ -3,7 +3,7 @@ ghost use Rattle.std.specs.Prelude.{◌≡◌, ◌+◌, ◌≤◌, length};
 ghost use Rattle.kd_state.specs.EngineKey.{IsWindow};
 ghost use Rattle.kd_state.specs.OwnKeys.{sheet_key};
 ghost use Rattle.kd_pictures.specs.Drawing.{Draws};
-ghost use Rattle.kd_pictures.specs.Template.{filled};
+ghost use Rattle.kd_language.specs.Template.{filled};
 ghost use Rattle.kd_state.specs.Entry.{rotor_values, values_of};
 ghost use Rattle.kd_part_sheet.specs.PartSheet.{day_key_text, first_sheet, head_text, key_step, legend, name_values, next_sheet};
 ghost use Rattle.kd_part_sheet.specs.PartSheet.{note, part_sheet, rotor_key_text, start_text, text_head, text_if, text_rows};
@@ -22,9 +22,10 @@ use crate::texts::{
 };
 use crate::windows::draw_windows;
 use crate::words::{draw_cables, draw_rings, draw_wheels};
+use kd_language::Language;
 use kd_pictures::template::{Value, fill, fill_in};
 use kd_pictures::words::is_converter;
-use kd_pictures::{Language, Results, draw, draw_in};
+use kd_pictures::{Results, draw, draw_in};
 use kd_state::{Entry, RotorEntry, SheetDay};
 use kd_tables::{Letter, Model, Sink};
 

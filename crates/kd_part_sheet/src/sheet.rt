@@ -1,10 +1,10 @@
 //! The four sheets for a part. Each text has a version for each sheet.
 ghost use Rattle.std.specs.Prelude.{◌≡◌};
-ghost use Rattle.kd_pictures.specs.Language.{in_language};
+ghost use Rattle.kd_language.specs.Language.{in_language};
 ghost use Rattle.kd_part_sheet.specs.Sheet.{for_sheet};
 
 use crate::texts::SheetText;
-use kd_pictures::Language;
+use kd_language::Language;
 
 /// A sheet for sending or receiving a part, on a rotor machine or on a Converter.
 #[derive(Clone, Copy)]

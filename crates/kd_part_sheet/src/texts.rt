@@ -1,7 +1,7 @@
 //! The fixed texts of a part's sheet, in English and in German. In a template, each sign `~` stands for a value.
 
 use crate::markup::SECTION_END;
-use kd_pictures::texts::Text;
+use kd_language::Text;
 
 /// A text of a part's sheet, in four versions. The first two are for a sent part: on a rotor machine, and on a
 /// Converter. The other two are for a received part.

@@ -5,8 +5,9 @@ ghost use Rattle.kd_part_sheet.specs.Windows.{window_item, window_items, window_
 
 use crate::markup::{COMMA, WHEEL, WHEEL_WORDS, WINDOW_WORDS, WINDOWS_END, WINDOWS_TITLE_END};
 use crate::texts::{WHEELS, WINDOW, WINDOWS};
+use kd_language::Language;
+use kd_pictures::draw;
 use kd_pictures::template::{Value, fill, fill_in};
-use kd_pictures::{Language, draw};
 use kd_tables::{Letter, Sink};
 
 /// Writes the picture of windows, or of a Converter's wheels, with the letters `letters`.

@@ -5,8 +5,9 @@ ghost use Rattle.kd_part_sheet.specs.Words.{cables_text, letter_words, pairs_aft
 
 use crate::markup::{COMMA, RING, SPACE, WIDE_SPACE};
 use crate::texts::NO_CABLES;
+use kd_language::Language;
 use kd_pictures::template::{Value, draw_letter, draw_letters, draw_ordinal, fill};
-use kd_pictures::{Language, draw, draw_in};
+use kd_pictures::{draw, draw_in};
 use kd_state::SheetWheel;
 use kd_tables::{Letter, Sink};
 

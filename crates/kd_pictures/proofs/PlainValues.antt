@@ -26,8 +26,8 @@ use Rattle.kd_state.specs.declared.setting.Setting.{Setting}
 use Rattle.kd_state.specs.declared.setting.Setting.TheVariants as settings
 use Rattle.kd_tables.proofs.LineWords.{IsNumeralModel-digits}
 use Rattle.kd_pictures.specs.declared.template.Value.TheVariants as values
-use Rattle.kd_pictures.specs.declared.language.Language.{Language}
-use Rattle.kd_pictures.specs.declared.language.Language.TheVariants.{English, German}
+use Rattle.kd_language.specs.declared.language.Language.{Language}
+use Rattle.kd_language.specs.declared.language.Language.TheVariants.{English, German}
 use Rattle.kd_pictures.specs.declared.words.Class.{Class}
 use Rattle.kd_pictures.specs.declared.words.Class.TheVariants.{Plain}
 use Rattle.kd_pictures.specs.declared.words.Mark.{Mark}

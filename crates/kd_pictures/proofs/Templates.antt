@@ -1,10 +1,11 @@
 -- Values filled into a template.
 use Rattle.std.proofs.Common.{◌≡◌, ℕ, Bool, List, [], ◌∷◌, ◌++◌, Option, map, sym, subst, refl, length, ◌<◌, arith}
 use Rattle.std.specs.List.{before_first, after_first}
-use Rattle.kd_pictures.specs.declared.language.Language.{Language}
+use Rattle.kd_language.specs.declared.language.Language.{Language}
 use Rattle.kd_pictures.specs.declared.template.Value.{Value}
-unfoldable use Rattle.kd_pictures.specs.Template.{filled}
-use Rattle.kd_pictures.specs.Template.{is_gap, value_text}
+unfoldable use Rattle.kd_language.specs.Template.{filled}
+use Rattle.kd_language.specs.Template.{is_gap}
+use Rattle.kd_pictures.specs.Template.{value_text}
 use Rattle.kd_pictures.specs.Drawing.{Draws}
 use Rattle.kd_pictures.proofs.Drawings.{Draws_then}
 

@@ -12,15 +12,16 @@ use Rattle.kd_tables.specs.Pairs.{has_letter}
 use Rattle.kd_pictures.specs.declared.board.Plugs.{Plugs}
 use Rattle.kd_pictures.specs.declared.board.Plugs.TheVariants.{In, Out}
 use Rattle.kd_pictures.specs.declared.numbers.TheConstants.{CABLES}
-use Rattle.kd_pictures.specs.declared.language.Language.{Language}
+use Rattle.kd_language.specs.declared.language.Language.{Language}
 use Rattle.kd_pictures.specs.declared.words.Class.{Class}
 use Rattle.kd_pictures.specs.declared.words.Class.TheVariants as classes
 use Rattle.kd_pictures.specs.declared.words.Word.{Word}
 use Rattle.kd_pictures.specs.declared.words.Word.TheVariants.{After, Before}
 use Rattle.kd_pictures.specs.declared.texts.TheConstants as texts
-use Rattle.kd_pictures.specs.Language.{text_in}
+use Rattle.kd_language.specs.Language.{text_in}
 use Rattle.kd_pictures.specs.Sockets.{keyboard, label_y, line_x, socket_x, socket_y}
-use Rattle.kd_pictures.specs.Template.{filled, letter_text}
+use Rattle.kd_language.specs.Template.{filled}
+use Rattle.kd_pictures.specs.Template.{letter_text}
 use Rattle.kd_pictures.specs.Words.{class_text, word_text}
 
 -- the letters at the two ends of cable `number` of machine `m`; both `None` if the machine lacks this cable

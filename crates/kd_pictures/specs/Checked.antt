@@ -1,12 +1,12 @@
 -- What the texts in both languages have in common: templates take equally many values, and words have the right
 -- meanings.
 use Rattle.std.specs.Prelude.{codes, ◌≡◌, ℕ, count_by, List}
-use Rattle.kd_pictures.specs.declared.language.Language.TheVariants.{English, German}
+use Rattle.kd_language.specs.declared.language.Language.TheVariants.{English, German}
 use Rattle.kd_pictures.specs.declared.texts.TheConstants as texts
 use Rattle.kd_pictures.specs.declared.words.Word.{Word}
 use Rattle.kd_pictures.specs.declared.words.Word.TheVariants as words
-use Rattle.kd_pictures.specs.Language.{text_in}
-use Rattle.kd_pictures.specs.Template.{is_gap}
+use Rattle.kd_language.specs.Language.{text_in}
+use Rattle.kd_language.specs.Template.{is_gap}
 use Rattle.kd_pictures.specs.Words.{word_text}
 
 -- `template` has `number` signs `~`, each of which stands for a value.

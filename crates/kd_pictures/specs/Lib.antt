@@ -1,4 +1,3 @@
-pub mod Language
 pub mod Drawing
 pub mod Words
 pub mod Template

@@ -2,7 +2,7 @@
 use Rattle.std.specs.Prelude.{ℕ, ◌^◌, ◌<◌, ◌==◌, Bool, not, ◌||◌, IsTrue}
 use Rattle.std.specs.List.{list_all}
 use Rattle.kd_state.specs.Line.{IsSettingInRange}
-use Rattle.kd_pictures.specs.declared.language.Language.{Language}
+use Rattle.kd_language.specs.declared.language.Language.{Language}
 use Rattle.kd_pictures.specs.declared.template.Value.{Value}
 use Rattle.kd_pictures.specs.declared.template.Value.TheVariants as values
 use Rattle.kd_pictures.specs.Template.{value_text}

@@ -1,12 +1,11 @@
--- Templates: texts with signs `~`, each of which stands for a value.
+-- The values that are filled into a template.
 use Rattle.std.specs.Prelude.{codes, decimal, ℕ, ◌+◌, ◌==◌, nat_lt, if◌then◌else◌, Bool, List, [], ◌∷◌, ◌++◌}
-use Rattle.std.specs.List.{before_first, after_first}
 use Rattle.kd_tables.specs.Text.{letters_text}
 use Rattle.kd_tables.specs.Tables.{wheel_text, reflector_text}
 use Rattle.kd_tables.specs.Places.{place_text}
 use Rattle.kd_state.specs.Line.{setting_line}
-use Rattle.kd_pictures.specs.declared.language.Language.{Language}
-use Rattle.kd_pictures.specs.Language.{text_in}
+use Rattle.kd_language.specs.declared.language.Language.{Language}
+use Rattle.kd_language.specs.Language.{text_in}
 use Rattle.kd_pictures.specs.Words.{class_text, mark_text, model_name, word_text}
 use Rattle.kd_pictures.specs.declared.template.Value.{Value}
 use Rattle.kd_pictures.specs.declared.template.Value.TheVariants as values
@@ -39,13 +38,3 @@ value_text l (values.Model model) = model_name model
 value_text l (values.Word word) = word_text l word
 value_text l (values.Class class) = class_text class
 value_text l (values.Mark mark) = mark_text mark
-
--- whether the byte is the sign `~`
-abbrev pub is_gap : ℕ → Bool
-is_gap byte = byte == 126
-
--- the template, with its signs `~` replaced by the values, in order
-unfoldable pub filled : List ℕ → List (List ℕ) → List ℕ
-filled template [] = template
-filled template (value ∷ values) =
-    before_first is_gap template ++ value ++ filled (after_first is_gap template) values

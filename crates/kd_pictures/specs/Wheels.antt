@@ -10,12 +10,13 @@ use Rattle.kd_state.specs.declared.machine.parts.Parts.{Parts}
 use Rattle.kd_state.specs.Machine.{machine_letter, machine_reflector, machine_ring, machine_slot}
 use Rattle.kd_state.specs.SameParts.{same_reflector, same_wheel}
 use Rattle.kd_pictures.specs.declared.numbers.TheConstants.{SLOTS}
-use Rattle.kd_pictures.specs.declared.language.Language.{Language}
+use Rattle.kd_language.specs.declared.language.Language.{Language}
 use Rattle.kd_pictures.specs.declared.words.Word.{Word}
 use Rattle.kd_pictures.specs.declared.words.Word.TheVariants.{After, Before}
 use Rattle.kd_pictures.specs.declared.texts.TheConstants as texts
-use Rattle.kd_pictures.specs.Language.{text_in}
-use Rattle.kd_pictures.specs.Template.{filled, letter_text, ordinal_text}
+use Rattle.kd_language.specs.Language.{text_in}
+use Rattle.kd_language.specs.Template.{filled}
+use Rattle.kd_pictures.specs.Template.{letter_text, ordinal_text}
 use Rattle.kd_pictures.specs.Words.{word_text}
 
 -- whether `wheel` is in slot `slot` of machine `m`

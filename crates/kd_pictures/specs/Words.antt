@@ -3,7 +3,7 @@ use Rattle.std.specs.Prelude.{ℕ, Bool, true, false, List, [], ◌∷◌}
 use Rattle.kd_tables.specs.Tables.{by_family, family_of}
 use Rattle.kd_tables.specs.declared.model.Model.{Model}
 use Rattle.kd_tables.specs.declared.model.Model.TheVariants.{EnigmaI, M3, M4, M209}
-use Rattle.kd_pictures.specs.declared.language.Language.{Language}
+use Rattle.kd_language.specs.declared.language.Language.{Language}
 use Rattle.kd_pictures.specs.declared.words.Class.{Class}
 use Rattle.kd_pictures.specs.declared.words.Class.TheVariants as classes
 use Rattle.kd_pictures.specs.declared.words.Mark.{Mark}
@@ -11,7 +11,7 @@ use Rattle.kd_pictures.specs.declared.words.Mark.TheVariants.{Effective, Ineffec
 use Rattle.kd_pictures.specs.declared.words.Word.{Word}
 use Rattle.kd_pictures.specs.declared.words.Word.TheVariants as words
 use Rattle.kd_pictures.specs.declared.texts.TheConstants as texts
-use Rattle.kd_pictures.specs.Language.{text_in}
+use Rattle.kd_language.specs.Language.{text_in}
 
 -- the full name of the model
 abbrev pub model_name : Model → List ℕ

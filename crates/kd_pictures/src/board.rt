@@ -10,7 +10,6 @@ ghost use Rattle.kd_pictures.specs.Board.{line_between, line_class, line_text, m
 ghost use Rattle.kd_pictures.specs.Board.{picture_name, round_plug, socket_holding, socket_text};
 
 use crate::drawing::{draw, draw_in};
-use crate::language::Language;
 use crate::numbers::CABLES;
 use crate::sockets::{KEYBOARD, label_y, line_x, socket_x, socket_y};
 use crate::template::{Value, fill, fill_in};
@@ -19,6 +18,7 @@ use crate::texts::{
     OPEN_END, RIGHT_HALF, STAYS, TITLE_END,
 };
 use crate::words::{Class, Word};
+use kd_language::Language;
 use kd_state::{Cable, Machine, lies_in};
 use kd_tables::{Letter, Sink};
 

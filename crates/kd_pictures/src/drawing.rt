@@ -1,9 +1,8 @@
 //! Writes texts to a sink, unless the sink has failed.
 ghost use Rattle.kd_pictures.specs.Drawing.{Draws};
-ghost use Rattle.kd_pictures.specs.Language.{in_language};
+ghost use Rattle.kd_language.specs.Language.{in_language};
 
-use crate::language::Language;
-use crate::texts::Text;
+use kd_language::{Language, Text};
 use kd_tables::{Sink, put_all};
 
 /// Writes `text` to `sink`, unless the sink has failed.

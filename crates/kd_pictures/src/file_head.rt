@@ -2,10 +2,10 @@
 ghost use Rattle.kd_pictures.specs.Drawing.{Draws};
 ghost use Rattle.kd_pictures.specs.FileHead.{file_head};
 
-use crate::language::Language;
 use crate::template::{Value, fill};
 use crate::texts::HEAD;
 use crate::words::Word;
+use kd_language::Language;
 use kd_tables::Sink;
 
 /// Writes the beginning of a file, with the code of its language.

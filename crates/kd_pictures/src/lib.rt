@@ -5,7 +5,6 @@ pub mod board;
 mod drawing;
 pub mod file_head;
 pub mod fives;
-pub mod language;
 pub mod laws;
 pub mod numbers;
 mod results;
@@ -17,5 +16,4 @@ pub mod wheels;
 pub mod words;
 
 pub use drawing::{draw, draw_in};
-pub use language::Language;
 pub use results::Results;

@@ -1,18 +1,19 @@
 //! Fills values into a template.
 ghost use Rattle.std.specs.Prelude.{codes, decimal, ◌≡◌, [], ◌∷◌, ◌++◌, map, if◌then◌else◌};
-ghost use Rattle.std.specs.List.{before_first, after_first};
 ghost use Rattle.kd_tables.specs.Text.{letters_text};
 ghost use Rattle.kd_pictures.specs.Drawing.{Draws};
-ghost use Rattle.kd_pictures.specs.Language.{in_language, text_in};
+ghost use Rattle.kd_language.specs.Language.{in_language, text_in};
 ghost use Rattle.kd_pictures.specs.declared.texts.TheConstants.{SETTINGS as SETTINGS_TEXT};
-ghost use Rattle.kd_pictures.specs.Template.{count_text, filled, is_gap, letter_text, ordinal_text, value_text};
+ghost use Rattle.kd_language.specs.Template.{filled};
+ghost use Rattle.kd_pictures.specs.Template.{count_text, letter_text, ordinal_text, value_text};
 
 use crate::drawing::{draw, draw_in};
-use crate::language::Language;
-use crate::texts::{NO_SETTINGS, ONE_SETTING, SETTINGS, Text};
+use crate::texts::{NO_SETTINGS, ONE_SETTING, SETTINGS};
 use crate::words::{Class, Mark, Word, model_name};
 use arrayvec::ArrayString;
 use itoa::Buffer;
+use kd_language::template::cut;
+use kd_language::{Language, Text};
 use kd_state::Setting;
 use kd_tables::{Letter, Model, Place, Reflector, Sink, Wheel, push_letter};
 
@@ -55,19 +56,6 @@ pub fn fill_in<W: Sink>(sink: &mut W, language: Language, text: Text, values: &[
         (map (value_text language) values.now)) }
 {
     fill(sink, language, language.text(text), values);
-}
-
-/// The text of `template` before its first sign `~`, and the text after this sign. Without a sign `~`, the texts are
-/// `template` and an empty text.
-#[tactic(auto, using(std::proofs::lemmas::Str::Pattern::split_once_first))]
-fn cut(template: &str) -> (&str, &str)
-    ensures before { result.0.now ≡ before_first is_gap template.now }
-    ensures after { result.1.now ≡ after_first is_gap template.now }
-{
-    match template.split_once('~') {
-        Some(parts) => parts,
-        None => (template, ""),
-    }
 }
 
 fn draw_value<W: Sink>(sink: &mut W, language: Language, value: Value)

@@ -1,8 +1,7 @@
 //! The fixed texts of a page. Texts with words are in English and in German. In a template, each sign `~` stands for a
 //! value.
 
-/// A text in English and in German.
-pub type Text = (&'static str, &'static str);
+use kd_language::Text;
 
 /// The code of the language, which stands in the file's head.
 pub const LANGUAGE: Text = ("en", "de");

@@ -2,7 +2,7 @@
 ghost use Rattle.std.specs.Prelude.{◌≡◌, ◌+◌, ◌*◌, ◌<◌, ◌++◌, flat_map};
 ghost use Rattle.kd_state.specs.Machine.{machine_slot};
 ghost use Rattle.kd_pictures.specs.Drawing.{Draws};
-ghost use Rattle.kd_pictures.specs.Language.{in_language};
+ghost use Rattle.kd_language.specs.Language.{in_language};
 ghost use Rattle.kd_pictures.specs.Wheels.{is_seated};
 ghost use Rattle.kd_pictures.specs.Wheels.{band_head, band_text, both_bands, is_same_letter, letter_words};
 ghost use Rattle.kd_pictures.specs.Wheels.{machine_words};
@@ -11,15 +11,11 @@ ghost use Rattle.kd_pictures.specs.Wheels.{slot_shown};
 ghost use Rattle.kd_pictures.specs.Wheels.{empty_shown, slot_words, slot_x, wheel_shown, wheel_words, window_shown};
 
 use crate::drawing::{draw, draw_in};
-use crate::language::Language;
 use crate::numbers::SLOTS;
 use crate::template::{Value, fill, fill_in};
-use crate::texts::{
-    BAND, EMPTY, EMPTY_WORDS, NEW_REFLECTOR, NEW_RING, NEW_WHEEL, NEW_WINDOW, REFLECTOR_SHOWN,
-    REFLECTOR_WORDS, RING_SHOWN, RING_WORDS, TITLE_END, Text, WHEEL, WHEEL_WORDS, WHEELS,
-    WHEELS_END, WHEELS_ONCE, WHEELS_THEN, WINDOW, WINDOW_WORDS,
-};
+use crate::texts::{BAND, EMPTY, EMPTY_WORDS, NEW_REFLECTOR, NEW_RING, NEW_WHEEL, NEW_WINDOW, REFLECTOR_SHOWN, REFLECTOR_WORDS, RING_SHOWN, RING_WORDS, TITLE_END, WHEEL, WHEEL_WORDS, WHEELS, WHEELS_END, WHEELS_ONCE, WHEELS_THEN, WINDOW, WINDOW_WORDS};
 use crate::words::Word;
+use kd_language::{Language, Text};
 use kd_state::Machine;
 use kd_tables::{Letter, Reflector, Sink, Wheel};
 

@@ -2,8 +2,8 @@
 ghost use Rattle.std.specs.Prelude.{◌≡◌};
 ghost use Rattle.kd_pictures.specs.Words.{class_text, is_converter, mark_text, model_name, word_text};
 
-use crate::language::Language;
 use crate::texts;
+use kd_language::Language;
 use kd_tables::{Family, Model};
 
 /// A fixed word: the language's code, the way to set a pin, or the name of a step, slot, picture or lug.

@@ -1,8 +1,8 @@
 -- The whole file of the tables.
 use Rattle.std.proofs.Common.{◌≡◌, ℕ, List, ◌∷◌, Option, refl}
-use Rattle.kd_pictures.specs.declared.language.Language.{Language}
+use Rattle.kd_language.specs.declared.language.Language.{Language}
 unfoldable use Rattle.kd_pictures.specs.FileHead.{file_head}
-unfoldable use Rattle.kd_pictures.specs.Template.{filled}
+unfoldable use Rattle.kd_language.specs.Template.{filled}
 use Rattle.kd_state.specs.SheetDay.{Day}
 use Rattle.kd_printed_sheet.specs.declared.table_file.TableForm.{TableForm}
 use Rattle.kd_printed_sheet.specs.declared.table_file.TableForm.TheVariants.{Csv, Page}

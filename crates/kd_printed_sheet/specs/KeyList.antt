@@ -12,10 +12,11 @@ use Rattle.kd_pins.specs.PinWheel.{is_effective}
 use Rattle.kd_pins.specs.PinWheels.{pin_wheels, pins_of, pins_on}
 use Rattle.kd_state.specs.SheetDay.{Day, Rotor, Pin, PinDay}
 use Rattle.kd_state.specs.TwoCiphers.{sheet_cipher}
-use Rattle.kd_pictures.specs.declared.language.Language.{Language}
+use Rattle.kd_language.specs.declared.language.Language.{Language}
 use Rattle.kd_pictures.specs.Fives.{fives_from}
-use Rattle.kd_pictures.specs.Language.{text_in}
-use Rattle.kd_pictures.specs.Template.{filled, letter_text}
+use Rattle.kd_language.specs.Language.{text_in}
+use Rattle.kd_language.specs.Template.{filled}
+use Rattle.kd_pictures.specs.Template.{letter_text}
 use Rattle.kd_pictures.specs.Words.{model_name}
 use Rattle.kd_printed_sheet.specs.declared.texts.TheConstants as texts
 use Rattle.kd_printed_sheet.specs.Words.{words_text}

@@ -7,9 +7,9 @@ use Rattle.kd_tables.specs.Tables.{reflector_text, slots_of}
 use Rattle.kd_state.specs.declared.sheet_day.rotor_entry.SheetWheel.{SheetWheel}
 use Rattle.kd_state.specs.SheetDay.{Day, Rotor, Pin, RotorDay}
 use Rattle.kd_sheet.specs.Sheet.{day_of}
-use Rattle.kd_pictures.specs.declared.language.Language.{Language}
-use Rattle.kd_pictures.specs.Language.{text_in}
-use Rattle.kd_pictures.specs.Template.{filled}
+use Rattle.kd_language.specs.declared.language.Language.{Language}
+use Rattle.kd_language.specs.Language.{text_in}
+use Rattle.kd_language.specs.Template.{filled}
 use Rattle.kd_pictures.specs.Words.{model_name}
 use Rattle.kd_printed_sheet.specs.declared.texts.TheConstants as texts
 use Rattle.kd_printed_sheet.specs.Days.{days_of, first_of}

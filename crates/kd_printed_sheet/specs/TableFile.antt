@@ -4,10 +4,10 @@ use Rattle.kd_tables.specs.Tables.{all_models, by_family, family_of}
 use Rattle.kd_tables.specs.declared.model.Model.{Model}
 use Rattle.kd_state.specs.SheetDay.{Day}
 use Rattle.kd_sheet.specs.Sheet.{day_of}
-use Rattle.kd_pictures.specs.declared.language.Language.{Language}
+use Rattle.kd_language.specs.declared.language.Language.{Language}
 use Rattle.kd_pictures.specs.declared.texts.TheConstants.{FOOT, MORE_STYLE, STYLE}
 use Rattle.kd_pictures.specs.FileHead.{file_head}
-use Rattle.kd_pictures.specs.Language.{text_in}
+use Rattle.kd_language.specs.Language.{text_in}
 use Rattle.kd_printed_sheet.specs.declared.days.TheConstants.{DAYS}
 use Rattle.kd_printed_sheet.specs.declared.texts.TheConstants.{NO_DAYS, TITLE, WIDE_BODY}
 use Rattle.kd_printed_sheet.specs.declared.table_file.TableForm.{TableForm}

@@ -13,9 +13,10 @@ use crate::texts::{
     KEY_LIST_END, NO_PIN, ROW_END,
 };
 use crate::words::{SingleLetter, draw_words};
+use kd_language::Language;
 use kd_pictures::fives::draw_fives;
 use kd_pictures::template::{Value, draw_letters, fill, fill_in};
-use kd_pictures::{Language, draw, draw_in};
+use kd_pictures::{draw, draw_in};
 use kd_pins::PinSet;
 use kd_sheet::Sheet;
 use kd_state::{Entry, PinEntry, SheetDay, own_engine};

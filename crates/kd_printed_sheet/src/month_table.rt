@@ -12,8 +12,9 @@ use crate::texts::{
     CELL, COLUMNS, FIRST_TO_LAST, MONTH, MONTH_END, ONE_DAY, RING, ROW, ROW_END, WHEEL,
 };
 use crate::words::{Ground, Item, draw_words};
+use kd_language::Language;
+use kd_pictures::draw;
 use kd_pictures::template::{Value, fill, fill_in};
-use kd_pictures::{Language, draw};
 use kd_sheet::Sheet;
 use kd_state::{Entry, RotorEntry, SheetDay, SheetWheel};
 use kd_tables::{Letter, Model, Sink};

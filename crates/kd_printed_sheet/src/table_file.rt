@@ -10,9 +10,10 @@ use crate::days::{DAYS, has_any_day};
 use crate::key_list::draw_key_lists;
 use crate::month_table::draw_month;
 use crate::texts::{NO_DAYS, TITLE, WIDE_BODY};
+use kd_language::Language;
 use kd_pictures::file_head::draw_file_head;
 use kd_pictures::texts::{FOOT, MORE_STYLE, STYLE};
-use kd_pictures::{Language, draw, draw_in};
+use kd_pictures::{draw, draw_in};
 use kd_sheet::Sheet;
 use kd_tables::{Device, Family, Model, Sink};
 

@@ -1,7 +1,7 @@
 //! The fixed texts of a key table. Texts with words are in English and in German. In a template, each sign `~` stands
 //! for a value.
 
-use kd_pictures::texts::Text;
+use kd_language::Text;
 
 /// The file's title.
 pub const TITLE: Text = ("Key table", "Schlüsseltafel");

@@ -1,8 +1,8 @@
 -- The whole page.
 use Rattle.std.proofs.Common.{◌≡◌, ℕ, List, ◌∷◌, refl}
-use Rattle.kd_pictures.specs.declared.language.Language.{Language}
+use Rattle.kd_language.specs.declared.language.Language.{Language}
 unfoldable use Rattle.kd_pictures.specs.FileHead.{file_head}
-unfoldable use Rattle.kd_pictures.specs.Template.{filled}
+unfoldable use Rattle.kd_language.specs.Template.{filled}
 use Rattle.kd_state.specs.OwnKeys.{physical_key}
 use Rattle.kd_state.specs.TwoCiphers.{window_of}
 use Rattle.kd_state.specs.declared.machine.parts.Parts.{Parts}

@@ -1,7 +1,7 @@
 -- The templates of the page take as many values as the page fills into them.
 use Rattle.std.specs.Prelude.{◌≡◌, count_by}
 use Rattle.kd_pictures.specs.Checked.{Takes}
-use Rattle.kd_pictures.specs.Template.{is_gap}
+use Rattle.kd_language.specs.Template.{is_gap}
 use Rattle.kd_typing_page.specs.declared.texts.TheConstants as texts
 
 -- Each template takes exactly as many values as the page fills into it.

@@ -9,11 +9,12 @@ use Rattle.kd_pins.specs.PinWheels.{pin_wheels}
 use Rattle.kd_state.specs.declared.machine.parts.Parts.{Parts}
 use Rattle.kd_state.specs.Machine.{machine_pin, machine_standing, model_of}
 use Rattle.kd_state.specs.TwoCiphers.{window_of}
-use Rattle.kd_pictures.specs.declared.language.Language.{Language}
+use Rattle.kd_language.specs.declared.language.Language.{Language}
 use Rattle.kd_pictures.specs.declared.numbers.TheConstants.{BARS}
 use Rattle.kd_pictures.specs.Board.{all_cables}
-use Rattle.kd_pictures.specs.Language.{text_in}
-use Rattle.kd_pictures.specs.Template.{filled, letter_text}
+use Rattle.kd_language.specs.Language.{text_in}
+use Rattle.kd_language.specs.Template.{filled}
+use Rattle.kd_pictures.specs.Template.{letter_text}
 use Rattle.kd_pictures.specs.Wheels.{machine_words}
 use Rattle.kd_pictures.specs.Words.{is_converter}
 use Rattle.kd_typing_page.specs.declared.texts.TheConstants as texts

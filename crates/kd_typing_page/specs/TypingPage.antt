@@ -5,10 +5,10 @@ use Rattle.kd_tables.specs.Text.{letters_text}
 use Rattle.kd_state.specs.declared.machine.parts.Parts.{Parts}
 use Rattle.kd_state.specs.Machine.{model_of}
 use Rattle.kd_state.specs.TwoCiphers.{window_of}
-use Rattle.kd_pictures.specs.declared.language.Language.{Language}
+use Rattle.kd_language.specs.declared.language.Language.{Language}
 use Rattle.kd_pictures.specs.FileHead.{file_head}
-use Rattle.kd_pictures.specs.Language.{text_in}
-use Rattle.kd_pictures.specs.Template.{filled}
+use Rattle.kd_language.specs.Language.{text_in}
+use Rattle.kd_language.specs.Template.{filled}
 use Rattle.kd_pictures.specs.Words.{is_converter, model_name}
 use Rattle.kd_typing.specs.MachineTable.{machine_table_text}
 use Rattle.kd_typing_page.specs.declared.script.TheConstants.{SCRIPT}

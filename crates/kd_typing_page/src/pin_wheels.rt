@@ -4,8 +4,9 @@ ghost use Rattle.kd_pictures.specs.Drawing.{Draws};
 ghost use Rattle.kd_typing_page.specs.PinWheels.{letter_option, pin_desk, wheel_text, wheels_text};
 
 use crate::texts::{KEYS, KNOB, LETTER, PIN_HEAD, PIN_KEYS, PIN_TAPE, WHEEL, WHEEL_END};
+use kd_language::Language;
 use kd_pictures::template::{Value, fill, fill_in};
-use kd_pictures::{Language, draw, draw_in};
+use kd_pictures::{draw, draw_in};
 use kd_tables::{Letter, Model, Sink, ring1, ring2, ring3, ring4, ring5, ring6};
 
 /// Writes a Converter's pin wheels, knob, keys and tape.

@@ -10,12 +10,13 @@ ghost use Rattle.kd_typing_page.specs.Setting.{setting_text, wheel_pins};
 use crate::texts::{
     BAR, BARS as BARS_HEAD, CABLES, PIN_SETTING, PINS, ROTOR_SETTING, SETTING_END, WHEEL_PINS,
 };
+use kd_language::Language;
 use kd_pictures::board::draw_all_cables;
 use kd_pictures::numbers::BARS;
 use kd_pictures::template::{Value, draw_letter, fill, fill_in};
 use kd_pictures::wheels::draw_words;
 use kd_pictures::words::is_converter;
-use kd_pictures::{Language, draw, draw_in};
+use kd_pictures::{draw, draw_in};
 use kd_state::Machine;
 use kd_tables::{Letter, Sink, Standing, ring1, ring2, ring3, ring4, ring5, ring6};
 use kd_typing::MachineRows;

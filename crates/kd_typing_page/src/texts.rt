@@ -1,7 +1,7 @@
 //! The fixed texts of a page for typing on a machine. Texts with words are in English and in German. In a template,
 //! each sign `~` stands for a value. In the words of the script, values stand in place of `%s`.
 
-use kd_pictures::texts::Text;
+use kd_language::Text;
 
 /// The file's title; the machine's model stands in place of `~`. The next text, `POLICY`, is the content security
 /// policy. It names, by their SHA-256, the only script and style sheet that the page may use. The last text, `BODY`, is

@@ -5,9 +5,10 @@ ghost use Rattle.kd_pictures.specs.Drawing.{Draws};
 ghost use Rattle.kd_typing_page.specs.Windows.{rotor_desk, slot_window, window_text};
 
 use crate::texts::{KEYS, LAMPS, LETTERS, ROTOR_HEAD, ROTOR_KEYS, ROTOR_TAPE, WINDOW, WINDOW_END};
+use kd_language::Language;
 use kd_pictures::numbers::SLOTS;
 use kd_pictures::template::{Value, fill_in};
-use kd_pictures::{Language, draw, draw_in};
+use kd_pictures::{draw, draw_in};
 use kd_state::Machine;
 use kd_tables::{Sink, Wheel};
 

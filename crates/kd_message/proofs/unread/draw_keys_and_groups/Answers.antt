@@ -1,7 +1,7 @@
 use Rattle.std.proofs.Common.{◌≡◌, ◌++◌, ap, arith, drop, false, sym}
 use Rattle.std.proofs.lemmas.List.{drop_min}
 use Rattle.kd_pictures.proofs.Drawings.{joined}
-use Rattle.kd_pictures.specs.Language.{text_in}
+use Rattle.kd_language.specs.Language.{text_in}
 use Rattle.kd_part_sheet.specs.declared.markup.TheConstants.{COMMA}
 use Rattle.kd_part_sheet.specs.Rows.{pieces}
 use Rattle.kd_message.specs.TextSheet.{lost_groups}

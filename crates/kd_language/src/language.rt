@@ -1,10 +1,11 @@
-//! The languages of pages.
+//! `Language`: the languages of texts.
 ghost use Rattle.std.specs.Prelude.{◌≡◌};
-ghost use Rattle.kd_pictures.specs.Language.{in_language};
+ghost use Rattle.kd_language.specs.Language.{in_language};
 
-use crate::texts::Text;
+/// A text in English and in German.
+pub type Text = (&'static str, &'static str);
 
-/// A language of pages.
+/// A language of texts.
 #[derive(Clone, Copy, Debug, PartialEq, Eq)]
 pub enum Language {
     English,

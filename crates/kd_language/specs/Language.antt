@@ -1,7 +1,7 @@
--- The languages of pages. A text with words is a pair: the English text and the German text.
+-- The languages of texts. A text with words is a pair: the English text and the German text.
 use Rattle.std.specs.Prelude.{ℕ, List}
-use Rattle.kd_pictures.specs.declared.language.Language.{Language}
-use Rattle.kd_pictures.specs.declared.language.Language.TheVariants.{English, German}
+use Rattle.kd_language.specs.declared.language.Language.{Language}
+use Rattle.kd_language.specs.declared.language.Language.TheVariants.{English, German}
 
 abbrev pub in_language : Language → List ℕ → List ℕ → List ℕ
 in_language English english german = english
