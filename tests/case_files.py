@@ -28,6 +28,7 @@ A column is one of these, or else the name of a file:
     turn              a list of texts that the output has one after another, in place of `out`
     verdict           the output is a card: what `desk check` writes for it, on the same machine, sheet and day
     keeps             what may be written before a refused read, as KEEPS of shim.c has it
+    locale            the value of the variable LANG; C if it isn't given
 
 What no column gives, the group gives, and else nothing is there. A text is the name of one of `texts`, or the text
 itself, or a list of pairs: a text, and how often it comes. Each of `texts` is a text or such a list. With `encoding =
@@ -41,7 +42,7 @@ from shared import TOP, judge, read, run, write
 
 CASES = f"{TOP}/tests/cases"
 COLUMNS = {"words", "in", "old", "new", "out", "err", "status", "refused", "body", "has", "lacks", "turn", "verdict",
-           "keeps"}
+           "keeps", "locale"}
 STYLE_END = "</style>\n"
 REFUSING = "refusing"
 
@@ -111,7 +112,8 @@ class Case:
         """
         for name, text in self.files.items():
             write(f"{room}/{name}", text)
-        answer = run(program, *self.words, given=self.values["in"], folder=room, environment={"LANG": "C"})
+        locale = {"LANG": self.values.get("locale", "C")}
+        answer = run(program, *self.words, given=self.values["in"], folder=room, environment=locale)
         if "verdict" not in self.values:
             return *answer, None
         write(f"{room}/card", answer[1])

@@ -8,7 +8,7 @@ ghost use Rattle.kd_pictures.specs.Plain.{ValuesArePlain};
 ghost use Rattle.kd_pictures.specs.SheetName.{SheetNamesArePlain};
 
 /// The values that a page takes from files have no markup.
-/// They are letters, numbers, and the names of models, wheels, reflectors and key sheets.
+/// They are letters, numbers, and the names of models, wheels, reflectors, key sheets and orders.
 #[tactic(auto, using(crate::proofs::PlainValues::values_are_plain, crate::proofs::PlainValues::names_are_plain))]
 pub fn values_are_plain()
     ensures values { ValuesArePlain }

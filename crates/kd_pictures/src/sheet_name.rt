@@ -1,4 +1,4 @@
-//! The name of a key sheet on a page.
+//! The name of a file on a page.
 ghost use Rattle.std.specs.Prelude.{◌≡◌, [], ◌∷◌, filter, if◌then◌else◌};
 ghost use Rattle.kd_pictures.specs.Drawing.{Draws};
 ghost use Rattle.kd_pictures.specs.Plain.{is_plain};
@@ -8,7 +8,7 @@ use crate::drawing::{draw, draw_bytes};
 use kd_tables::Sink;
 use std::path::Path;
 
-/// Writes the name of a key sheet: the name of its file `path`, without folder and ending.
+/// Writes the name of the file `path`, without folder and ending.
 ///
 /// Signs that HTML reads as markup are left out.
 #[tactic(auto, unfolding(crate::specs::SheetName::sheet_name))]
