@@ -106,9 +106,9 @@ IsMeantBySome command = (words : List (List ℕ)) × IsCommandLineOf words comma
 -- The command line `words` means `command`. On a computer with the language `l`, the command line's language is
 -- `its_language`.
 pub record IsMeantIn (l : Language) (words : List (List ℕ)) (its_language : Language) (command : NamedCommand) : Type 0
-    where
-  pub said : IsCommandLineOf words command
-  pub language : its_language ≡ chosen_language l words
+  where
+    pub said : IsCommandLineOf words command
+    pub language : its_language ≡ chosen_language l words
 
 -- How a command that wrote `bytes` to a new file changes the files. The first truth value,
 -- `failed`, says whether a write failed. The second says whether the whole output was written. If

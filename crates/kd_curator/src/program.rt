@@ -73,11 +73,13 @@ pub fn run_curator<'n, S: AsStr, F: Files<'n>, N: NewFiles, W: Sink + Drop, E: S
         (port E.taken E.has_failed errors.old errors.new) result.0 }
 {
     match parse_words(alloc, language, words) {
-        Ok(CommandLine {
-            command,
-            language: asked,
-            output,
-        }) => {
+        Ok(
+            CommandLine {
+                command,
+                language: asked,
+                output,
+            },
+        ) => {
             let language = asked.unwrap_or(language);
             match output {
                 Some(name) => {
@@ -88,9 +90,13 @@ pub fn run_curator<'n, S: AsStr, F: Files<'n>, N: NewFiles, W: Sink + Drop, E: S
                 None => {
                     let names = names_of(&command);
                     let request = Request { language, command };
-                    let (answer, sink) =
-                        run_gathering(alloc, request, files, new_files, sink, errors);
-                    (end_program(language, &answer, names.as_slice(), errors), sink)
+                    let (answer, sink) = run_gathering(
+                        alloc, request, files, new_files, sink, errors,
+                    );
+                    (
+                        end_program(language, &answer, names.as_slice(), errors),
+                        sink,
+                    )
                 }
             }
         }
