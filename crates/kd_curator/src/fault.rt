@@ -66,8 +66,8 @@ impl PageFault {
 
 /// The text of a refusal without a number: the words in `language`.
 fn worded_text(language: Language, words: Text) -> RefusalText
-    requires english { length words.entry.0.now ≤ 64 }
-    requires german { length words.entry.1.now ≤ 64 }
+    requires english { length words.0.now ≤ 64 }
+    requires german { length words.1.now ≤ 64 }
     ensures { result.bytes ≡ in_language language words.entry.0.now words.entry.1.now }
 {
     let mut text = RefusalText::new();

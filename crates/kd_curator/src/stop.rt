@@ -4,10 +4,8 @@ ghost use Rattle.arrayvec.specs.ArrayString.{array_string_len};
 ghost use Rattle.kd_tables.specs.Ports.{port};
 ghost use Rattle.std.specs.IoError.{error_kind};
 ghost use Rattle.kd_host.specs.Ending.{EndsWithLine};
-ghost use Rattle.kd_language.specs.Language.{text_in};
 ghost use Rattle.kd_curator.specs.Ending.{EndsAs, IsWordsStop, day_prefix, refusal_line, refusal_text, stop_after};
 ghost use Rattle.kd_curator_command.specs.CommandLine.{unborrowed_names};
-ghost use Rattle.kd_curator.specs.declared.texts.TheConstants.{REFUSED as REFUSED_TEXT};
 
 use crate::blame::remark_words;
 use crate::error_line::{end_named, end_refused};
@@ -17,12 +15,12 @@ use crate::texts::{DAY, DAY_END, NOT_UTF8, REFUSED};
 use arrayvec::ArrayString;
 use kd_host::{FileFault, end_with_line};
 use kd_language::Language;
-use kd_tables::{RefusalText, Sink, push_number};
+use kd_tables::{Sink, push_number};
 use std::alloc::Global;
 use std::io;
 
 /// The text of a refusal, which may begin with a day.
-pub(crate) type DayText = ArrayString<96>;
+type DayText = ArrayString<96>;
 
 /// Why the program stops without success.
 #[derive(Drop)]
@@ -81,7 +79,8 @@ fn refusal_text(language: Language, refused: Refused) -> DayText
 {
     let mut text = DayText::new();
     push_day(&mut text, language, refused.day);
-    push_refused(&mut text, language, refused.fault.text(language));
+    text.push_str(language.text(REFUSED));
+    text.push_str(refused.fault.text(language).as_str());
     text
 }
 
@@ -96,15 +95,6 @@ fn push_day(text: &mut DayText, language: Language, day: Option<u8>)
         push_number(text, day);
         text.push_str(DAY_END);
     }
-}
-
-/// Appends the words that a refusal begins with, and then the refusal's text `why`.
-pub(crate) fn push_refused(text: &mut DayText, language: Language, why: RefusalText)
-    requires { array_string_len text.old ≤ 10 }
-    ensures { text.new.bytes ≡ text.old.bytes ++ (text_in language REFUSED_TEXT ++ why.bytes) }
-{
-    text.push_str(language.text(REFUSED));
-    text.push_str(why.as_str());
 }
 
 impl From<FileFault> for Stop {
