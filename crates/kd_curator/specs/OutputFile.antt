@@ -84,14 +84,20 @@ pub data EndsWithFile (l : Language) (words : List (List ℕ)) (known : Option (
 abbrev pub GoesToSink : List (List ℕ) → Result (Unit {0}) Stop → Type 0
 GoesToSink words answer = (output_of words ≡ None) ⊎ LacksCommand words answer
 
+-- How the program ends if the output went to the sink.
+abbrev pub EndsAtSink : Language → List (List ℕ) → Option (List ℕ → Option (List ℕ)) → List AskedName → (List ℕ → Port)
+    → Type 0 → Port → ℕ → Type 0
+EndsAtSink l words known asked sink Untouched errors status = HasEnded l words
+    (λ told left answer. GoesToSink words answer × IsRun l words known asked (sink left) Untouched told left answer)
+    errors status
+
 -- How the program ends.
 -- - `ToSink`: the output went to the sink, and no file was made.
 -- - `ToFile`: the words name the output file `name`, and the sink is untouched.
 pub data RunsTo (l : Language) (words : List (List ℕ)) (known : Option (List ℕ → Option (List ℕ)))
     (asked : List AskedName) (before after : Option FilesByName) (sink : List ℕ → Port) (Untouched : Type 0)
     (errors : Port) (status : ℕ) : Type 0 where
-  ToSink : HasEnded l words (λ told left answer. GoesToSink words answer
-      × IsRun l words known asked (sink left) Untouched told left answer) errors status → after ≡ before
+  ToSink : EndsAtSink l words known asked sink Untouched errors status → after ≡ before
       → RunsTo l words known asked before after sink Untouched errors status
   ToFile : (name : List ℕ) → output_of words ≡ Some name → (command : NamedCommand) → IsCommandLineOf words command
       → Untouched → EndsWithFile l words known asked before after name (names_of command) errors status

@@ -4,10 +4,10 @@ ghost use Rattle.std.specs.Prelude.{Option, None, Some};
 ghost use Rattle.std.specs.Io.KnownBytes.{Keeps, append_known};
 ghost use Rattle.kd_tables.specs.Ports.{port};
 ghost use Rattle.kd_host.specs.Writing.{WritesText};
-ghost use Rattle.kd_curator_command.specs.CommandLine.{HasNoCommand, IsCommandLineOf, unborrowed_command};
+ghost use Rattle.kd_curator_command.specs.CommandLine.{HasNoCommand, IsCommandLineOf, output_of, unborrowed_command};
 ghost use Rattle.kd_language.specs.declared.language.Language.{Language};
 ghost use Rattle.kd_new_file.specs.NewFiles.{AddsFile, FilesByName};
-ghost use Rattle.kd_curator.specs.OutputFile.{EndsFile, EndsWithFile, IsMeantBySome, IsMeantIn, RunsTo};
+ghost use Rattle.kd_curator.specs.OutputFile.{EndsAtSink, EndsFile, EndsWithFile, IsMeantBySome, IsMeantIn, RunsTo};
 ghost use Rattle.kd_curator.specs.Ending.{blame_of};
 ghost use Rattle.kd_curator.specs.Files.{names_of, text_at};
 ghost use Rattle.kd_curator.specs.Program.{CarriesOut, DoesCommand, DoesTask, IsRun, port_with_untaken};
@@ -33,9 +33,7 @@ use crate::run_type::run_type;
 use crate::sheets::{make_sheet, write_empty_sheet};
 use crate::stop::{Stop, end_program};
 use crate::tables::run_table;
-use kd_curator_command::{
-    Command, CommandLine, MessageTask, NamedCommand, NoCommand, Task, parse_words,
-};
+use kd_curator_command::{Command, MessageTask, NamedCommand, NoCommand, Task, parse_words};
 use kd_host::{FileFault, Files};
 use kd_look::NamedFile;
 use kd_message::PageOptions;
@@ -46,7 +44,7 @@ use std::alloc::Global;
 use std::convert::AsStr;
 
 /// Carries out the command line `words`, which begins with the program's own name. `language` is the computer's
-/// language. All words that the program writes are in this language, unless the command line asks for another.
+/// language. Words are in this language, unless the command line asks for another language.
 ///
 /// Returns the exit status and the sink. The status is 0 for success, 2 if the words don't mean a command, and 1 for a
 /// refusal. With status 1 or 2, a text that says why is written to `errors`. If the text is about a file, it ends with
@@ -73,31 +71,17 @@ pub fn run_curator<'n, S: AsStr, F: Files<'n>, N: NewFiles, W: Sink + Drop, E: S
         (port E.taken E.has_failed errors.old errors.new) result.0 }
 {
     match parse_words(alloc, language, words) {
-        Ok(
-            CommandLine {
-                command,
-                language: asked,
-                output,
-            },
-        ) => {
-            let language = asked.unwrap_or(language);
-            match output {
+        Ok(line) => {
+            let request = Request {
+                language: line.language.unwrap_or(language),
+                command: line.command,
+            };
+            match line.output {
                 Some(name) => {
-                    let request = Request { language, command };
                     let status = run_to_file(alloc, request, name, files, new_files, errors);
                     (status, sink)
                 }
-                None => {
-                    let names = names_of(&command);
-                    let request = Request { language, command };
-                    let (answer, sink) = run_gathering(
-                        alloc, request, files, new_files, sink, errors,
-                    );
-                    (
-                        end_program(language, &answer, names.as_slice(), errors),
-                        sink,
-                    )
-                }
+                None => run_to_sink(alloc, request, files, new_files, sink, errors),
             }
         }
         Err(none) => {
@@ -111,9 +95,34 @@ pub fn run_curator<'n, S: AsStr, F: Files<'n>, N: NewFiles, W: Sink + Drop, E: S
 /// A command that the command line asks for.
 #[derive(Drop)]
 struct Request<'n> {
-    /// The language of all words that the program writes.
+    /// The language of the command's words.
     language: Language,
     command: NamedCommand<'n>,
+}
+
+/// Carries out `request`, with its output to `sink`.
+fn run_to_sink<'n, F: Files<'n>, N: NewFiles, W: Sink + Drop, E: Sink>(
+    alloc: Global,
+    request: Request<'n>,
+    files: &mut F,
+    folders: &N,
+    sink: W,
+    errors: &mut E,
+) -> (u8, W)
+    requires meant { IsMeantBySome (unborrowed_command request.command) }
+    requires asked { F.asked files.old ≡ [] }
+    ensures { (l : Language) (words : List (List ℕ))
+        → IsMeantIn l words request.entry.language (unborrowed_command request.entry.command)
+        → output_of words ≡ None
+        → EndsAtSink l words (F.known files.old) (F.asked files.new)
+        (port_with_untaken W.taken W.has_failed sink result.1) (result.1 ≡ sink)
+        (port E.taken E.has_failed errors.old errors.new) result.0 }
+{
+    let language = request.language;
+    let names = names_of(&request.command);
+    let (answer, sink) = run_gathering(alloc, request, files, folders, sink, errors);
+    let status = end_program(language, &answer, names.as_slice(), errors);
+    (status, sink)
 }
 
 /// Carries out `request`, with its output in the new file `name`.

@@ -21,21 +21,8 @@ returns-in-None g c =
     let words = map g.S.AsStr.text c.args.words.now in
     let none = ap (option_map (λ (name : Bor (List ℕ)). name.now)) c.in-None.is in
     let spoken = ap (λ asked. unwrap_or asked c.args.language) c.in-Ok.ensures.language in
-    let run = c.run_gathering-answer.ensures c.args.language words
-    (record { said = c.in-Ok.ensures.said; language = spoken }) in
-    let between = c.run_gathering-answer.new.errors in
-    ToSink (record {
-      left = run.0;
-      answer = c.run_gathering-answer.result.0;
-      told = g.E.Sink.taken between;
-      failed = g.E.Sink.has_failed between;
-      names = unborrowed_names c.as_slice.result.now;
-      language = unwrap_or c.in-Ok.asked c.args.language;
-      is_so = (inl (sym c.in-Ok.ensures.output ∙ none), run.1);
-      named = inl (_, c.in-Ok.ensures.said, ap unborrowed_names c.as_slice.ensures.value ∙ c.names_of-names.ensures);
-      spoken = inl (_, c.in-Ok.ensures.said, spoken);
-      ends = c.end_program.ensures;
-    }) refl
+    ToSink (c.run_to_sink.ensures c.args.language words (record { said = c.in-Ok.ensures.said; language = spoken })
+    (sym c.in-Ok.ensures.output ∙ none)) refl
 
 pub returns-in-Err : goal.returns-in-Err
 returns-in-Err g c =
