@@ -45,7 +45,7 @@ const SENTENCES: [Text; 21] = [
     ),
     (
         "\n  tip: to pass '~' as a value, use ",
-        "\n  Tipp: '~' als Wert wird so geschrieben: ",
+        "\n  Tipp: '~' als Wert so schreiben: ",
     ),
     ("\n  tip: '~' exists\n", "\n  Tipp: '~' gibt es\n"),
     ("\nUsage: ", "\nAufruf: "),

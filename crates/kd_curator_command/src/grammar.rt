@@ -126,7 +126,7 @@ static COMMANDS: [CommandWords; 8] = [
         name: "send",
         about: (
             "Writes an HTML page that says, row by row, how to encipher an order by hand",
-            "Schreibt eine HTML-Seite, die Zeile für Zeile sagt, wie ein Auftrag von Hand zu verschlüsseln ist",
+            "Schreibt eine HTML-Seite, die Zeile für Zeile sagt, wie man einen Auftrag von Hand verschlüsselt",
         ),
         arguments: &[
             MACHINE,
@@ -149,7 +149,7 @@ static COMMANDS: [CommandWords; 8] = [
         name: "receive",
         about: (
             "Writes an HTML page that says, row by row, how to decipher a form by hand, and its text",
-            "Schreibt eine HTML-Seite, die Zeile für Zeile sagt, wie ein Formular von Hand zu entschlüsseln ist, mit seinem Text",
+            "Schreibt eine HTML-Seite, die Zeile für Zeile sagt, wie man ein Formular von Hand entschlüsselt, mit dem Text",
         ),
         arguments: &[
             MACHINE,
