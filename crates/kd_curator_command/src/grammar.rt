@@ -69,7 +69,7 @@ const LANGUAGE: Argument<'static> = Argument {
     sort: ArgumentSort::Valued("LANGUAGE"),
     help: (
         "The language of the words, de or en; without it, that of the environment's LANG",
-        "Die Sprache der Texte, de oder en; ohne die Option die Sprache nach der Umgebungsvariablen LANG",
+        "Die Sprache aller Texte, de oder en; ohne die Option gilt die Umgebungsvariable LANG",
     ),
 };
 
@@ -126,7 +126,7 @@ static COMMANDS: [CommandWords; 8] = [
         name: "send",
         about: (
             "Writes an HTML page that says, row by row, how to encipher an order by hand",
-            "Schreibt eine HTML-Seite, die Zeile für Zeile sagt, wie ein Auftrag von Hand zu verschlüsseln ist",
+            "Schreibt eine HTML-Seite, die Zeile für Zeile sagt, wie man einen Auftrag von Hand verschlüsselt",
         ),
         arguments: &[
             MACHINE,
@@ -149,7 +149,7 @@ static COMMANDS: [CommandWords; 8] = [
         name: "receive",
         about: (
             "Writes an HTML page that says, row by row, how to decipher a form by hand, and its text",
-            "Schreibt eine HTML-Seite, die Zeile für Zeile sagt, wie ein Formular von Hand zu entschlüsseln ist, und seinen Text",
+            "Schreibt eine HTML-Seite, die Zeile für Zeile sagt, wie man ein Formular von Hand entschlüsselt, mit dem Text",
         ),
         arguments: &[
             MACHINE,
@@ -200,7 +200,7 @@ static COMMANDS: [CommandWords; 8] = [
         name: "sheet",
         about: (
             "Makes a key sheet of a table that a spreadsheet saved as CSV, or an empty key sheet",
-            "Macht eine Schlüsseltafel aus einer Tabelle, die eine Tabellenkalkulation als CSV gespeichert hat, oder eine leere Tafel",
+            "Macht eine Schlüsseltafel aus einer Tabelle, die als CSV gespeichert ist, oder eine leere Schlüsseltafel",
         ),
         arguments: &[
             Argument {
@@ -280,7 +280,7 @@ static COMMANDS: [CommandWords; 8] = [
 /// What help says about the program.
 const PROGRAM: Text = (
     "Writes pages to hang beside a cipher machine: what to set for a day, with pictures",
-    "Schreibt Seiten zum Aufhängen neben einer Chiffriermaschine: was für einen Tag einzustellen ist, mit Bildern",
+    "Schreibt Seiten, die neben einer Chiffriermaschine hängen: was für einen Tag einzustellen ist, mit Bildern",
 );
 
 /// The grammar of the command line. Its help is in the wording's language.

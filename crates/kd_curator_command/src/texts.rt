@@ -5,7 +5,7 @@ use kd_language::Text;
 /// The error of `sheet --empty` for a wrong number of days, a wrong model or a needless option.
 pub(crate) const NO_MONTH: Text = (
     "--empty needs Enigma I, M3, M4 or M-209, then a number of days from 1 to 31, and no other option but -o",
-    "--empty braucht Enigma I, M3, M4 oder M-209, dann eine Zahl von Tagen von 1 bis 31, und außer -o keine Option",
+    "--empty braucht Enigma I, M3, M4 oder M-209, dann die Zahl der Tage von 1 bis 31, und keine andere Option als -o",
 );
 
 /// The error for an argument DAY that isn't the number of a day.
@@ -26,7 +26,7 @@ pub(crate) const NO_LANGUAGE: Text = ("--in takes de or en", "--in nimmt de oder
 /// The error for an argument DAYS that doesn't name days.
 pub(crate) const NO_DAYS: Text = (
     "days are numbers from 1 to 31, each once, such as 2, 1-31 or 1,4,2",
-    "Tage sind Zahlen von 1 bis 31, jede nur einmal, zum Beispiel 2, 1-31 oder 1,4,2",
+    "Tage sind Zahlen von 1 bis 31, jede nur einmal, etwa 2, 1-31 oder 1,4,2",
 );
 
 /// The hint that a model's name with a space has to be typed in quotes.
