@@ -3,7 +3,9 @@ ghost use Rattle.std.specs.Prelude.{◌≡◌, ◌++◌, OnOk};
 ghost use Rattle.std.specs.String.{string_bytes};
 ghost use Rattle.kd_findings.specs.Texts.{EndsAtFeed, IsInOneLine, entry_words, item_words, titled};
 
+use crate::texts;
 use itoa::Buffer;
+use kd_language::Language;
 use std::alloc::AllocError;
 
 /// The part of `words` up to the first line feed.
@@ -41,14 +43,15 @@ pub fn push_item(text: &mut String, item: Option<usize>) -> Result<(), AllocErro
 #[tactic(auto, unfolding(crate::specs::Texts::entry_words))]
 pub fn push_entry(
     text: &mut String,
+    language: Language,
     day: Option<u8>,
     entry: Option<usize>,
 ) -> Result<(), AllocError>
-    ensures { OnOk result (string_bytes text.new ≡ string_bytes text.old ++ entry_words day entry) }
+    ensures { OnOk result (string_bytes text.new ≡ string_bytes text.old ++ entry_words language day entry) }
 {
     match (day, entry) {
-        (Some(day), _) => push_titled(text, ", day ", usize::from(day)),
-        (None, Some(entry)) => push_titled(text, ", entry ", entry),
+        (Some(day), _) => push_titled(text, language.text(texts::DAY), usize::from(day)),
+        (None, Some(entry)) => push_titled(text, language.text(texts::ENTRY), entry),
         (None, None) => Ok(()),
     }
 }
