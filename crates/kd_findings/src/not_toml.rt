@@ -85,8 +85,7 @@ fn begins_character(byte: u8) -> bool
     byte < 128 || 191 < byte
 }
 
-/// The words for the fault in line `line`: the parser's message, and the likely mistake. German words leave out the
-/// parser's message, which is in English.
+/// The words for the fault in line `line`. `message` is the parser's message.
 fn reason_for(
     wording: Wording,
     bytes: &[u8],
@@ -94,10 +93,18 @@ fn reason_for(
     message: &str,
 ) -> Result<String, AllocError> {
     let mistake = hint(numbered_line(bytes, line), message);
-    let language = wording.language;
-    match language {
-        Language::English => wording.fill(texts::NOT_TOML, &[message, language.text(mistake)]),
-        Language::German => wording.fill(texts::NOT_TOML, &[language.text(mistake)]),
+    mistake_words(wording, message, wording.language.text(mistake))
+}
+
+/// The parser's message `message`, and the likely mistake. German words leave out the message, which is in English.
+fn mistake_words<'w>(
+    wording: Wording,
+    message: &'w str,
+    mistake: &'w str,
+) -> Result<String, AllocError> {
+    match wording.language {
+        Language::English => wording.fill(texts::NOT_TOML, &[message, mistake]),
+        Language::German => wording.fill(texts::NOT_TOML, &[mistake]),
     }
 }
 
