@@ -149,7 +149,7 @@ static COMMANDS: [CommandWords; 8] = [
         name: "receive",
         about: (
             "Writes an HTML page that says, row by row, how to decipher a form by hand, and its text",
-            "Schreibt eine HTML-Seite, die Zeile für Zeile sagt, wie man ein Formular von Hand entschlüsselt, mit dem Text",
+            "Schreibt eine HTML-Seite, die Zeile für Zeile sagt, wie man ein Formular von Hand entschlüsselt, mit Text",
         ),
         arguments: &[
             MACHINE,
@@ -172,7 +172,7 @@ static COMMANDS: [CommandWords; 8] = [
         name: "type",
         about: (
             "Writes an HTML page on which the machine is typed on, in any browser",
-            "Schreibt eine HTML-Seite, auf der man in jedem Browser auf der Maschine tippt",
+            "Schreibt eine HTML-Seite, mit der man in jedem Browser auf der Maschine tippt",
         ),
         arguments: &[MACHINE, LANGUAGE, OUTPUT],
     },
