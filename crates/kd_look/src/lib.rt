@@ -17,6 +17,7 @@ mod outcome;
 mod report;
 mod sheet_words;
 mod texts;
+mod values;
 mod warnings;
 
 pub use looking::{NamedFile, look_at};
