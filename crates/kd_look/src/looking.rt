@@ -91,7 +91,8 @@ fn push_reports<'f>(
     files: &[NamedFile<'f>],
 ) -> Result<Outcome, AllocError>
     ensures reports { OnOk result (AppendsText
-        (AreReports wording.language (map named_text files.now)) (string_bytes text.old) (string_bytes text.new)) }
+        (AreReports wording.language (map named_text files.now)) (string_bytes text.old)
+        (string_bytes text.new)) }
     ensures found { IfOk result (λ found. found ≡ outcome_of_all (map named_text files.now)) }
     ensures known { OnOk result (map known_of known.new.items
         ≡ map known_of known.old.items ++ map known_text (map named_text files.now)) }
@@ -114,7 +115,8 @@ fn push_report<'f>(
     file: NamedFile<'f>,
 ) -> Result<Outcome, AllocError>
     ensures report { OnOk result (AppendsText
-        (IsReport wording.language file.entry.name.now file.entry.bytes.now) (string_bytes text.old) (string_bytes text.new)) }
+        (IsReport wording.language file.entry.name.now file.entry.bytes.now)
+        (string_bytes text.old) (string_bytes text.new)) }
     ensures found { IfOk result (λ found. found ≡ file_outcome file.entry.bytes.now) }
     ensures known { OnOk result (map known_of known.new.items
         ≡ map known_of known.old.items ++ known_text (named_text file.entry) ∷ []) }

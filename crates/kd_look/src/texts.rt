@@ -64,7 +64,7 @@ pub const WARNING: Text = (": warning: ", ": Warnung: ");
 /// The rest of the line that warns of a byte order mark. The file's name stands before it.
 pub const MARK: Text = (
     ": warning: the file begins with a byte order mark, which the desk passes over\n",
-    ": Warnung: die Datei beginnt mit einer Bytereihenfolge-Markierung, die das Programm übergeht\n",
+    ": Warnung: die Datei beginnt mit einer Bytereihenfolge-Markierung; desk übergeht sie\n",
 );
 
 /// The words between a file's name and a warning of days. In English, the warning goes on with a plural's `s`.
@@ -104,7 +104,7 @@ pub const ORDER: Text = (
 
 pub const FORM: Text = (
     "~: a form for ~, without a fault in its headings, its signs and its counts\nnot looked at: whether its groups and indicators suit the day\n",
-    "~: ein Formular für ~, ohne Fehler in Spruchköpfen, Zeichen und Anzahlen\nnicht geprüft: ob Kenngruppen und Kennbuchstaben zum Tag passen\n",
+    "~: ein Formular für ~, ohne Fehler in Spruchköpfen, Zeichen und Zahlen\nnicht geprüft: ob Kenngruppen und Kennbuchstaben zum Tag passen\n",
 );
 
 /// The words before the number of a message's parts, and before the number of its letters.
@@ -188,7 +188,7 @@ pub const HEADING_PARTS: Text = (
 
 pub const HEADING_COUNT: Text = (
     "no part of this machine has this number of letters",
-    "kein Teil dieser Maschine hat diese Zahl von Buchstaben",
+    "kein Teil dieser Maschine hat diese Buchstabenzahl",
 );
 
 pub const HEADING_LETTER: Text = (
