@@ -54,13 +54,14 @@ model_after_for l M3 = text_in l texts.M3
 model_after_for l M4 = text_in l texts.M4
 model_after_for l M209 = text_in l texts.CONVERTER
 
--- the warning that the key sheet `sheet` has no day for the machine in the file `name`
-abbrev pub no_day_words : Language → List ℕ → List ℕ → Model → List ℕ
-no_day_words l name sheet model = filled (text_in l texts.NO_DAY) (name ∷ sheet ∷ model_after_for l model ∷ [])
+-- the warning that the key sheet `sheet` has no day for the machine in the file `name`; `model` is the machine's model
+-- in words
+abbrev pub no_day_words : Language → List ℕ → List ℕ → List ℕ → List ℕ
+no_day_words l name sheet model = filled (text_in l texts.NO_DAY) (name ∷ sheet ∷ model ∷ [])
 
 -- the warning that a key sheet has no day for the machine; empty if the file isn't a key sheet
 abbrev pub no_day_line : Language → List ℕ → Model → KnownFile → List ℕ
-no_day_line l name model sheet = words_for sheet.file (no_day_words l name sheet.name model)
+no_day_line l name model sheet = words_for sheet.file (no_day_words l name sheet.name (model_after_for l model))
 
 -- The warnings about a machine file, one for each key sheet. Empty if some key sheet has a day for the machine, or if
 -- the file isn't a machine file.

@@ -118,27 +118,30 @@ fn push_no_day(
         ≡ string_bytes lines.old ++ no_day_line language name.now model (known_of sheet.now)) }
 {
     match &sheet.file {
-        Some(File::Sheet(_)) => push_no_day_words(lines, language, name, sheet.name, model),
+        Some(File::Sheet(_)) => push_no_day_words(
+            lines,
+            language,
+            name,
+            sheet.name,
+            model_after_for(language, model),
+        ),
         Some(File::Machine(_)) | None => Ok(()),
     }
 }
 
-/// Appends a warning that the key sheet `sheet` has no day for the machine in the file `name`.
+/// Appends a warning that the key sheet `sheet` has no day for the machine in the file `name`. `model` is the machine's
+/// model in words.
 fn push_no_day_words(
     lines: &mut String,
     language: Language,
     name: &str,
     sheet: &str,
-    model: Model,
+    model: &str,
 ) -> Result<(), AllocError>
     ensures { OnOk result (string_bytes lines.new
-        ≡ string_bytes lines.old ++ no_day_words language name.now sheet.now model) }
+        ≡ string_bytes lines.old ++ no_day_words language name.now sheet.now model.now) }
 {
-    push_filled(
-        lines,
-        language.text(NO_DAY),
-        &[name, sheet, model_after_for(language, model)],
-    )
+    push_filled(lines, language.text(NO_DAY), &[name, sheet, model])
 }
 
 /// The model after the word `for`.

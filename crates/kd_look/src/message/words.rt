@@ -1,6 +1,7 @@
 //! The lines about an order or a form, without the lines about its groups.
-ghost use Rattle.std.specs.Prelude.{◌≡◌, ◌++◌, ◌≤◌, length, IfOk, OnOk};
+ghost use Rattle.std.specs.Prelude.{◌≡◌, ◌++◌, ◌∷◌, ◌≤◌, [], length, IfOk, OnOk};
 ghost use Rattle.std.specs.String.{string_bytes};
+ghost use Rattle.kd_language.specs.Template.{filled};
 ghost use Rattle.kd_look.specs.MessageWords.{fault_line, form_lines, form_words_for, is_form, is_message};
 ghost use Rattle.kd_look.specs.MessageWords.{machine_name, number_line, order_lines, order_words_for};
 
@@ -83,7 +84,7 @@ fn push_order(
 {
     let form = key_line_of(text);
     let machine = machine_name(language, form);
-    push_filled(words, language.text(ORDER), &[name, machine])?;
+    push_kind(words, language.text(ORDER), name, machine)?;
     push_number_line(words, language.text(PARTS), keys_given(text, start))?;
     push_number_line(
         words,
@@ -104,8 +105,21 @@ fn push_form(
         ≡ string_bytes words.old ++ form_lines language name.now first.now) }
 {
     let machine = machine_name(language, first.keys);
-    push_filled(words, language.text(FORM), &[name, machine])?;
+    push_kind(words, language.text(FORM), name, machine)?;
     push_number_line(words, language.text(PARTS), first.parts)
+}
+
+/// Appends `template` with the file's name, and with the machine that the message is for.
+fn push_kind(
+    words: &mut String,
+    template: &str,
+    name: &str,
+    machine: &str,
+) -> Result<(), AllocError>
+    ensures { OnOk result (string_bytes words.new
+        ≡ string_bytes words.old ++ filled template.now (name.now ∷ machine.now ∷ [])) }
+{
+    push_filled(words, template, &[name, machine])
 }
 
 /// Appends a line with a title and a number.
