@@ -15,12 +15,16 @@ use Rattle.kd_curator_command.specs.declared.command.Task.{Task}
 use Rattle.kd_curator_command.specs.declared.command.Task.TheVariants as tasks
 use Rattle.kd_curator_command.specs.declared.command.Command.TheVariants as commands
 use Rattle.kd_curator_command.specs.CommandLine.{IsCommandOf, IsTaskWith, task_name}
-use Rattle.kd_curator_command.specs.CommandLine.{HasMessage, IsMessageTask, IsOrdersOf, unborrowed_names}
+use Rattle.kd_curator_command.specs.CommandLine.{HasMessage, IsMessageTask, unborrowed_names}
 use Rattle.kd_curator_command.specs.CommandLine.{IsEmptySheetOf, IsLookOf, IsMessageOf, IsSheetOf, IsTableOf, IsTypingPageOf}
 use Rattle.kd_tables.specs.Direction.{direction_name}
 use Rattle.kd_tables.specs.declared.direction.Direction.{Direction}
 use Rattle.kd_tables.specs.declared.direction.Direction.TheVariants as directions
 use Rattle.kd_curator_command.specs.Locale.{language_code}
+unfoldable use Rattle.kd_curator_command.specs.Locale.{language_with_code}
+use Rattle.kd_curator_command.specs.CommandLine.{asked_language, language_said, value_said}
+use Rattle.kd_language.specs.declared.language.Language.TheVariants.{English, German}
+use Rattle.std.specs.Prelude.{option_and_then}
 use Rattle.kd_curator_command.specs.declared.command.MessageTask.{MessageTask}
 use Rattle.kd_language.specs.declared.language.Language.{Language}
 use Rattle.kd_spreadsheet.specs.Options.{OptionTexts}
@@ -28,7 +32,6 @@ use Rattle.kd_curator_command.specs.CommandLine.{IsMonthNamed, are_blank, option
 use Rattle.kd_tables.specs.declared.model.Model.{Model}
 use Rattle.std.specs.Prelude.{unwrap_or}
 use Rattle.kd_printed_sheet.specs.declared.table_file.TableForm.{TableForm}
-use Rattle.kd_printed_sheet.specs.declared.table_file.TableForm.TheVariants as forms
 use Rattle.clap.proofs.{OnLiterals.clap_on_literals, WalkLemmas.first_value-rows, WalkLemmas.raw_values-rows}
 use Rattle.clap.specs.declared.parser.matches.{ArgMatches.ArgMatches, Found.Found}
 use Rattle.kd_curator_command.specs.{CommandLine.curator_grammar, declared.command.NoCommand.NoCommand}
@@ -93,17 +96,41 @@ pub name_with_rows : {X : Type 0} (entered : Option X) (name : X → List ℕ) (
     → option_map {U = List ℕ × List Row} (λ x. (name x, rows x)) entered ≡ Some (n, r)
 name_with_rows entered name rows n r is is_rows = grind (arith)
 
+-- a language is found by its code
+coded : (language : Option Language) → option_and_then language_with_code (option_map language_code language) ≡ language
+unfolding language_with_code
+coded None = refl
+coded (Some English) = refl
+coded (Some German) = refl
+
+-- the language that the option `--in` names is the language asked for
+pub language_is_said : (said : Option (List ℕ × List Row)) (language : Option Language) → HasLanguage said language
+    → language_said said ≡ language
+language_is_said said language has = ap (option_and_then language_with_code) has ∙ coded language
+
+pub language_is_asked : (words : List (List ℕ)) (said : Option (List ℕ × List Row)) (language : Option Language)
+    → said ≡ subcommand_of curator_grammar words → HasLanguage said language → language ≡ asked_language words
+language_is_asked words said language e has = sym (language_is_said said language has) ∙ ap language_said e
+
 -- the words mean the command that clap's matches mean
 pub said_command : (words : List (List ℕ)) (said : Option (List ℕ × List Row)) → fault_of curator_grammar words ≡ []
     → said ≡ subcommand_of curator_grammar words → (command : NamedCommand) → IsMeant said command
-    → IsCommandLineOf words command
-said_command words said taken e command is =
-    record { taken = taken; said = subst (λ s. IsMeant s command) e is }
+    → (language : Option Language) → HasLanguage said language → IsCommandLineOf words command
+said_command words said taken e command is language has = record {
+  taken = taken;
+  said = subst (λ s. IsMeant s command) e is;
+  language = subst (λ l. HasLanguage (subcommand_of curator_grammar words) l)
+      (language_is_asked words said language e has) (subst (λ s. HasLanguage s language) e has);
+}
 
+-- the words mean no command, if clap's matches mean no command, or name no language
 pub no_command_said : (words : List (List ℕ)) (said : Option (List ℕ × List Row))
-    → said ≡ subcommand_of curator_grammar words → ((command : NamedCommand) → IsMeant said command → ⊥)
+    → said ≡ subcommand_of curator_grammar words
+    → ((command : NamedCommand) → IsMeant said command → (language : Option Language) → HasLanguage said language → ⊥)
     → IsNoCommandLine words
-no_command_said words said e none command says = none command (subst (λ s. IsMeant s command) (sym e) says.said)
+no_command_said words said e none command says =
+    none command (subst (λ s. IsMeant s command) (sym e) says.said) (asked_language words)
+    (subst (λ s. HasLanguage s (asked_language words)) (sym e) says.language)
 
 -- ---- words that are no command
 
@@ -168,8 +195,8 @@ abbrev pub name_of : NamedCommand → List ℕ
 name_of (commands.OnMachine machine sheet task) = task_name task
 name_of (commands.Message machine sheet message task) = direction_name task.direction
 name_of (commands.Orders machine sheet orders task) = codes "send"
-name_of (commands.TypingPage machine language) = codes "type"
-name_of (commands.Table sheet form language) = codes "table"
+name_of (commands.TypingPage machine) = codes "type"
+name_of (commands.Table sheet form) = codes "table"
 name_of (commands.Sheet table options) = codes "sheet"
 name_of (commands.Look files) = codes "look"
 name_of (commands.EmptySheet model days) = codes "sheet"
@@ -179,8 +206,8 @@ pub name_said : (said : List ℕ × List Row) (command : NamedCommand) → IsCom
 name_said said (commands.OnMachine machine sheet task) of = of.task.name
 name_said said (commands.Message machine sheet message task) of = of.name
 name_said said (commands.Orders machine sheet orders task) of = of.name
-name_said said (commands.TypingPage machine language) of = of.name
-name_said said (commands.Table sheet form language) of = of.name
+name_said said (commands.TypingPage machine) of = of.name
+name_said said (commands.Table sheet form) of = of.name
 name_said said (commands.Sheet table options) of = of.name
 name_said said (commands.Look files) of = of.name
 name_said said (commands.EmptySheet model days) of = of.name
@@ -212,7 +239,7 @@ module _ (rows : List Row) where
       → nat_eq (get_or name 2 0) (get_or (codes "page") 2 0) ≡ false
       → nat_eq (get_or name 2 0) (get_or (codes "list") 2 0) ≡ false
       → IsCommandOf (name, rows) (commands.OnMachine machine sheet task) → ⊥
-  other_task name machine sheet (tasks.Page days language) page list of = apart 2 name _ page of.task.name
+  other_task name machine sheet (tasks.Page days) page list of = apart 2 name _ page of.task.name
   other_task name machine sheet (tasks.List day) page list of = apart 2 name _ list of.task.name
 
   -- what the command `send` has: one order or several orders, and a task
@@ -240,7 +267,7 @@ module _ (rows : List Row) where
     some = omega arith;
     few = omega arith;
     its_task = task;
-    task = record { same = same; day = of.day; results = of.results; language = of.language };
+    task = record { same = same; day = of.day; results = of.results };
   }
 
   pub only_sent : (command : NamedCommand) → IsCommandOf (codes "send", rows) command → HasSent
@@ -273,9 +300,8 @@ module _ (rows : List Row) where
   only_received other of = absurd (other_name (codes "receive") other refl of)
 
   pub only_table : (command : NamedCommand) → IsCommandOf (codes "table", rows) command
-      → (sheet : List ℕ) × (form : TableForm) × (language : Option Language)
-      × IsTableOf (codes "table", rows) sheet form language
-  only_table (commands.Table sheet form language) of = (sheet, form, language, of)
+      → (sheet : List ℕ) × (form : TableForm) × IsTableOf (codes "table", rows) sheet form
+  only_table (commands.Table sheet form) of = (sheet, form, of)
   only_table (commands.OnMachine machine sheet task) of =
       absurd (other_task (codes "table") machine sheet task refl refl of)
   only_table (commands.Message machine sheet message task) of =
@@ -283,8 +309,8 @@ module _ (rows : List Row) where
   only_table other of = absurd (other_name (codes "table") other refl of)
 
   pub only_typing_page : (command : NamedCommand) → IsCommandOf (codes "type", rows) command
-      → (machine : List ℕ) × (language : Option Language) × IsTypingPageOf (codes "type", rows) machine language
-  only_typing_page (commands.TypingPage machine language) of = (machine, language, of)
+      → (machine : List ℕ) × IsTypingPageOf (codes "type", rows) machine
+  only_typing_page (commands.TypingPage machine) of = (machine, of)
   only_typing_page (commands.OnMachine machine sheet task) of =
       absurd (other_task (codes "type") machine sheet task refl refl of)
   only_typing_page (commands.Message machine sheet message task) of =
@@ -358,21 +384,21 @@ no_task_with said table sheet look send receive typing none (commands.Message ma
     no_message said.0 task.direction send receive of.name
 no_task_with said table sheet look send receive typing none (commands.Orders machine its_sheet orders task) of =
     send of.name
-no_task_with said table sheet look send receive typing none (commands.TypingPage machine language) of = typing of.name
-no_task_with said table sheet look send receive typing none (commands.Table its_sheet form language) of = table of.name
+no_task_with said table sheet look send receive typing none (commands.TypingPage machine) of = typing of.name
+no_task_with said table sheet look send receive typing none (commands.Table its_sheet form) of = table of.name
 no_task_with said table sheet look send receive typing none (commands.Sheet its_table options) of = sheet of.name
 no_task_with said table sheet look send receive typing none (commands.Look files) of = look of.name
 no_task_with said table sheet look send receive typing none (commands.EmptySheet model days) of = sheet of.name
 
--- a task of `page` has its days and its language
+-- a task of `page` has its days
 pub only_page : (rows : List Row) (task : Task) → IsTaskOf (codes "page", rows) task
-    → (days : Option (List ℕ)) × (language : Option Language) × HasDays rows days × HasLanguage rows language
-only_page rows (tasks.Page days language) of = (days, language, of.arguments.0, of.arguments.1)
+    → (days : Option (List ℕ)) × HasDays rows days
+only_page rows (tasks.Page days) of = (days, of.arguments)
 only_page rows (tasks.List day) of = absurd (apart 0 (codes "page") (codes "list") refl of.name)
 
 pub only_list : (rows : List Row) (task : Task) → IsTaskOf (codes "list", rows) task
     → (day : ℕ) × HasDay rows day
-only_list rows (tasks.Page days language) of = absurd (apart 0 (codes "list") (codes "page") refl of.name)
+only_list rows (tasks.Page days) of = absurd (apart 0 (codes "list") (codes "page") refl of.name)
 only_list rows (tasks.List day) of = (day, of.arguments)
 
 -- a word that names no days gives none
@@ -384,11 +410,11 @@ other_days_word rows word is none (Some days) has =
     none days (subst (λ w. AreDays w days) (sym same) has.2)
 
 -- a word that is no language's code gives none
-pub other_language : (rows : List Row) (word : List ℕ) → first_of (codes "in") rows ≡ Some word
-    → ((language : Language) → language_code language ≢ word) → (language : Option Language) → HasLanguage rows language
+pub other_language : (said : Option (List ℕ × List Row)) (word : List ℕ) → value_said (codes "in") said ≡ Some word
+    → ((language : Language) → language_code language ≢ word) → (language : Option Language) → HasLanguage said language
     → ⊥
-other_language rows word is none None has = let wrong : Some word ≡ None = sym is ∙ has in cc
-other_language rows word is none (Some language) has = none language (same_Some _ _ (sym has ∙ is))
+other_language said word is none None has = let wrong : Some word ≡ None = sym is ∙ has in cc
+other_language said word is none (Some language) has = none language (same_Some _ _ (sym has ∙ is))
 
 -- the text of an option, as clap's getter reads it
 pub read_text : (found : Found) (id : List ℕ) (word : Option (Bor (List ℕ))) (otherwise : Bor (List ℕ))

@@ -3,7 +3,7 @@ use Rattle.std.proofs.Common.{get_or}
 use Rattle.std.proofs.lemmas.Fmt.{decimal_injective}
 use Rattle.std.specs.Prelude.{◌≤◌, length, nat_eq}
 use Rattle.kd_curator_command.proofs.Prelude.{[], ◌∷◌, ◌≡◌, ℕ, false, List, Option, Some, None, Row, NamedCommand, IsMeant, codes}
-use Rattle.kd_curator_command.proofs.Prelude.{HasDay, HasDays, HasLanguage}
+use Rattle.kd_curator_command.proofs.Prelude.{HasDay, HasDays}
 use Rattle.kd_curator_command.proofs.Prelude.{IsCommandOf, IsTaskOf}
 use Rattle.kd_curator_command.proofs.Prelude.{ap, arith, refl, same_Some, subcommand_of, subst, sym, ◌∙◌}
 use Rattle.kd_curator_command.specs.CommandLine.{CommandLinesMeanOneCommand, curator_grammar}
@@ -15,9 +15,6 @@ use Rattle.clap.specs.Words.{all_of}
 use Rattle.kd_tables.specs.declared.direction.Direction.{Direction}
 use Rattle.kd_tables.specs.declared.direction.Direction.TheVariants as directions
 use Rattle.kd_curator_command.specs.declared.command.MessageTask.{MessageTask}
-use Rattle.kd_curator_command.specs.Locale.{language_code}
-use Rattle.kd_language.specs.declared.language.Language.{Language}
-use Rattle.kd_language.specs.declared.language.Language.TheVariants.{English, German}
 use Rattle.kd_curator_command.specs.declared.command.Command.TheVariants as commands
 use Rattle.kd_pictures.specs.declared.results.Results.{Results}
 use Rattle.kd_pictures.specs.declared.results.Results.TheVariants.{LeftOpen, Shown}
@@ -39,20 +36,6 @@ same_days rows (Some days) (Some more) (word, is, named) (other, also, again) =
     let same = same_Some word other (sym is ∙ also) in
     ap Some (same_Some days more (sym named.named ∙ ap days_named same ∙ again.named))
 
-same_code : (one other : Language) → language_code one ≡ language_code other → one ≡ other
-same_code English English is = refl
-same_code German German is = refl
-same_code English German is = absurd (apart 0 (codes "en") (codes "de") refl is)
-same_code German English is = absurd (apart 0 (codes "de") (codes "en") refl is)
-
-same_language : (rows : List Row) (one other : Option Language) → HasLanguage rows one → HasLanguage rows other
-    → one ≡ other
-same_language rows None None first second = refl
-same_language rows None (Some other) first second = absurd (missing rows (codes "in") _ first second)
-same_language rows (Some one) None first second = absurd (missing rows (codes "in") _ second first)
-same_language rows (Some one) (Some other) first second =
-    ap Some (same_code one other (same_Some _ _ (sym first ∙ second)))
-
 same_day : (rows : List Row) (one other : ℕ) → HasDay rows one → HasDay rows other → one ≡ other
 same_day rows one other first second =
     decimal_injective one other (omega (arith, first.1.last)) (omega (arith, second.1.last))
@@ -60,14 +43,13 @@ same_day rows one other first second =
 
 same_task : (rows : List Row) (name : List ℕ) (one other : Task) → IsTaskOf (name, rows) one
     → IsTaskOf (name, rows) other → one ≡ other
-same_task rows name (tasks.Page days language) (tasks.Page more also) first second =
-    let are = same_days rows days more first.arguments.0 second.arguments.0 in
-    let is = same_language rows language also first.arguments.1 second.arguments.1 in cc
+same_task rows name (tasks.Page days) (tasks.Page more) first second =
+    ap tasks.Page (same_days rows days more first.arguments second.arguments)
 same_task rows name (tasks.List one) (tasks.List other) first second =
     ap tasks.List (same_day rows one other first.arguments second.arguments)
-same_task rows name (tasks.Page days language) (tasks.List other) first second =
+same_task rows name (tasks.Page days) (tasks.List other) first second =
     absurd (apart 0 (codes "page") (codes "list") refl (sym first.name ∙ second.name))
-same_task rows name (tasks.List one) (tasks.Page days language) first second =
+same_task rows name (tasks.List one) (tasks.Page days) first second =
     absurd (apart 0 (codes "page") (codes "list") refl (sym second.name ∙ first.name))
 
 same_parts : (machine other sheet more : List ℕ) (task next : Task) → machine ≡ other → sheet ≡ more → task ≡ next
@@ -81,9 +63,9 @@ same_results rows LeftOpen Shown first second = absurd (second first)
 same_results rows LeftOpen LeftOpen first second = refl
 
 same_work : (task next : MessageTask) → task.direction ≡ next.direction → task.day ≡ next.day
-    → task.results ≡ next.results → task.language ≡ next.language → task ≡ next
-same_work task next is are shown too =
-    λ i. record { direction = is i; day = are i; results = shown i; language = too i }
+    → task.results ≡ next.results → task ≡ next
+same_work task next is are shown =
+    λ i. record { direction = is i; day = are i; results = shown i }
 
 same_message : (machine other sheet more message last : List ℕ) (task next : MessageTask) → machine ≡ other
     → sheet ≡ more → message ≡ last → task ≡ next
@@ -117,14 +99,9 @@ same_form rows forms.Page forms.Csv first second = absurd (first second)
 same_form rows forms.Csv forms.Page first second = absurd (second first)
 same_form rows forms.Csv forms.Csv first second = refl
 
-same_table : (sheet other : List ℕ) (form next : TableForm) (language also : Option Language) → sheet ≡ other
-    → form ≡ next → language ≡ also
-    → ◌≡◌ {A = NamedCommand} (commands.Table sheet form language) (commands.Table other next also)
-same_table sheet other form next language also is same spoken = cc
-
-same_typing_page : (machine other : List ℕ) (language also : Option Language) → machine ≡ other → language ≡ also
-    → ◌≡◌ {A = NamedCommand} (commands.TypingPage machine language) (commands.TypingPage other also)
-same_typing_page machine other language also is spoken = cc
+same_table : (sheet other : List ℕ) (form next : TableForm) → sheet ≡ other → form ≡ next
+    → ◌≡◌ {A = NamedCommand} (commands.Table sheet form) (commands.Table other next)
+same_table sheet other form next is same = cc
 
 same_model : (model other : Model) → model_text model ≡ model_text other → model ≡ other
 same_model model other is = same_Some model other
@@ -166,29 +143,25 @@ same_command said (commands.Message machine sheet message task) (commands.Messag
     (same_Some _ _ (sym first.machine ∙ second.machine)) (same_Some _ _ (sym first.sheet ∙ second.sheet))
     (one_message said.1 next.direction message last named second.message)
     (same_work task next same (same_day said.1 task.day next.day first.day second.day)
-    (same_results said.1 task.results next.results first.results second.results)
-    (same_language said.1 task.language next.language first.language second.language))
+    (same_results said.1 task.results next.results first.results second.results))
 same_command said (commands.Orders machine sheet orders task) (commands.Orders other more others next) first second =
     same_orders machine other sheet more orders.items others.items task next
     (same_Some _ _ (sym first.machine ∙ second.machine)) (same_Some _ _ (sym first.sheet ∙ second.sheet))
     (same_Some _ _ (sym first.orders ∙ second.orders))
     (same_work task next (first.task.same ∙ sym second.task.same)
     (same_day said.1 task.day next.day first.task.day second.task.day)
-    (same_results said.1 task.results next.results first.task.results second.task.results)
-    (same_language said.1 task.language next.language first.task.language second.task.language))
+    (same_results said.1 task.results next.results first.task.results second.task.results))
 same_command said (commands.Message machine sheet message task) (commands.Orders other more orders next) first second =
     absurd (one_or_several said.1 message orders.items task.direction first.message
     (same_direction task.direction directions.Send (sym first.name ∙ second.name)) second.orders second.several)
 same_command said (commands.Orders machine sheet orders task) (commands.Message other more message next) first second =
     absurd (one_or_several said.1 message orders.items next.direction second.message
     (same_direction next.direction directions.Send (sym second.name ∙ first.name)) first.orders first.several)
-same_command said (commands.TypingPage machine language) (commands.TypingPage other also) first second =
-    same_typing_page machine other language also (same_Some _ _ (sym first.machine ∙ second.machine))
-    (same_language said.1 language also first.language second.language)
-same_command said (commands.Table sheet form language) (commands.Table other next also) first second =
-    same_table sheet other form next language also (same_Some _ _ (sym first.sheet ∙ second.sheet))
+same_command said (commands.TypingPage machine) (commands.TypingPage other) first second =
+    ap (λ m. commands.TypingPage m) (same_Some _ _ (sym first.machine ∙ second.machine))
+same_command said (commands.Table sheet form) (commands.Table other next) first second =
+    same_table sheet other form next (same_Some _ _ (sym first.sheet ∙ second.sheet))
     (same_form said.1 form next first.form second.form)
-    (same_language said.1 language also first.language second.language)
 same_command said (commands.Sheet table options) (commands.Sheet other more) first second =
     same_filled table other options more (same_Some _ _ (sym first.table ∙ second.table))
     (first.options ∙ sym second.options)
@@ -205,20 +178,20 @@ same_command said (commands.EmptySheet model days) (commands.EmptySheet other mo
     (first.month.numbered ∙ numbers ∙ sym second.month.numbered))
 same_command said (commands.Look files) (commands.Look others) first second =
     ap (λ items. commands.Look (record { items = items })) (first.files ∙ sym second.files)
-same_command said (commands.OnMachine machine sheet (tasks.Page days language)) (commands.Message a b c d) first second =
+same_command said (commands.OnMachine machine sheet (tasks.Page days)) (commands.Message a b c d) first second =
     absurd (message_apart d.direction (codes "page") refl refl (sym second.name ∙ first.task.name))
 same_command said (commands.OnMachine machine sheet (tasks.List day)) (commands.Message a b c d) first second =
     absurd (message_apart d.direction (codes "list") refl refl (sym second.name ∙ first.task.name))
-same_command said (commands.Message a b c d) (commands.OnMachine machine sheet (tasks.Page days language)) first second =
+same_command said (commands.Message a b c d) (commands.OnMachine machine sheet (tasks.Page days)) first second =
     absurd (message_apart d.direction (codes "page") refl refl (sym first.name ∙ second.task.name))
 same_command said (commands.Message a b c d) (commands.OnMachine machine sheet (tasks.List day)) first second =
     absurd (message_apart d.direction (codes "list") refl refl (sym first.name ∙ second.task.name))
-same_command said (commands.OnMachine machine sheet (tasks.Page days language)) other first second =
-    absurd (unlike said (commands.OnMachine machine sheet (tasks.Page days language)) other first second refl)
+same_command said (commands.OnMachine machine sheet (tasks.Page days)) other first second =
+    absurd (unlike said (commands.OnMachine machine sheet (tasks.Page days)) other first second refl)
 same_command said (commands.OnMachine machine sheet (tasks.List day)) other first second =
     absurd (unlike said (commands.OnMachine machine sheet (tasks.List day)) other first second refl)
-same_command said one (commands.OnMachine machine sheet (tasks.Page days language)) first second =
-    absurd (unlike said one (commands.OnMachine machine sheet (tasks.Page days language)) first second refl)
+same_command said one (commands.OnMachine machine sheet (tasks.Page days)) first second =
+    absurd (unlike said one (commands.OnMachine machine sheet (tasks.Page days)) first second refl)
 same_command said one (commands.OnMachine machine sheet (tasks.List day)) first second =
     absurd (unlike said one (commands.OnMachine machine sheet (tasks.List day)) first second refl)
 same_command said (commands.Message machine sheet message task) other first second =

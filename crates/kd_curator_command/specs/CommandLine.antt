@@ -13,7 +13,7 @@ use Rattle.clap.specs.Words.{App, all_of, app_of, IsAmong, Row, Rule, Shape, fir
 use Rattle.clap.specs.Simple.{new_shape, with_subcommand}
 use Rattle.kd_state.specs.SheetDay.{IsDayNumber}
 use Rattle.kd_curator_command.specs.Days.{AreDays}
-use Rattle.kd_curator_command.specs.Locale.{language_code}
+use Rattle.kd_curator_command.specs.Locale.{language_code, language_with_code}
 use Rattle.kd_language.specs.declared.language.Language.{Language}
 use Rattle.kd_pictures.specs.declared.results.Results.{Results}
 use Rattle.kd_pictures.specs.declared.results.Results.TheVariants.{LeftOpen, Shown}
@@ -55,7 +55,7 @@ command_shape name last = record (new_shape name) {
 abbrev pub option_rule : List ℕ → Rule
 option_rule name = record (new_rule name) { long = Some name; value_names = 1 }
 
--- the option `--in`, which takes the language of the output
+-- the option `--in`, which takes the language of the program's words
 abbrev pub language_option : Rule
 language_option = option_rule (codes "in")
 
@@ -76,7 +76,8 @@ page_shape =
     with_rule (with_rule (command_shape (codes "page") (new_rule (codes "DAYS"))) language_option) output_option
 
 abbrev pub list_shape : Shape
-list_shape = with_rule (command_shape (codes "list") (needed (codes "DAY"))) output_option
+list_shape =
+    with_rule (with_rule (command_shape (codes "list") (needed (codes "DAY"))) language_option) output_option
 
 -- an option that takes no value
 abbrev pub flag : List ℕ → Rule
@@ -94,12 +95,12 @@ table_shape = record (new_shape (codes "table")) {
 abbrev pub sheet_shape : Shape
 sheet_shape = record (new_shape (codes "sheet")) {
   rules = option_rule (codes "model") ∷ option_rule (codes "reflector") ∷ option_rule (codes "window")
-      ∷ option_rule (codes "empty") ∷ needed (codes "TABLE") ∷ output_option ∷ [];
+      ∷ option_rule (codes "empty") ∷ needed (codes "TABLE") ∷ language_option ∷ output_option ∷ [];
 }
 
 abbrev pub look_shape : Shape
 look_shape = record (new_shape (codes "look")) {
-  rules = needed (codes "FILE") ∷ new_rule (codes "FILE2") ∷ new_rule (codes "FILE3") ∷ [];
+  rules = needed (codes "FILE") ∷ new_rule (codes "FILE2") ∷ new_rule (codes "FILE3") ∷ language_option ∷ [];
 }
 
 -- the option `--blank`, which takes no value
@@ -161,8 +162,8 @@ unborrowed_command (commands.Message machine sheet message task) =
     commands.Message machine.now sheet.now message.now task
 unborrowed_command (commands.Orders machine sheet orders task) =
     commands.Orders machine.now sheet.now (record { items = unborrowed_names orders.items }) task
-unborrowed_command (commands.TypingPage machine language) = commands.TypingPage machine.now language
-unborrowed_command (commands.Table sheet form language) = commands.Table sheet.now form language
+unborrowed_command (commands.TypingPage machine) = commands.TypingPage machine.now
+unborrowed_command (commands.Table sheet form) = commands.Table sheet.now form
 unborrowed_command (commands.Sheet table options) = commands.Sheet table.now (texts_of options)
 unborrowed_command (commands.Look files) = commands.Look (record { items = unborrowed_names files.items })
 unborrowed_command (commands.EmptySheet model days) = commands.EmptySheet model days
@@ -177,18 +178,13 @@ HasDays rows (Some days) =
 abbrev pub HasDay : List Row → ℕ → Type 0
 HasDay rows day = (first_of (codes "DAY") rows ≡ Some (decimal day)) × IsDayNumber day
 
--- The value of the option `--in` is the code of `language`. `None` means that the option isn't used.
-abbrev pub HasLanguage : List Row → Option Language → Type 0
-HasLanguage rows language = first_of (codes "in") rows ≡ option_map language_code language
-
 abbrev pub task_name : Task → List ℕ
-task_name (tasks.Page days language) = codes "page"
+task_name (tasks.Page days) = codes "page"
 task_name (tasks.List day) = codes "list"
 
--- The arguments in `rows` ask for the task. For pages, they name the days and the language; for a list, they name the
--- day.
+-- The arguments in `rows` ask for the task. For pages, they name the days; for a list, they name the day.
 abbrev pub HasArguments : List Row → Task → Type 0
-HasArguments rows (tasks.Page days language) = HasDays rows days × HasLanguage rows language
+HasArguments rows (tasks.Page days) = HasDays rows days
 HasArguments rows (tasks.List day) = HasDay rows day
 
 -- The command name and the argument values in `said` ask for the task `task`.
@@ -233,14 +229,12 @@ pub record IsMessageOf (said : List ℕ × List Row) (machine_file key_sheet its
   pub message : HasMessage said.1 its_task.direction its_message
   pub day : HasDay said.1 its_task.day
   pub results : HasResults said.1 its_task.results
-  pub language : HasLanguage said.1 its_task.language
 
 -- The arguments in `rows` ask for this task, for a message in this direction.
 pub record IsMessageTask (rows : List Row) (direction : Direction) (task : MessageTask) : Type 0 where
   pub same : task.direction ≡ direction
   pub day : HasDay rows task.day
   pub results : HasResults rows task.results
-  pub language : HasLanguage rows task.language
 
 -- The command's name and arguments in `said` mean the command `send` for 2 to 32 orders, with the files `machine_file`,
 -- `key_sheet` and `its_orders`.
@@ -254,20 +248,16 @@ pub record IsOrdersOf (said : List ℕ × List Row) (machine_file key_sheet : Li
   pub few : length its_orders ≤ 32
   pub task : IsMessageTask said.1 Send its_task
 
--- The command's name and arguments in `said` mean the command `type`, with `machine_file` and `its_language`.
-pub record IsTypingPageOf (said : List ℕ × List Row) (machine_file : List ℕ) (its_language : Option Language)
-    : Type 0 where
+-- The command's name and arguments in `said` mean the command `type`, with `machine_file`.
+pub record IsTypingPageOf (said : List ℕ × List Row) (machine_file : List ℕ) : Type 0 where
   pub name : said.0 ≡ codes "type"
   pub machine : first_of (codes "MACHINE") said.1 ≡ Some machine_file
-  pub language : HasLanguage said.1 its_language
 
--- The command's name and arguments in `said` mean the command `table`, with `key_sheet`, `its_form` and `its_language`.
-pub record IsTableOf (said : List ℕ × List Row) (key_sheet : List ℕ) (its_form : TableForm)
-    (its_language : Option Language) : Type 0 where
+-- The command's name and arguments in `said` mean the command `table`, with `key_sheet` and `its_form`.
+pub record IsTableOf (said : List ℕ × List Row) (key_sheet : List ℕ) (its_form : TableForm) : Type 0 where
   pub name : said.0 ≡ codes "table"
   pub sheet : first_of (codes "SHEET") said.1 ≡ Some key_sheet
   pub form : HasForm said.1 its_form
-  pub language : HasLanguage said.1 its_language
 
 -- the value of the option `name`; empty if the option isn't used
 abbrev pub option_text : List ℕ → List Row → List ℕ
@@ -326,8 +316,8 @@ abbrev pub IsCommandOf : List ℕ × List Row → NamedCommand → Type 0
 IsCommandOf said (commands.OnMachine machine sheet task) = IsTaskWith said machine sheet task
 IsCommandOf said (commands.Message machine sheet message task) = IsMessageOf said machine sheet message task
 IsCommandOf said (commands.Orders machine sheet orders task) = IsOrdersOf said machine sheet orders.items task
-IsCommandOf said (commands.TypingPage machine language) = IsTypingPageOf said machine language
-IsCommandOf said (commands.Table sheet form language) = IsTableOf said sheet form language
+IsCommandOf said (commands.TypingPage machine) = IsTypingPageOf said machine
+IsCommandOf said (commands.Table sheet form) = IsTableOf said sheet form
 IsCommandOf said (commands.Sheet table options) = IsSheetOf said table options
 IsCommandOf said (commands.Look files) = IsLookOf said files.items
 IsCommandOf said (commands.EmptySheet model days) = IsEmptySheetOf said model days
@@ -336,18 +326,36 @@ IsCommandOf said (commands.EmptySheet model days) = IsEmptySheetOf said model da
 abbrev pub IsMeant : Option (List ℕ × List Row) → NamedCommand → Type 0
 IsMeant said command = IsSomeAnd said (λ x. IsCommandOf x command)
 
--- The command line `words` fits the grammar, and means `command`. The first word is the program's own name.
+-- the value of the argument `name`; `None` if the argument isn't given, or there is no command
+abbrev pub value_said : List ℕ → Option (List ℕ × List Row) → Option (List ℕ)
+value_said name said = option_and_then (λ x. first_of name x.1) said
+
+-- The value of the option `--in` is the code of `language`. `None` means that the option isn't used.
+abbrev pub HasLanguage : Option (List ℕ × List Row) → Option Language → Type 0
+HasLanguage said language = value_said (codes "in") said ≡ option_map language_code language
+
+-- the language that the option `--in` asks for; `None` if the option isn't used, or its value is no language's code
+abbrev pub language_said : Option (List ℕ × List Row) → Option Language
+language_said said = option_and_then language_with_code (value_said (codes "in") said)
+
+-- the language that the option `--in` asks for in the command line `words`; `None` if the words ask for no language
+abbrev pub asked_language : List (List ℕ) → Option Language
+asked_language words = language_said (subcommand_of curator_grammar words)
+
+-- the language that the option `--in` asks for in the command line `words`; without this option, `language`
+abbrev pub chosen_language : Language → List (List ℕ) → Language
+chosen_language language words = unwrap_or (asked_language words) language
+
+-- The command line `words` fits the grammar, and means `command`. The first word is the program's own name. If the
+-- option `--in` is used, its value is the code of a language.
 pub record IsCommandLineOf (words : List (List ℕ)) (command : NamedCommand) : Type 0 where
   pub taken : fault_of curator_grammar words ≡ []
   pub said : IsMeant (subcommand_of curator_grammar words) command
-
--- the value of the option `-o`; `None` if the option isn't used, or there is no command
-abbrev pub output_said : Option (List ℕ × List Row) → Option (List ℕ)
-output_said said = option_and_then (λ x. first_of (codes "output") x.1) said
+  pub language : HasLanguage (subcommand_of curator_grammar words) (asked_language words)
 
 -- the name of the output file in the command line `words`; `None` if the words don't name an output file
 abbrev pub output_of : List (List ℕ) → Option (List ℕ)
-output_of words = output_said (subcommand_of curator_grammar words)
+output_of words = value_said (codes "output") (subcommand_of curator_grammar words)
 
 abbrev pub IsNoCommandLine : List (List ℕ) → Type 0
 IsNoCommandLine words = (command : NamedCommand) → ¬ (IsCommandLineOf words command)

@@ -7,18 +7,20 @@ ghost use Rattle.kd_curator_command.specs.CommandLine.{curator_grammar};
 ghost use Rattle.kd_spreadsheet.specs.Options.{texts_of};
 ghost use Rattle.kd_curator_command.specs.CommandLine.{HasDay, HasDays, HasForm, HasLanguage, HasNoCommand, HasResults, IsCommandLineOf};
 ghost use Rattle.kd_curator_command.specs.CommandLine.{IsCommandOf, IsMeant, IsMessageTask, IsMonthNamed, IsTaskOf, IsUsed};
-ghost use Rattle.kd_curator_command.specs.CommandLine.{IsToldAs, NamedCommand, are_blank};
-ghost use Rattle.kd_curator_command.specs.CommandLine.{option_text, option_texts, output_of, output_said};
+ghost use Rattle.kd_curator_command.specs.CommandLine.{IsToldAs, NamedCommand, are_blank, asked_language};
+ghost use Rattle.kd_curator_command.specs.CommandLine.{option_text, option_texts, output_of, value_said};
 ghost use Rattle.kd_curator_command.specs.CommandLine.{unborrowed_command, unborrowed_names};
 ghost use Rattle.kd_curator_command.specs.declared.command.MessageTask.{MessageTask};
 
+use crate::clap_words::german_text;
 use crate::days::{Days, days_of_word};
 use crate::grammar::grammar;
-use crate::locale::language_of_code;
+use crate::locale::{language_of_code, language_of_help};
+use crate::texts::{IN_QUOTES, MANY_ORDERS, NO_DAY, NO_DAYS, NO_HINT, NO_LANGUAGE, NO_MONTH};
 use arrayvec::ArrayVec;
 use clap::error::ErrorKind;
 use clap::{ArgMatches, Command as Grammar, Error};
-use kd_language::Language;
+use kd_language::{Language, Text, Wording};
 use kd_pictures::Results;
 use kd_printed_sheet::TableForm;
 use kd_spreadsheet::TableOptions;
@@ -47,7 +49,7 @@ pub enum Command<T> {
         sheet: T,
         /// The order or the form.
         message: T,
-        /// The task: what to do with the message. It also has the message's day, and the language of the page.
+        /// The task: what to do with the message. It also has the message's day.
         task: MessageTask,
     },
     /// Writes how to encipher several orders by hand, in one file.
@@ -58,15 +60,13 @@ pub enum Command<T> {
         sheet: T,
         /// The orders: at least two.
         orders: ArrayVec<T, 32>,
-        /// The direction `Send`, the day, and the language of the page.
+        /// The direction `Send`, and the day.
         task: MessageTask,
     },
     /// Writes a page for typing on a machine.
     TypingPage {
         /// The machine file.
         machine: T,
-        /// The language of the page; `None` if the option `--in` isn't used.
-        language: Option<Language>,
     },
     /// Writes a key sheet as printed tables.
     Table {
@@ -74,8 +74,6 @@ pub enum Command<T> {
         sheet: T,
         /// The form of the tables.
         form: TableForm,
-        /// The language of the tables; `None` if the option `--in` isn't used.
-        language: Option<Language>,
     },
     /// Makes a key sheet from a spreadsheet's table.
     Sheet {
@@ -104,8 +102,6 @@ pub enum Task {
     Page {
         /// The days; `None` for all days that the sheet has for the machine's model.
         days: Option<Days>,
-        /// The language of the pages; `None` if the option `--in` isn't used.
-        language: Option<Language>,
     },
     /// A list of settings for `desk apply`: the settings on a day's page. The value is the day's number.
     List(u8),
@@ -119,17 +115,17 @@ pub struct MessageTask {
     pub day: u8,
     /// Whether the page shows the results; with the option `--blank`, they are left open.
     pub results: Results,
-    /// The language of the page; `None` if the option `--in` isn't used.
-    pub language: Option<Language>,
 }
 
 /// A command whose names and texts are borrowed from the command line.
 pub type NamedCommand<'a> = Command<&'a str>;
 
-/// A command, and the file for its output.
+/// A command, the language of what it writes, and the file for its output.
 #[derive(Drop)]
 pub struct CommandLine<'a> {
     pub command: NamedCommand<'a>,
+    /// The language that the option `--in` asks for; `None` if the option isn't used.
+    pub language: Option<Language>,
     /// The new file for the output; `None` for standard output.
     pub output: Option<&'a str>,
 }
@@ -156,77 +152,107 @@ impl From<AllocError> for NoCommand {
     }
 }
 
-/// Parses the command line `words`, which begins with the program's own name.
+/// Parses the command line `words`, which begins with the program's own name. Help and errors are in the language that
+/// the words ask for. If they ask for none, help and errors are in `language`.
 pub fn parse_words<'a, S: AsStr>(
     alloc: Global,
+    language: Language,
     words: &'a [S],
 ) -> Result<CommandLine<'a>, NoCommand>
     ensures said { IfOk result
         (λ line. IsCommandLineOf (map S.text words.entry.now) (unborrowed_command line.command)) }
+    ensures language { IfOk result
+        (λ line. line.language ≡ asked_language (map S.text words.entry.now)) }
     ensures output { IfOk result (λ line.
         option_map (λ name. name.now) line.output ≡ output_of (map S.text words.entry.now)) }
     ensures none { IfErr result (HasNoCommand (map S.text words.entry.now)) }
 {
-    let mut grammar = grammar(alloc)?;
-    parse_by(alloc, &mut grammar, words)
+    let wording = Wording {
+        alloc,
+        language: language_of_help(language, words),
+    };
+    let mut grammar = grammar(wording)?;
+    parse_by(wording, &mut grammar, words)
 }
 
 /// Parses the command line `words` by the program's grammar.
 fn parse_by<'a, S: AsStr>(
-    alloc: Global,
+    wording: Wording,
     grammar: &mut Grammar<'a>,
     words: &'a [S],
 ) -> Result<CommandLine<'a>, NoCommand>
     requires { app_of grammar.old ≡ curator_grammar }
     ensures said { IfOk result
         (λ line. IsCommandLineOf (map S.text words.entry.now) (unborrowed_command line.command)) }
+    ensures language { IfOk result
+        (λ line. line.language ≡ asked_language (map S.text words.entry.now)) }
     ensures output { IfOk result (λ line.
         option_map (λ name. name.now) line.output ≡ output_of (map S.text words.entry.now)) }
     ensures none { IfErr result (HasNoCommand (map S.text words.entry.now)) }
 {
     let matches = match grammar.try_get_matches_from_mut(words) {
         Ok(matches) => matches,
-        Err(error) => return Err(no_command(alloc, &error, quotes_hint(words))),
+        Err(error) => return Err(no_command(wording, &error, quotes_hint(words))),
     };
-    match meant_command(&matches) {
-        Some(command) => Ok(CommandLine {
-            command,
-            output: output_said(&matches),
-        }),
-        None => Err(no_days(alloc, grammar, why_not(&matches))),
+    match meant_line(&matches) {
+        Some(line) => Ok(line),
+        None => Err(no_days(wording, grammar, why_not(&matches))),
     }
 }
 
-/// The value of the option `-o`, if it is used.
-fn output_said<'a>(matches: &ArgMatches<'a>) -> Option<&'a str>
-    ensures { option_map (λ name. name.now) result ≡ output_said (subcommand_rows_of matches.now) }
+/// The command, the language and the output file that `matches` mean. `None` if an argument has a wrong value.
+fn meant_line<'a>(matches: &ArgMatches<'a>) -> Option<CommandLine<'a>>
+    ensures said { IfSome result (λ line.
+        IsMeant (subcommand_rows_of matches.now) (unborrowed_command line.command)) }
+    ensures language { IfSome result (λ line.
+        HasLanguage (subcommand_rows_of matches.now) line.language) }
+    ensures output { IfSome result (λ line. option_map (λ name. name.now) line.output
+        ≡ value_said (codes "output") (subcommand_rows_of matches.now)) }
+    ensures none { result ≡ None → (command : NamedCommand)
+        → IsMeant (subcommand_rows_of matches.now) command → (language : Option Language)
+        → ¬ (HasLanguage (subcommand_rows_of matches.now) language) }
 {
-    let (_, words) = matches.subcommand()?;
-    words.get_str("output")
+    let command = meant_command(matches)?;
+    let language = language_said(matches).ok()?;
+    Some(CommandLine {
+        command,
+        language,
+        output: value_said(matches, "output"),
+    })
 }
 
-/// The error of `sheet --empty` for a wrong number of days, a wrong model or a needless option.
-const NO_MONTH: &str =
-    "--empty needs Enigma I, M3, M4 or M-209, then a number of days from 1 to 31, and no other option but -o";
+/// The value of the argument `name`, if it is given.
+fn value_said<'a>(matches: &ArgMatches<'a>, name: &str) -> Option<&'a str>
+    ensures { option_map (λ value. value.now) result
+        ≡ value_said name.now (subcommand_rows_of matches.now) }
+{
+    let (_, words) = matches.subcommand()?;
+    words.get_str(name)
+}
 
-/// The error for an argument DAY that isn't the number of a day.
-const NO_DAY: &str = "the day is a number from 1 to 31";
-
-/// The error for more than 32 arguments ORDER.
-const MANY_ORDERS: &str = "send takes at most 32 orders";
-
-/// The error for an option `--in` whose value isn't a language's code.
-const NO_LANGUAGE: &str = "--in takes de or en";
-
-/// The error for an argument DAYS that doesn't name days.
-const NO_DAYS: &str = "days are numbers from 1 to 31, each once, such as 2, 1-31 or 1,4,2";
+/// The language in the option `--in`. `Ok(None)` if the option isn't used.
+fn language_said(matches: &ArgMatches<'_>) -> Result<Option<Language>, WrongValue>
+    ensures said { IfOk result (HasLanguage (subcommand_rows_of matches.now)) }
+    ensures none { IsErr result → (language : Option Language)
+        → ¬ (HasLanguage (subcommand_rows_of matches.now) language) }
+{
+    let Some(code) = value_said(matches, "in") else {
+        return Ok(None);
+    };
+    match language_of_code(code) {
+        Some(language) => Ok(Some(language)),
+        None => Err(WrongValue),
+    }
+}
 
 /// Why words don't mean a command, though `clap` accepts them. The answer is the text of an error.
-fn why_not(matches: &ArgMatches<'_>) -> &'static str {
+fn why_not(matches: &ArgMatches<'_>) -> Text {
+    if language_said(matches).is_err() {
+        return NO_LANGUAGE;
+    }
     match matches.subcommand() {
         Some(("sheet", _)) => NO_MONTH,
         Some(("list", _)) => NO_DAY,
-        Some((_, words)) if language_asked(words).is_err() => NO_LANGUAGE,
         Some(("send", words)) if day_asked(words).is_some() => MANY_ORDERS,
         Some(("send" | "receive", _)) => NO_DAY,
         _ => NO_DAYS,
@@ -234,21 +260,18 @@ fn why_not(matches: &ArgMatches<'_>) -> &'static str {
 }
 
 /// The error for words that `clap` accepts, but that don't mean a command. `why` is the text of the error.
-fn no_days(alloc: Global, grammar: &mut Grammar<'_>, why: &str) -> NoCommand
+fn no_days(wording: Wording, grammar: &mut Grammar<'_>, why: Text) -> NoCommand
     ensures { IsToldAs ErrorKind.InvalidValue result }
 {
-    match grammar.error(ErrorKind::InvalidValue, why) {
-        Ok(error) => no_command(alloc, &error, ""),
+    match grammar.error(ErrorKind::InvalidValue, wording.language.text(why)) {
+        Ok(error) => no_command(wording, &error, NO_HINT),
         Err(_) => NoCommand::NoMemory,
     }
 }
 
-/// The hint that a model's name with a space has to be typed in quotes.
-const IN_QUOTES: &str = "Write \"Enigma I\" in quotes.\n";
-
 /// The hint to type a model's name in quotes, if the word `I` comes directly after the word `Enigma`. Otherwise, an
 /// empty text.
-fn quotes_hint<S: AsStr>(words: &[S]) -> &'static str {
+fn quotes_hint<S: AsStr>(words: &[S]) -> Text {
     let mut is_begun = false;
     for word in words {
         let word = word.as_str();
@@ -257,20 +280,31 @@ fn quotes_hint<S: AsStr>(words: &[S]) -> &'static str {
         }
         is_begun = word == "Enigma";
     }
-    ""
+    NO_HINT
 }
 
 /// The reason why there is no command: the text of `clap`'s error, then `hint`.
-fn no_command(alloc: Global, error: &Error, hint: &str) -> NoCommand
+fn no_command(wording: Wording, error: &Error, hint: Text) -> NoCommand
     ensures { IsToldAs (kind_of error.now) result }
 {
-    let Ok(text) = format!(in alloc; "{error}{hint}") else {
+    let Ok(text) = error_text(wording, error, hint) else {
         return NoCommand::NoMemory;
     };
     match error.kind() {
         ErrorKind::OutOfMemory => NoCommand::NoMemory,
         ErrorKind::DisplayHelp | ErrorKind::DisplayVersion => NoCommand::Asked(text),
         _ => NoCommand::Usage(text),
+    }
+}
+
+/// The text of `clap`'s error, then `hint`, in the wording's language.
+fn error_text(wording: Wording, error: &Error, hint: Text) -> Result<String, AllocError> {
+    let Wording { alloc, language } = wording;
+    let hint = language.text(hint);
+    let text = format!(in alloc; "{error}{hint}")?;
+    match language {
+        Language::English => Ok(text),
+        Language::German => german_text(alloc, text.as_str()),
     }
 }
 
@@ -379,19 +413,17 @@ fn receive_of<'a>(words: &ArgMatches<'a>) -> Option<NamedCommand<'a>>
     })
 }
 
-/// The task for a message, with the day and the language in `words`. `None` if an argument has a wrong value.
+/// The task for a message, with the day in `words`. `None` if the argument DAY has a wrong value.
 fn message_task(words: &ArgMatches<'_>, direction: Direction) -> Option<MessageTask>
     ensures said { IfSome result (IsMessageTask (rows_of (found_of words.now)) direction) }
     ensures none { result ≡ None → (task : MessageTask)
         → ¬ (IsMessageTask (rows_of (found_of words.now)) direction task) }
 {
     let day = day_asked(words)?;
-    let language = language_asked(words).ok()?;
     Some(MessageTask {
         direction,
         day,
         results: results_asked(words),
-        language,
     })
 }
 
@@ -406,7 +438,7 @@ fn results_asked(words: &ArgMatches<'_>) -> Results
     }
 }
 
-/// The command `type` with the arguments in `words`. `None` if an argument has a wrong value.
+/// The command `type` with the arguments in `words`.
 fn typing_page_of<'a>(words: &ArgMatches<'a>) -> Option<NamedCommand<'a>>
     ensures said { IfSome result (λ command.
         IsCommandOf (codes "type", rows_of (found_of words.now)) (unborrowed_command command)) }
@@ -414,11 +446,10 @@ fn typing_page_of<'a>(words: &ArgMatches<'a>) -> Option<NamedCommand<'a>>
         → ¬ (IsCommandOf (codes "type", rows_of (found_of words.now)) command) }
 {
     let machine = words.get_str("MACHINE")?;
-    let language = language_asked(words).ok()?;
-    Some(Command::TypingPage { machine, language })
+    Some(Command::TypingPage { machine })
 }
 
-/// The command `table` with the arguments in `words`. `None` if an argument has a wrong value.
+/// The command `table` with the arguments in `words`.
 fn table_of<'a>(words: &ArgMatches<'a>) -> Option<NamedCommand<'a>>
     ensures said { IfSome result (λ command.
         IsCommandOf (codes "table", rows_of (found_of words.now)) (unborrowed_command command)) }
@@ -427,12 +458,7 @@ fn table_of<'a>(words: &ArgMatches<'a>) -> Option<NamedCommand<'a>>
 {
     let sheet = words.get_str("SHEET")?;
     let form = form_of(words);
-    let language = language_asked(words).ok()?;
-    Some(Command::Table {
-        sheet,
-        form,
-        language,
-    })
+    Some(Command::Table { sheet, form })
 }
 
 /// The form of tables: CSV if `words` have the option `--csv`, otherwise a page.
@@ -584,15 +610,14 @@ fn task_of(name: &str, words: &ArgMatches<'_>) -> Option<Task>
     }
 }
 
-/// The task `page` with the arguments in `words`. `None` if an argument has a wrong value.
+/// The task `page` with the arguments in `words`. `None` if the argument DAYS has a wrong value.
 fn page_of(words: &ArgMatches<'_>) -> Option<Task>
     ensures said { IfSome result (IsTaskOf (codes "page", rows_of (found_of words.now))) }
     ensures none { result ≡ None → (task : Task)
         → ¬ (IsTaskOf (codes "page", rows_of (found_of words.now)) task) }
 {
     let days = days_asked(words).ok()?;
-    let language = language_asked(words).ok()?;
-    Some(Task::Page { days, language })
+    Some(Task::Page { days })
 }
 
 /// The task `list` with the day in the argument DAY. `None` if the argument isn't the number of a day.
@@ -632,19 +657,4 @@ fn day_asked(words: &ArgMatches<'_>) -> Option<u8>
     let word = words.get_str("DAY")?;
     let day = day_of_text(word.as_bytes())?;
     Some(day)
-}
-
-/// The language in the option `--in`. `Ok(None)` if the option isn't used.
-fn language_asked(words: &ArgMatches<'_>) -> Result<Option<Language>, WrongValue>
-    ensures said { IfOk result (HasLanguage (rows_of (found_of words.now))) }
-    ensures none { IsErr result → (language : Option Language)
-        → ¬ (HasLanguage (rows_of (found_of words.now)) language) }
-{
-    let Some(code) = words.get_str("in") else {
-        return Ok(None);
-    };
-    match language_of_code(code) {
-        Some(language) => Ok(Some(language)),
-        None => Err(WrongValue),
-    }
 }

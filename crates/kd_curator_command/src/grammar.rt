@@ -5,6 +5,7 @@ ghost use Rattle.kd_curator_command.specs.CommandLine.{IsMadeOf, curator_grammar
 ghost use Rattle.kd_curator_command.specs.CommandLine.{rule_of_argument, several, shape_of, with_commands};
 
 use clap::{Arg, ArgAction, Command as Grammar};
+use kd_language::{Text, Wording};
 use std::alloc::{AllocError, Global};
 
 /// The version that `--version` shows.
@@ -33,7 +34,7 @@ pub(crate) struct Argument<'a> {
     pub(crate) name: &'a str,
     pub(crate) sort: ArgumentSort<'a>,
     /// What the help text says about the argument.
-    pub(crate) help: &'a str,
+    pub(crate) help: Text,
 }
 
 /// A command and its arguments.
@@ -41,58 +42,73 @@ pub(crate) struct Argument<'a> {
 pub(crate) struct CommandWords<'a> {
     pub(crate) name: &'a str,
     /// What help says about the command.
-    pub(crate) about: &'a str,
+    pub(crate) about: Text,
     pub(crate) arguments: &'a [Argument<'a>],
 }
 
 const MACHINE: Argument<'static> = Argument {
     name: "MACHINE",
     sort: ArgumentSort::Needed,
-    help: "The machine file",
+    help: ("The machine file", "Die Maschinendatei"),
 };
 
 const SHEET: Argument<'static> = Argument {
     name: "SHEET",
     sort: ArgumentSort::Needed,
-    help: "The key sheet",
+    help: ("The key sheet", "Die Schlüsseltafel"),
 };
 
 const DAY: Argument<'static> = Argument {
     name: "DAY",
     sort: ArgumentSort::Needed,
-    help: "The day, from 1 to 31",
+    help: ("The day, from 1 to 31", "Der Tag, von 1 bis 31"),
 };
 
 const LANGUAGE: Argument<'static> = Argument {
     name: "in",
     sort: ArgumentSort::Valued("LANGUAGE"),
-    help: "The language of the words, de or en; without it, that of the environment's LANG",
+    help: (
+        "The language of the words, de or en; without it, that of the environment's LANG",
+        "Die Sprache aller Texte, de oder en; ohne die Option gilt die Umgebungsvariable LANG",
+    ),
 };
 
 const OUTPUT: Argument<'static> = Argument {
     name: "output",
     sort: ArgumentSort::Lettered('o', "FILE"),
-    help: "Writes the new file FILE, whole or not at all, and no standard output",
+    help: (
+        "Writes the new file FILE, whole or not at all, and no standard output",
+        "Schreibt die neue Datei FILE, ganz oder gar nicht, und nichts auf die Standardausgabe",
+    ),
 };
 
 const BLANK: Argument<'static> = Argument {
     name: "blank",
     sort: ArgumentSort::Flag,
-    help: "Leaves open what the machine gives: worksheets, of which the page without --blank is the solution",
+    help: (
+        "Leaves open what the machine gives: worksheets, of which the page without --blank is the solution",
+        "Lässt offen, was die Maschine ergibt: Arbeitsblätter, deren Lösung die Seite ohne --blank ist",
+    ),
 };
 
 /// The commands, in the order in which help lists them.
 static COMMANDS: [CommandWords; 8] = [
     CommandWords {
         name: "page",
-        about: "Writes an HTML page of each day, from the machine as the day before left it",
+        about: (
+            "Writes an HTML page of each day, from the machine as the day before left it",
+            "Schreibt für jeden Tag eine HTML-Seite, ab der Maschine, wie der Tag davor sie ließ",
+        ),
         arguments: &[
             MACHINE,
             SHEET,
             Argument {
                 name: "DAYS",
                 sort: ArgumentSort::Optional,
-                help: "The days, such as 2, 1-31 or 1,4,2; without it, all days for the machine's model",
+                help: (
+                    "The days, such as 2, 1-31 or 1,4,2; without it, all days for the machine's model",
+                    "Die Tage, etwa 2, 1-31 oder 1,4,2; ohne Angabe alle Tage für das Modell der Maschine",
+                ),
             },
             LANGUAGE,
             OUTPUT,
@@ -100,12 +116,18 @@ static COMMANDS: [CommandWords; 8] = [
     },
     CommandWords {
         name: "list",
-        about: "Writes the settings of a day's page, as a list that desk apply carries out",
-        arguments: &[MACHINE, SHEET, DAY, OUTPUT],
+        about: (
+            "Writes the settings of a day's page, as a list that desk apply carries out",
+            "Schreibt die Handgriffe der Seite eines Tages, als Liste, die desk apply ausführt",
+        ),
+        arguments: &[MACHINE, SHEET, DAY, LANGUAGE, OUTPUT],
     },
     CommandWords {
         name: "send",
-        about: "Writes an HTML page that says, row by row, how to encipher an order by hand",
+        about: (
+            "Writes an HTML page that says, row by row, how to encipher an order by hand",
+            "Schreibt eine HTML-Seite, die Zeile für Zeile sagt, wie man einen Auftrag von Hand verschlüsselt",
+        ),
         arguments: &[
             MACHINE,
             SHEET,
@@ -113,7 +135,10 @@ static COMMANDS: [CommandWords; 8] = [
             Argument {
                 name: "ORDER",
                 sort: ArgumentSort::Several,
-                help: "The order, as desk send takes it; or up to 32 orders, one page after another",
+                help: (
+                    "The order, as desk send takes it; or up to 32 orders, one page after another",
+                    "Der Auftrag, wie ihn desk send nimmt; oder bis zu 32 Aufträge, eine Seite nach der anderen",
+                ),
             },
             BLANK,
             LANGUAGE,
@@ -122,7 +147,10 @@ static COMMANDS: [CommandWords; 8] = [
     },
     CommandWords {
         name: "receive",
-        about: "Writes an HTML page that says, row by row, how to decipher a form by hand, and its text",
+        about: (
+            "Writes an HTML page that says, row by row, how to decipher a form by hand, and its text",
+            "Schreibt eine HTML-Seite, die Zeile für Zeile sagt, wie man ein Formular von Hand entschlüsselt, mit Text",
+        ),
         arguments: &[
             MACHINE,
             SHEET,
@@ -130,7 +158,10 @@ static COMMANDS: [CommandWords; 8] = [
             Argument {
                 name: "FORM",
                 sort: ArgumentSort::Needed,
-                help: "The form, with ? for each lost letter",
+                help: (
+                    "The form, with ? for each lost letter",
+                    "Das Formular, mit ? für jeden verlorenen Buchstaben",
+                ),
             },
             BLANK,
             LANGUAGE,
@@ -139,17 +170,26 @@ static COMMANDS: [CommandWords; 8] = [
     },
     CommandWords {
         name: "type",
-        about: "Writes an HTML page on which the machine is typed on, in any browser",
+        about: (
+            "Writes an HTML page on which the machine is typed on, in any browser",
+            "Schreibt eine HTML-Seite, mit der man in jedem Browser auf der Maschine tippt",
+        ),
         arguments: &[MACHINE, LANGUAGE, OUTPUT],
     },
     CommandWords {
         name: "table",
-        about: "Writes a key sheet as an HTML page of tables to print, like the sheets of the time",
+        about: (
+            "Writes a key sheet as an HTML page of tables to print, like the sheets of the time",
+            "Schreibt eine Schlüsseltafel als HTML-Seite mit Tabellen zum Drucken, wie die Tafeln von damals",
+        ),
         arguments: &[
             Argument {
                 name: "csv",
                 sort: ArgumentSort::Flag,
-                help: "Writes a table for a spreadsheet instead, in the form CSV",
+                help: (
+                    "Writes a table for a spreadsheet instead, in the form CSV",
+                    "Schreibt stattdessen eine Tabelle für eine Tabellenkalkulation, im Format CSV",
+                ),
             },
             SHEET,
             LANGUAGE,
@@ -158,72 +198,104 @@ static COMMANDS: [CommandWords; 8] = [
     },
     CommandWords {
         name: "sheet",
-        about: "Makes a key sheet of a table that a spreadsheet saved as CSV, or an empty key sheet",
+        about: (
+            "Makes a key sheet of a table that a spreadsheet saved as CSV, or an empty key sheet",
+            "Macht eine Schlüsseltafel aus einer Tabelle, die als CSV gespeichert ist, oder eine leere Schlüsseltafel",
+        ),
         arguments: &[
             Argument {
                 name: "model",
                 sort: ArgumentSort::Valued("MODEL"),
-                help: "The model, for a table that has no column model",
+                help: (
+                    "The model, for a table that has no column model",
+                    "Das Modell, für eine Tabelle ohne die Spalte Modell",
+                ),
             },
             Argument {
                 name: "reflector",
                 sort: ArgumentSort::Valued("REFLECTOR"),
-                help: "The reflector, for days that lack it",
+                help: (
+                    "The reflector, for days that lack it",
+                    "Die Umkehrwalze, für Tage, bei denen sie fehlt",
+                ),
             },
             Argument {
                 name: "window",
                 sort: ArgumentSort::Valued("LETTERS"),
-                help: "The letters in the windows, for days that lack them",
+                help: (
+                    "The letters in the windows, for days that lack them",
+                    "Die Buchstaben in den Fenstern, für Tage, bei denen sie fehlen",
+                ),
             },
             Argument {
                 name: "empty",
                 sort: ArgumentSort::Valued("MODEL"),
-                help: "Writes a sheet of this model to fill in; then TABLE is the number of its days",
+                help: (
+                    "Writes a sheet of this model to fill in; then TABLE is the number of its days",
+                    "Schreibt eine Tafel dieses Modells zum Ausfüllen; dann ist TABLE die Zahl ihrer Tage",
+                ),
             },
             Argument {
                 name: "TABLE",
                 sort: ArgumentSort::Needed,
-                help: "The table: CSV, or values separated by semicolons or tabs",
+                help: (
+                    "The table: CSV, or values separated by semicolons or tabs",
+                    "Die Tabelle: CSV, oder Werte mit Semikolons oder Tabulatoren dazwischen",
+                ),
             },
+            LANGUAGE,
             OUTPUT,
         ],
     },
     CommandWords {
         name: "look",
-        about: "Says in words what machine files and key sheets say, or what is wrong with them",
+        about: (
+            "Says in words what machine files and key sheets say, or what is wrong with them",
+            "Sagt in Worten, was in Maschinendateien und Schlüsseltafeln steht oder was daran falsch ist",
+        ),
         arguments: &[
             Argument {
                 name: "FILE",
                 sort: ArgumentSort::Needed,
-                help: "A machine file or a key sheet",
+                help: (
+                    "A machine file or a key sheet",
+                    "Eine Maschinendatei oder eine Schlüsseltafel",
+                ),
             },
             Argument {
                 name: "FILE2",
                 sort: ArgumentSort::Optional,
-                help: "Another file",
+                help: ("Another file", "Eine weitere Datei"),
             },
             Argument {
                 name: "FILE3",
                 sort: ArgumentSort::Optional,
-                help: "Another file",
+                help: ("Another file", "Eine weitere Datei"),
             },
+            LANGUAGE,
         ],
     },
 ];
 
-/// The grammar of the command line.
-pub(crate) fn grammar<'a>(alloc: Global) -> Result<Grammar<'a>, AllocError>
+/// What help says about the program.
+const PROGRAM: Text = (
+    "Writes pages to hang beside a cipher machine: what to set for a day, with pictures",
+    "Schreibt Seiten, die neben einer Chiffriermaschine hängen: was für einen Tag einzustellen ist, mit Bildern",
+);
+
+/// The grammar of the command line. Its help is in the wording's language.
+pub(crate) fn grammar<'a>(wording: Wording) -> Result<Grammar<'a>, AllocError>
     ensures { IfOk result (λ grammar. app_of grammar ≡ curator_grammar) }
 {
-    with_commands(alloc, program_grammar(alloc), &COMMANDS)
+    with_commands(wording, program_grammar(wording), &COMMANDS)
 }
 
 /// The grammar of the program alone, without its commands.
-fn program_grammar<'a>(alloc: Global) -> Grammar<'a>
+fn program_grammar<'a>(wording: Wording) -> Grammar<'a>
     ensures { app_of result ≡ program_alone }
 {
-    Grammar::new(alloc, "curator")
-        .about("Writes pages to hang beside a cipher machine: what to set for a day, with pictures")
+    Grammar::new(wording.alloc, "curator")
+        .about(wording.language.text(PROGRAM))
         .version(VERSION)
         .disable_help_subcommand(true)
         .subcommand_required(true)
@@ -231,7 +303,7 @@ fn program_grammar<'a>(alloc: Global) -> Grammar<'a>
 }
 
 fn with_commands<'a>(
-    alloc: Global,
+    wording: Wording,
     grammar: Grammar<'a>,
     commands: &[CommandWords<'a>],
 ) -> Result<Grammar<'a>, AllocError>
@@ -240,36 +312,42 @@ fn with_commands<'a>(
 {
     let mut grammar = grammar;
     for words in commands {
-        let command = command_grammar(alloc, words)?;
+        let command = command_grammar(wording, words)?;
         grammar = grammar.subcommand(command)?;
     }
     Ok(grammar)
 }
 
-fn command_grammar<'a>(alloc: Global, words: &CommandWords<'a>) -> Result<Grammar<'a>, AllocError>
+fn command_grammar<'a>(
+    wording: Wording,
+    words: &CommandWords<'a>,
+) -> Result<Grammar<'a>, AllocError>
     ensures { IfOk result (λ grammar. IsMadeOf grammar (shape_of words.now)) }
 {
-    let mut command = Grammar::new(alloc, words.name).about(words.about);
+    let about = wording.language.text(words.about);
+    let mut command = Grammar::new(wording.alloc, words.name).about(about);
     for argument in words.arguments {
-        command = command.arg(argument_of(alloc, argument))?;
+        command = command.arg(argument_of(wording, argument))?;
     }
     Ok(command)
 }
 
 /// Converts `argument` to the form that clap needs.
-fn argument_of<'a>(alloc: Global, argument: &Argument<'a>) -> Arg<'a>
+fn argument_of<'a>(wording: Wording, argument: &Argument<'a>) -> Arg<'a>
     ensures rule { rule_of result ≡ rule_of_argument argument.now }
     ensures local { result.global ≡ false }
 {
+    let Wording { alloc, language } = wording;
+    let help = language.text(argument.help);
     match argument.sort {
-        ArgumentSort::Needed => needed(alloc, argument.name, argument.help),
-        ArgumentSort::Several => several(alloc, argument.name, argument.help),
-        ArgumentSort::Optional => optional(alloc, argument.name, argument.help),
-        ArgumentSort::Valued(value) => option(alloc, argument.name, value, argument.help),
+        ArgumentSort::Needed => needed(alloc, argument.name, help),
+        ArgumentSort::Several => several(alloc, argument.name, help),
+        ArgumentSort::Optional => optional(alloc, argument.name, help),
+        ArgumentSort::Valued(value) => option(alloc, argument.name, value, help),
         ArgumentSort::Lettered(letter, value) => {
-            lettered(alloc, argument.name, letter, value, argument.help)
+            lettered(alloc, argument.name, letter, value, help)
         }
-        ArgumentSort::Flag => flag(alloc, argument.name, argument.help),
+        ArgumentSort::Flag => flag(alloc, argument.name, help),
     }
 }
 

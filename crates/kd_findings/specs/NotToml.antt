@@ -3,7 +3,10 @@
 -- Test: tests/cases/curator-look.toml
 use Rattle.std.specs.Prelude.{codes, ◌≡◌, ◌≤◌, ℕ, ◌+◌, ◌++◌, ◌==◌, ◌||◌, nat_lt, Bool, List, [], ◌∷◌, count_by}
 use Rattle.std.specs.Prelude.{length, reverse, take, if◌then◌else◌}
+use Rattle.kd_language.specs.declared.language.Language.{Language}
+use Rattle.kd_language.specs.Language.{text_in}
 use Rattle.kd_findings.specs.Texts.{IsInOneLine, titled}
+use Rattle.kd_findings.specs.declared.texts.TheConstants.{COLUMN, LINE}
 
 -- the line of the byte at `index`, counted from 1
 abbrev pub line_at : List ℕ → ℕ → ℕ
@@ -24,18 +27,19 @@ abbrev pub column_at : List ℕ → ℕ → ℕ
 column_at text index = characters_to_feed (reverse (take index text)) + 1
 
 -- the words for a place in a file: the line, the column, and a text that says what is wrong there
-unfoldable pub place_words : ℕ → ℕ → List ℕ → List ℕ
-place_words line column reason = titled (codes ", line ") line ++ titled (codes ", column ") column ++ codes ": " ++ reason
+unfoldable pub place_words : Language → ℕ → ℕ → List ℕ → List ℕ
+place_words l line column reason =
+    titled (text_in l LINE) line ++ titled (text_in l COLUMN) column ++ codes ": " ++ reason
 
 -- `words` are the line and the column of the byte at `start`, then a reason without a line end.
-pub record NamesPlace (text : List ℕ) (start : ℕ) (words : List ℕ) : Type 0 where
+pub record NamesPlace (l : Language) (text : List ℕ) (start : ℕ) (words : List ℕ) : Type 0 where
   pub reason : List ℕ
   pub plain : IsInOneLine reason
-  pub whole : words ≡ place_words (line_at text start) (column_at text start) reason
+  pub whole : words ≡ place_words l (line_at text start) (column_at text start) reason
 
 -- `words` tell the line and the column of a byte of `text`, or of the text's end. Then `words` tell a reason in one
 -- line.
-pub record SaysNotToml (text words : List ℕ) : Type 0 where
+pub record SaysNotToml (l : Language) (text words : List ℕ) : Type 0 where
   pub start : ℕ
   pub within : start ≤ length text
-  pub named : NamesPlace text start words
+  pub named : NamesPlace l text start words

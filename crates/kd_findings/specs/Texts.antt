@@ -1,6 +1,9 @@
 -- Texts that are made of pieces, and the words for a place in a file.
 use Rattle.std.specs.Prelude.{codes, ◌≡◌, ◌≢◌, ◌⊎◌, ℕ, ◌++◌, List, [], ◌∷◌, Option, Some, None, decimal, slice_index, EachIndex}
 use Rattle.std.specs.Option.{option_map_or}
+use Rattle.kd_language.specs.declared.language.Language.{Language}
+use Rattle.kd_language.specs.Language.{text_in}
+use Rattle.kd_findings.specs.declared.texts.TheConstants.{DAY, ENTRY}
 
 -- The text begins with a piece that satisfies `First`. The rest satisfies `Others`.
 pub record BeginsWith (First Others : List ℕ → Type 0) (text : List ℕ) : Type 0 where
@@ -32,10 +35,10 @@ abbrev pub item_words : Option ℕ → List ℕ
 item_words item = option_map_or (titled (codes " ")) item []
 
 -- the words for an entry: its day or, if the day can't be read, the entry's number
-unfoldable pub entry_words : Option ℕ → Option ℕ → List ℕ
-entry_words (Some day) entry = titled (codes ", day ") day
-entry_words None (Some entry) = titled (codes ", entry ") entry
-entry_words None None = []
+unfoldable pub entry_words : Language → Option ℕ → Option ℕ → List ℕ
+entry_words l (Some day) entry = titled (text_in l DAY) day
+entry_words l None (Some entry) = titled (text_in l ENTRY) entry
+entry_words l None None = []
 
 -- ---- Texts that grow. No public contract cites this definition.
 

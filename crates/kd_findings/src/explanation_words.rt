@@ -4,7 +4,7 @@ ghost use Rattle.std.specs.String.{string_bytes};
 ghost use Rattle.kd_findings.specs.Texts.{item_words};
 
 use crate::findings::Explanation;
-use crate::texts::push_item;
+use crate::words::push_item;
 use std::alloc::{AllocError, Global};
 
 /// The words after a fault's key: the number of the wrong item, if it is known, and what is wrong.

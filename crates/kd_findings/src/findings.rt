@@ -3,9 +3,11 @@ ghost use Rattle.std.specs.Prelude.{◌≡◌, ◌++◌, IfOk, OnOk, Some};
 ghost use Rattle.kd_findings.specs.Faults.{at_place, faults_of, told_item};
 
 use crate::key_place::KeyPlace;
+use crate::texts::REFUSED;
+use kd_language::Wording;
 use kd_sheet::SheetFault;
 use kd_slips::slip::Slip;
-use std::alloc::{AllocError, Global};
+use std::alloc::AllocError;
 
 /// A fault, its place, and the words that explain it.
 #[derive(Drop)]
@@ -29,7 +31,7 @@ pub struct Explanation {
 /// `checked`.
 pub fn note(
     list: &mut Vec<Finding>,
-    alloc: Global,
+    wording: Wording,
     place: KeyPlace,
     fault: Option<SheetFault>,
     checked: Result<(), Slip>,
@@ -38,7 +40,7 @@ pub fn note(
         ≡ faults_of list.old.items ++ at_place place fault) }
 {
     match fault {
-        Some(fault) => push_fault(list, alloc, place, fault, checked),
+        Some(fault) => push_fault(list, wording, place, fault, checked),
         None => Ok(()),
     }
 }
@@ -46,7 +48,7 @@ pub fn note(
 /// Appends `fault` to `list`, with the words in `checked` that explain `fault`.
 fn push_fault(
     list: &mut Vec<Finding>,
-    alloc: Global,
+    wording: Wording,
     place: KeyPlace,
     fault: SheetFault,
     checked: Result<(), Slip>,
@@ -54,7 +56,7 @@ fn push_fault(
     ensures { OnOk result (faults_of list.new.items
         ≡ faults_of list.old.items ++ at_place place (Some fault)) }
 {
-    let explanation = explain(alloc, fault, checked)?;
+    let explanation = explain(wording, fault, checked)?;
     list.push(Finding {
         fault,
         place,
@@ -66,7 +68,7 @@ fn push_fault(
 /// The words in `checked` that explain `fault`. If `checked` has a different fault or no fault, the words only say that
 /// the desk refuses the value.
 fn explain(
-    alloc: Global,
+    wording: Wording,
     fault: SheetFault,
     checked: Result<(), Slip>,
 ) -> Result<Explanation, AllocError>
@@ -77,7 +79,7 @@ fn explain(
         Err(Slip::NoMemory) => Err(AllocError),
         _ => Ok(Explanation {
             item: None,
-            words: String::from_str(alloc, "the desk refuses the value")?,
+            words: wording.fill(REFUSED, &[])?,
         }),
     }
 }

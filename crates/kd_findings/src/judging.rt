@@ -14,11 +14,13 @@ use crate::findings::{Finding, note};
 use crate::key_place::KeyPlace;
 use crate::machine::machine_faults;
 use crate::sheet::sheet_faults;
+use crate::texts::{DAYS_NEEDED, UNKNOWN_FILE};
+use kd_language::Wording;
 use kd_sheet::by_key::find_at;
 use kd_sheet::{Key, SheetFault};
 use kd_slips::slip::{Slip, refuse};
 use kd_slips::values::kind_of;
-use std::alloc::{AllocError, Global};
+use std::alloc::AllocError;
 use toml::{Table, Value};
 
 /// The items of the array at `key`. `None` if the table has no array at `key`.
@@ -50,38 +52,44 @@ pub fn is_machine_file(document: &Table) -> bool
 }
 
 /// Finds the faults of a document.
-pub fn find_faults(alloc: Global, document: &Table) -> Result<Vec<Finding>, AllocError>
+pub fn find_faults(wording: Wording, document: &Table) -> Result<Vec<Finding>, AllocError>
     ensures faults { IfOk result (λ list. AreFaults (table_view document.now) (faults_of list.items)) }
     ensures first { IfOk result (λ list.
         first_fault (faults_of list.items) ≡ file_fault (table_view document.now)) }
 {
     if is_machine_file(document) {
-        machine_faults(alloc, document)
+        machine_faults(wording, document)
     } else {
-        find_sheet_faults(alloc, document)
+        find_sheet_faults(wording, document)
     }
 }
 
 /// Finds the faults of a document that isn't a machine file.
-fn find_sheet_faults(alloc: Global, document: &Table) -> Result<Vec<Finding>, AllocError>
+fn find_sheet_faults(wording: Wording, document: &Table) -> Result<Vec<Finding>, AllocError>
     ensures { IfOk result (λ list. AreFaultsOf false (entries_of (table_view document.now))
         (table_view document.now) (faults_of list.items)) }
 {
     match entries_of(document) {
-        Some(items) => sheet_faults(alloc, items),
-        None => find_day_fault(alloc, document),
+        Some(items) => sheet_faults(wording, items),
+        None => find_day_fault(wording, document),
     }
 }
 
 /// Finds the fault of a document that isn't a machine file, and has no array `day`.
-fn find_day_fault(alloc: Global, document: &Table) -> Result<Vec<Finding>, AllocError>
+fn find_day_fault(wording: Wording, document: &Table) -> Result<Vec<Finding>, AllocError>
     ensures { IfOk result (λ list. faults_of list.items
         ≡ (in_file keys.Day, day_fault (table_view document.now)) ∷ []) }
 {
-    let mut list = Vec::new(alloc);
+    let mut list = Vec::new(wording.alloc);
     let place = KeyPlace::in_file(Key::Day);
     let fault = Some(day_fault(document));
-    note(&mut list, alloc, place, fault, check_day(alloc, document))?;
+    note(
+        &mut list,
+        wording,
+        place,
+        fault,
+        check_day(wording, document),
+    )?;
     Ok(list)
 }
 
@@ -96,21 +104,15 @@ fn day_fault(document: &Table) -> SheetFault
 }
 
 /// Explains the refusal of a document that isn't a machine file, and has no array `day`.
-fn check_day(alloc: Global, document: &Table) -> Result<(), Slip> {
+fn check_day(wording: Wording, document: &Table) -> Result<(), Slip> {
     match find_at(document, Key::Day) {
         Some(value) => refuse(
             SheetFault::BadValue(Key::Day),
-            format!(in alloc;
-                "{} stands where a list of days is needed: write `[[day]]` above the lines of each day",
-                kind_of(value)
-            ),
+            wording.fill(DAYS_NEEDED, &[kind_of(wording.language, value)]),
         ),
         None => refuse(
             SheetFault::Missing(Key::Day),
-            String::from_str(
-                alloc,
-                "it can't be told whether this is a key sheet or a machine file: a key sheet has `[[day]]` above the lines of each day, a machine file has `version` and `model`",
-            ),
+            wording.fill(UNKNOWN_FILE, &[]),
         ),
     }
 }

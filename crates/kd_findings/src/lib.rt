@@ -15,11 +15,12 @@ mod sheet;
 mod texts;
 mod unread;
 mod warnings;
+mod words;
 
 pub use explanation_words::wrong_words;
 pub use findings::{Explanation, Finding};
 pub use judging::{entries_of, find_faults, is_machine_file};
 pub use key_place::KeyPlace;
 pub use not_toml::{TextPlace, place_after, push_place, toml_words};
-pub use texts::{first_line, push_entry, push_titled};
 pub use warnings::warning_lines;
+pub use words::{first_line, push_entry, push_titled};

@@ -11,6 +11,8 @@ ghost use Rattle.kd_findings.specs.Faults.{faults_of, file_model, machine_faults
 
 use crate::findings::{Finding, note};
 use crate::key_place::KeyPlace;
+use crate::texts::NEW_VERSION_NEEDED;
+use kd_language::Wording;
 use kd_sheet::by_key::{
     bars_in, box_letters_in, cables_in, model_in, number_at, pins_in, reflector_in,
     shown_letters_in, slots_in,
@@ -23,43 +25,49 @@ use kd_slips::numbers::check_number;
 use kd_slips::pins::{check_bars, check_pins};
 use kd_slips::slip::{Slip, refuse};
 use kd_tables::{Family, Model};
-use std::alloc::{AllocError, Global};
+use std::alloc::AllocError;
 use toml::Table;
 
 /// Finds the faults of a machine file.
 #[tactic(auto, using(std::proofs::Common::append_assoc), unfolding(crate::specs::Faults::machine_faults))]
-pub fn machine_faults(alloc: Global, table: &Table) -> Result<Vec<Finding>, AllocError>
+pub fn machine_faults(wording: Wording, table: &Table) -> Result<Vec<Finding>, AllocError>
     ensures { IfOk result (λ list. faults_of list.items ≡ machine_faults (table_view table.now)) }
 {
-    let mut list = Vec::new(alloc);
+    let mut list = Vec::new(wording.alloc);
     let version = number_at(table, Key::Version, LATEST_VERSION).err();
-    let checked = check_number(alloc, table, Key::Version, LATEST_VERSION);
+    let checked = check_number(wording, table, Key::Version, LATEST_VERSION);
     note(
         &mut list,
-        alloc,
+        wording,
         KeyPlace::in_file(Key::Version),
         version,
         checked,
     )?;
-    judge_model(&mut list, alloc, table)?;
+    judge_model(&mut list, wording, table)?;
     Ok(list)
 }
 
 /// Appends the fault of a machine file's model. If the model can be read, appends the faults at the keys that this
 /// model needs.
-fn judge_model(list: &mut Vec<Finding>, alloc: Global, table: &Table) -> Result<(), AllocError>
+fn judge_model(list: &mut Vec<Finding>, wording: Wording, table: &Table) -> Result<(), AllocError>
     ensures { OnOk result (faults_of list.new.items ≡ faults_of list.old.items
         ++ after_model (in_file keys.Model) (model_file_faults (table_view table.now))
         (file_model (table_view table.now))) }
 {
     match file_model(table) {
         Ok(model) => match model.family() {
-            Family::Rotor => judge_rotors(list, alloc, table, model),
-            Family::Pin => judge_converter(list, alloc, table),
+            Family::Rotor => judge_rotors(list, wording, table, model),
+            Family::Pin => judge_converter(list, wording, table),
         },
         Err(fault) => {
             let place = KeyPlace::in_file(Key::Model);
-            note(list, alloc, place, Some(fault), check_model(alloc, table))
+            note(
+                list,
+                wording,
+                place,
+                Some(fault),
+                check_model(wording, table),
+            )
         }
     }
 }
@@ -89,7 +97,7 @@ fn has_model(version: Option<u8>, model: Model) -> bool
 /// Appends the faults at the keys of a rotor machine's file, except `version` and `model`.
 fn judge_rotors(
     list: &mut Vec<Finding>,
-    alloc: Global,
+    wording: Wording,
     table: &Table,
     model: Model,
 ) -> Result<(), AllocError>
@@ -98,28 +106,34 @@ fn judge_rotors(
         ≡ faults_of list.old.items ++ rotor_file_faults model (table_view table.now)) }
 {
     let reflector = reflector_in(table, model).err();
-    let checked = check_reflector(alloc, table, model);
+    let checked = check_reflector(wording, table, model);
     note(
         list,
-        alloc,
+        wording,
         KeyPlace::in_file(Key::Reflector),
         reflector,
         checked,
     )?;
     let slots = slots_in(table, Key::Slots, model).err();
-    let checked = check_wheels(alloc, table, Key::Slots, model);
-    note(list, alloc, KeyPlace::in_file(Key::Slots), slots, checked)?;
-    judge_box_letters(list, alloc, table, Key::Rings, model)?;
-    judge_box_letters(list, alloc, table, Key::Letters, model)?;
+    let checked = check_wheels(wording, table, Key::Slots, model);
+    note(list, wording, KeyPlace::in_file(Key::Slots), slots, checked)?;
+    judge_box_letters(list, wording, table, Key::Rings, model)?;
+    judge_box_letters(list, wording, table, Key::Letters, model)?;
     let cables = cables_in(table).err();
-    let checked = check_machine_cables(alloc, table);
-    note(list, alloc, KeyPlace::in_file(Key::Cables), cables, checked)
+    let checked = check_machine_cables(wording, table);
+    note(
+        list,
+        wording,
+        KeyPlace::in_file(Key::Cables),
+        cables,
+        checked,
+    )
 }
 
 /// Appends the fault at `key`, if there is one. The value of `key` must have a letter for each wheel of the box.
 fn judge_box_letters(
     list: &mut Vec<Finding>,
-    alloc: Global,
+    wording: Wording,
     table: &Table,
     key: Key,
     model: Model,
@@ -129,21 +143,25 @@ fn judge_box_letters(
         ++ fault_at (in_file key) (letters_at key (length (box_of model)) (table_view table.now))) }
 {
     let fault = box_letters_in(table, key, model).err();
-    let checked = check_box_letters(alloc, table, key, model);
-    note(list, alloc, KeyPlace::in_file(key), fault, checked)
+    let checked = check_box_letters(wording, table, key, model);
+    note(list, wording, KeyPlace::in_file(key), fault, checked)
 }
 
 /// Appends the faults at the keys of a Converter's file, except `version` and `model`.
 #[tactic(auto, using(std::proofs::Common::append_assoc), unfolding(crate::specs::Faults::pin_file_faults))]
-fn judge_converter(list: &mut Vec<Finding>, alloc: Global, table: &Table) -> Result<(), AllocError>
+fn judge_converter(
+    list: &mut Vec<Finding>,
+    wording: Wording,
+    table: &Table,
+) -> Result<(), AllocError>
     ensures { OnOk result (faults_of list.new.items
         ≡ faults_of list.old.items ++ pin_file_faults (table_view table.now)) }
 {
     let letters = shown_letters_in(table, Key::Letters).err();
-    let checked = check_shown(alloc, table, Key::Letters);
+    let checked = check_shown(wording, table, Key::Letters);
     note(
         list,
-        alloc,
+        wording,
         KeyPlace::in_file(Key::Letters),
         letters,
         checked,
@@ -151,26 +169,26 @@ fn judge_converter(list: &mut Vec<Finding>, alloc: Global, table: &Table) -> Res
     let pins = pins_in(table).err();
     note(
         list,
-        alloc,
+        wording,
         KeyPlace::in_file(Key::Pins),
         pins,
-        check_pins(alloc, table),
+        check_pins(wording, table),
     )?;
     let bars = bars_in(table).err();
     note(
         list,
-        alloc,
+        wording,
         KeyPlace::in_file(Key::Bars),
         bars,
-        check_bars(alloc, table),
+        check_bars(wording, table),
     )
 }
 
 /// Explains the refusal of a machine file's model.
-fn check_model(alloc: Global, table: &Table) -> Result<(), Slip> {
-    model_at(alloc, table)?;
+fn check_model(wording: Wording, table: &Table) -> Result<(), Slip> {
+    model_at(wording, table)?;
     refuse(
         SheetFault::UnknownModel,
-        format!(in alloc; "the machine file of an M4 needs `version = 2`"),
+        wording.fill(NEW_VERSION_NEEDED, &[]),
     )
 }

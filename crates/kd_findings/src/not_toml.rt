@@ -7,8 +7,10 @@ ghost use Rattle.kd_sheet.specs.Document.{document_of};
 ghost use Rattle.kd_findings.specs.NotToml.{NamesPlace, SaysNotToml, begins_character, characters_to_feed};
 ghost use Rattle.kd_findings.specs.NotToml.{column_at, line_at, place_words};
 
-use crate::texts::{first_line, push_titled};
-use std::alloc::{AllocError, Global};
+use crate::texts;
+use crate::words::{first_line, push_titled};
+use kd_language::{Language, Text, Wording};
+use std::alloc::AllocError;
 use toml::de::Error;
 
 /// A place in a text. Lines and columns are counted from 1, columns in characters.
@@ -19,40 +21,43 @@ pub struct TextPlace {
 }
 
 /// The words for the place at which `bytes` stop being TOML: its line, its column, and what is wrong there.
-pub fn toml_words(alloc: Global, bytes: &[u8]) -> Result<String, AllocError>
+pub fn toml_words(wording: Wording, bytes: &[u8]) -> Result<String, AllocError>
     requires { result_ok (document_of bytes.now) ≡ None }
-    ensures { IfOk result (λ words. SaysNotToml bytes.now (string_bytes words)) }
+    ensures { IfOk result (λ words. SaysNotToml wording.language bytes.now (string_bytes words)) }
 {
-    match toml::table_from_slice(alloc, bytes) {
+    match toml::table_from_slice(wording.alloc, bytes) {
         Ok(_) => Err(AllocError),
-        Err(error) => words_at(alloc, bytes, &error),
+        Err(error) => words_at(wording, bytes, &error),
     }
 }
 
 /// Appends the place of the byte at `index`: its line, its column, and what is wrong there.
 pub fn push_place(
     words: &mut String,
+    language: Language,
     bytes: &[u8],
     index: usize,
     reason: &str,
 ) -> Result<(), AllocError>
     ensures { OnOk result (string_bytes words.new ≡ string_bytes words.old
-        ++ place_words (line_at bytes.now index) (column_at bytes.now index) reason.now) }
+        ++ place_words language (line_at bytes.now index) (column_at bytes.now index) reason.now) }
 {
-    push_place_words(words, place_after(bytes_before(bytes, index)), reason)
+    let place = place_after(bytes_before(bytes, index));
+    push_place_words(words, language, place, reason)
 }
 
 /// The words for the parser's fault: its line, its column, and what is wrong there.
-fn words_at(alloc: Global, bytes: &[u8], error: &Error) -> Result<String, AllocError>
+fn words_at(wording: Wording, bytes: &[u8], error: &Error) -> Result<String, AllocError>
     requires { IsWithin bytes.now error.now }
-    ensures { IfOk result (λ words. NamesPlace bytes.now (span_start error.now) (string_bytes words)) }
+    ensures { IfOk result (λ words. NamesPlace wording.language bytes.now
+        (span_start error.now) (string_bytes words)) }
 {
     let Some(span) = error.span() else {
         return Err(AllocError);
     };
     let place = place_after(&bytes[..span.start]);
-    let reason = reason_for(alloc, bytes, place.line, error.message())?;
-    place_words(alloc, place, first_line(reason.as_str()))
+    let reason = reason_for(wording, bytes, place.line, error.message())?;
+    place_words(wording, place, first_line(reason.as_str()))
 }
 
 /// The place after the bytes `before`.
@@ -80,36 +85,48 @@ fn begins_character(byte: u8) -> bool
     byte < 128 || 191 < byte
 }
 
-/// The words for the fault in line `line`: the parser's message, and the likely mistake.
+/// The words for the fault in line `line`. `message` is the parser's message.
 fn reason_for(
-    alloc: Global,
+    wording: Wording,
     bytes: &[u8],
     line: usize,
     message: &str,
 ) -> Result<String, AllocError> {
-    let advice = hint(numbered_line(bytes, line), message);
-    format!(in alloc; "this isn't TOML: {message}; {advice}")
+    let mistake = hint(numbered_line(bytes, line), message);
+    mistake_words(wording, message, wording.language.text(mistake))
+}
+
+/// The parser's message `message`, and the likely mistake. German words leave out the message, which is in English.
+fn mistake_words<'w>(
+    wording: Wording,
+    message: &'w str,
+    mistake: &'w str,
+) -> Result<String, AllocError> {
+    match wording.language {
+        Language::English => wording.fill(texts::NOT_TOML, &[message, mistake]),
+        Language::German => wording.fill(texts::NOT_TOML, &[mistake]),
+    }
 }
 
 /// The likely mistake in `line`, in which the parser found a fault. `message` is the parser's message.
-fn hint(line: &[u8], message: &str) -> &'static str {
+fn hint(line: &[u8], message: &str) -> Text {
     let quotes = line.iter().filter(|byte| **byte == b'"').count();
     if message == "invalid UTF-8" {
-        "save the file as UTF-8"
+        texts::NOT_UTF8
     } else if message == "duplicate key" {
-        "a key stands twice; above the lines of each day stands `[[day]]`"
+        texts::KEY_TWICE
     } else if has_curly_quote(line) {
-        "write straight quotes `\"`, and plain characters"
+        texts::CURLY_QUOTE
     } else if quotes % 2 == 1 {
-        "a quote `\"` is missing"
+        texts::QUOTE_MISSING
     } else if has_leading_zero(line) {
-        "write numbers without a leading zero: 5 for 05"
+        texts::LEADING_ZERO
     } else if line.contains(&b':') && !line.contains(&b'=') {
-        "write `=` for `:`"
+        texts::COLON
     } else if line.contains(&b'=') {
-        "look for a comma, a bracket or a quote that is missing, here or in the line above"
+        texts::SIGN_MISSING
     } else {
-        "look for a quote or a bracket that is missing in the lines above"
+        texts::END_MISSING
     }
 }
 
@@ -135,23 +152,28 @@ fn numbered_line(bytes: &[u8], line: usize) -> &[u8] {
 }
 
 /// The words for a place: its line, its column, and what is wrong there.
-fn place_words(alloc: Global, place: TextPlace, reason: &str) -> Result<String, AllocError>
+fn place_words(wording: Wording, place: TextPlace, reason: &str) -> Result<String, AllocError>
     ensures { IfOk result (λ words. string_bytes words
-        ≡ place_words place.line place.column reason.now) }
+        ≡ place_words wording.language place.line place.column reason.now) }
 {
-    let mut words = String::new(alloc);
-    push_place_words(&mut words, place, reason)?;
+    let mut words = String::new(wording.alloc);
+    push_place_words(&mut words, wording.language, place, reason)?;
     Ok(words)
 }
 
 /// Appends the words for a place: its line, its column, and what is wrong there.
 #[tactic(auto, using(std::proofs::Common::append_assoc), unfolding(crate::specs::NotToml::place_words))]
-fn push_place_words(words: &mut String, place: TextPlace, reason: &str) -> Result<(), AllocError>
+fn push_place_words(
+    words: &mut String,
+    language: Language,
+    place: TextPlace,
+    reason: &str,
+) -> Result<(), AllocError>
     ensures { OnOk result (string_bytes words.new
-        ≡ string_bytes words.old ++ place_words place.line place.column reason.now) }
+        ≡ string_bytes words.old ++ place_words language place.line place.column reason.now) }
 {
-    push_titled(words, ", line ", place.line)?;
-    push_titled(words, ", column ", place.column)?;
+    push_titled(words, language.text(texts::LINE), place.line)?;
+    push_titled(words, language.text(texts::COLUMN), place.column)?;
     words.push_str(": ")?;
     words.push_str(reason)
 }

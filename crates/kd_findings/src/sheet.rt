@@ -11,13 +11,16 @@ ghost use Rattle.kd_findings.specs.SheetFaults.{pin_day_faults, rotor_day_faults
 
 use crate::findings::{Finding, note};
 use crate::key_place::KeyPlace;
+use crate::texts::{DAY_TWICE, ENTRY_NEEDED};
+use itoa::Buffer;
+use kd_language::Wording;
 use kd_sheet::by_key::{
     groups_in, letters_at, model_in, number_at, pairs_in, pins_in, reflector_in, rings_in, rows_in,
     shown_letters_in, slots_in, window_in,
 };
 use kd_sheet::{DAYS, Key, SheetFault};
 use kd_slips::cables::{check_groups, check_pairs};
-use kd_slips::letters::{check_letters, check_shown};
+use kd_slips::letters::{check_list_letters, check_shown, check_window};
 use kd_slips::models::{check_reflector, check_wheels, model_at};
 use kd_slips::numbers::check_number;
 use kd_slips::pins::{check_pins, check_rows};
@@ -25,22 +28,22 @@ use kd_slips::rings::check_rings;
 use kd_slips::slip::{Slip, refuse};
 use kd_slips::values::kind_of;
 use kd_tables::{Family, Model};
-use std::alloc::{AllocError, Global};
+use std::alloc::AllocError;
 use toml::{Table, Value};
 
 /// The number of faults after which no later entry is judged.
 const MOST_FAULTS: usize = 300;
 
 /// Finds the faults of a key sheet's entries. After 300 faults, no later entry is judged.
-pub fn sheet_faults(alloc: Global, items: &[Value]) -> Result<Vec<Finding>, AllocError>
+pub fn sheet_faults(wording: Wording, items: &[Value]) -> Result<Vec<Finding>, AllocError>
     ensures { IfOk result (λ list. AreSheetFaults (map view items.now) (faults_of list.items)) }
 {
-    let mut list = Vec::new(alloc);
+    let mut list = Vec::new(wording.alloc);
     for (index, item) in items.iter().enumerate() {
         if list.len() >= MOST_FAULTS {
             return Ok(list);
         }
-        judge_entry(&mut list, alloc, &items[..index], item)?;
+        judge_entry(&mut list, wording, &items[..index], item)?;
     }
     Ok(list)
 }
@@ -48,7 +51,7 @@ pub fn sheet_faults(alloc: Global, items: &[Value]) -> Result<Vec<Finding>, Allo
 /// Appends the faults of the entry `item`. `earlier` are the items before the entry.
 fn judge_entry(
     list: &mut Vec<Finding>,
-    alloc: Global,
+    wording: Wording,
     earlier: &[Value],
     item: &Value,
 ) -> Result<(), AllocError>
@@ -56,11 +59,11 @@ fn judge_entry(
         ++ entry_faults (map view earlier.now) (view item.now)) }
 {
     match item.as_table() {
-        Some(table) => judge_table(list, alloc, earlier, table),
+        Some(table) => judge_table(list, wording, earlier, table),
         None => {
             let place = KeyPlace::in_entry(earlier.len() + 1, None, Key::Day);
             let fault = Some(SheetFault::BadValue(Key::Day));
-            note(list, alloc, place, fault, refuse_entry(alloc, item))
+            note(list, wording, place, fault, refuse_entry(wording, item))
         }
     }
 }
@@ -68,7 +71,7 @@ fn judge_entry(
 /// Appends the faults of the entry `table`. `earlier` are the items before the entry.
 fn judge_table(
     list: &mut Vec<Finding>,
-    alloc: Global,
+    wording: Wording,
     earlier: &[Value],
     table: &Table,
 ) -> Result<(), AllocError>
@@ -78,8 +81,14 @@ fn judge_table(
     let day = number_at(table, Key::Day, DAYS).ok();
     let place = KeyPlace::in_entry(earlier.len() + 1, day, Key::Day);
     let fault = new_day(earlier, table).err();
-    note(list, alloc, place, fault, check_day(alloc, earlier, table))?;
-    judge_model(list, alloc, table, place)
+    note(
+        list,
+        wording,
+        place,
+        fault,
+        check_day(wording, earlier, table),
+    )?;
+    judge_model(list, wording, table, place)
 }
 
 /// The day of an entry, or the fault of the key `day`. `earlier` are the items before the entry.
@@ -105,8 +114,8 @@ fn have_number(items: &[Value], number: u8) -> bool
 }
 
 /// Explains the refusal of an entry's day. `earlier` are the items before the entry.
-fn check_day(alloc: Global, earlier: &[Value], table: &Table) -> Result<(), Slip> {
-    check_number(alloc, table, Key::Day, DAYS)?;
+fn check_day(wording: Wording, earlier: &[Value], table: &Table) -> Result<(), Slip> {
+    check_number(wording, table, Key::Day, DAYS)?;
     let Ok(day) = number_at(table, Key::Day, DAYS) else {
         return Ok(());
     };
@@ -114,7 +123,27 @@ fn check_day(alloc: Global, earlier: &[Value], table: &Table) -> Result<(), Slip
     let entry = earlier.len().saturating_add(1);
     refuse(
         SheetFault::DayTwice(day),
-        format!(in alloc; "day {day} stands in entry {before} and in entry {entry}"),
+        day_twice_words(wording, day, before, entry),
+    )
+}
+
+/// Why the day `day`, which the entries `before` and `entry` have, is refused.
+fn day_twice_words(
+    wording: Wording,
+    day: u8,
+    before: usize,
+    entry: usize,
+) -> Result<String, AllocError> {
+    let mut day_buffer = Buffer::new();
+    let mut before_buffer = Buffer::new();
+    let mut entry_buffer = Buffer::new();
+    wording.fill(
+        DAY_TWICE,
+        &[
+            day_buffer.format(day),
+            before_buffer.format(before),
+            entry_buffer.format(entry),
+        ],
     )
 }
 
@@ -147,7 +176,7 @@ fn has_number(item: &Value, number: u8) -> bool
 /// needs.
 fn judge_model(
     list: &mut Vec<Finding>,
-    alloc: Global,
+    wording: Wording,
     table: &Table,
     place: KeyPlace,
 ) -> Result<(), AllocError>
@@ -157,12 +186,18 @@ fn judge_model(
 {
     match model_in(table) {
         Ok(model) => match model.family() {
-            Family::Rotor => judge_rotors(list, alloc, table, place, model),
-            Family::Pin => judge_converter(list, alloc, table, place),
+            Family::Rotor => judge_rotors(list, wording, table, place, model),
+            Family::Pin => judge_converter(list, wording, table, place),
         },
         Err(fault) => {
             let place = place.at(Key::Model);
-            note(list, alloc, place, Some(fault), check_model(alloc, table))
+            note(
+                list,
+                wording,
+                place,
+                Some(fault),
+                check_model(wording, table),
+            )
         }
     }
 }
@@ -170,7 +205,7 @@ fn judge_model(
 /// Appends the faults at the keys of a rotor machine's day, except `day` and `model`.
 fn judge_rotors(
     list: &mut Vec<Finding>,
-    alloc: Global,
+    wording: Wording,
     table: &Table,
     place: KeyPlace,
     model: Model,
@@ -180,45 +215,44 @@ fn judge_rotors(
         ≡ faults_of list.old.items ++ rotor_day_faults place model (table_view table.now)) }
 {
     let reflector = reflector_in(table, model).err();
-    let checked = check_reflector(alloc, table, model);
-    note(list, alloc, place.at(Key::Reflector), reflector, checked)?;
+    let checked = check_reflector(wording, table, model);
+    note(list, wording, place.at(Key::Reflector), reflector, checked)?;
     let wheels = slots_in(table, Key::Wheels, model).err();
-    let checked = check_wheels(alloc, table, Key::Wheels, model);
-    note(list, alloc, place.at(Key::Wheels), wheels, checked)?;
+    let checked = check_wheels(wording, table, Key::Wheels, model);
+    note(list, wording, place.at(Key::Wheels), wheels, checked)?;
     let rings = rings_in(table, model).err();
     note(
         list,
-        alloc,
+        wording,
         place.at(Key::Rings),
         rings,
-        check_rings(alloc, table, model),
+        check_rings(wording, table, model),
     )?;
     let window = window_in(table, model).err();
-    let slots = usize::from(model.slots());
-    let checked = check_letters(alloc, table, Key::Window, slots, ", one for each slot");
-    note(list, alloc, place.at(Key::Window), window, checked)?;
+    let checked = check_window(wording, table, model);
+    note(list, wording, place.at(Key::Window), window, checked)?;
     let pairs = pairs_in(table).err();
     note(
         list,
-        alloc,
+        wording,
         place.at(Key::Plugs),
         pairs,
-        check_pairs(alloc, table),
+        check_pairs(wording, table),
     )?;
     let groups = groups_in(table).err();
     note(
         list,
-        alloc,
+        wording,
         place.at(Key::Groups),
         groups,
-        check_groups(alloc, table),
+        check_groups(wording, table),
     )
 }
 
 /// Appends the faults at the keys of a Converter's day, except `day` and `model`.
 fn judge_converter(
     list: &mut Vec<Finding>,
-    alloc: Global,
+    wording: Wording,
     table: &Table,
     place: KeyPlace,
 ) -> Result<(), AllocError>
@@ -228,40 +262,37 @@ fn judge_converter(
     let rows = rows_in(table).err();
     note(
         list,
-        alloc,
+        wording,
         place.at(Key::Rows),
         rows,
-        check_rows(alloc, table),
+        check_rows(wording, table),
     )?;
     let pins = pins_in(table).err();
     note(
         list,
-        alloc,
+        wording,
         place.at(Key::Pins),
         pins,
-        check_pins(alloc, table),
+        check_pins(wording, table),
     )?;
     let window = shown_letters_in(table, Key::Window).err();
-    let checked = check_shown(alloc, table, Key::Window);
-    note(list, alloc, place.at(Key::Window), window, checked)?;
+    let checked = check_shown(wording, table, Key::Window);
+    note(list, wording, place.at(Key::Window), window, checked)?;
     let letters = letters_at::<2>(table, Key::List).err();
-    let checked = check_letters(alloc, table, Key::List, 2, "");
-    note(list, alloc, place.at(Key::List), letters, checked)
+    let checked = check_list_letters(wording, table);
+    note(list, wording, place.at(Key::List), letters, checked)
 }
 
 /// Explains the refusal of an entry's model.
-fn check_model(alloc: Global, table: &Table) -> Result<(), Slip> {
-    model_at(alloc, table)?;
+fn check_model(wording: Wording, table: &Table) -> Result<(), Slip> {
+    model_at(wording, table)?;
     Ok(())
 }
 
 /// Explains the refusal of an item of the array `day` that isn't a table.
-fn refuse_entry(alloc: Global, item: &Value) -> Result<(), Slip> {
+fn refuse_entry(wording: Wording, item: &Value) -> Result<(), Slip> {
     refuse(
         SheetFault::BadValue(Key::Day),
-        format!(in alloc;
-            "{} stands where an entry is needed: write `[[day]]` above each day's lines",
-            kind_of(item)
-        ),
+        wording.fill(ENTRY_NEEDED, &[kind_of(wording.language, item)]),
     )
 }

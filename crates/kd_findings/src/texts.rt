@@ -1,54 +1,100 @@
-//! The first line of a text, and the words for a place in a file.
-ghost use Rattle.std.specs.Prelude.{◌≡◌, ◌++◌, OnOk};
-ghost use Rattle.std.specs.String.{string_bytes};
-ghost use Rattle.kd_findings.specs.Texts.{EndsAtFeed, IsInOneLine, entry_words, item_words, titled};
+//! The words for faults and warnings, in English and in German. In a template, each sign `~` stands for a value.
 
-use itoa::Buffer;
-use std::alloc::AllocError;
+use kd_language::Text;
 
-/// The part of `words` up to the first line feed.
-pub fn first_line(words: &str) -> &str
-    ensures plain { IsInOneLine result.now }
-    ensures first { EndsAtFeed words.now result.now }
-{
-    match words.split_once('\n') {
-        Some((line, _)) => line,
-        None => words,
-    }
-}
+/// What stands before the number of a day, an entry, a line or a column: this text, and the next three texts.
+pub const DAY: Text = (", day ", ", Tag ");
 
-/// Appends `title` and a number.
-#[tactic(auto, using(std::proofs::Common::append_assoc), unfolding(crate::specs::Texts::titled))]
-pub fn push_titled(text: &mut String, title: &str, number: usize) -> Result<(), AllocError>
-    ensures { OnOk result (string_bytes text.new ≡ string_bytes text.old ++ titled title.now number) }
-{
-    let mut buffer = Buffer::new();
-    text.push_str(title)?;
-    text.push_str(buffer.format(number))
-}
+pub const ENTRY: Text = (", entry ", ", Eintrag ");
 
-/// Appends the words for an item's number. If there is no number, appends nothing.
-pub fn push_item(text: &mut String, item: Option<usize>) -> Result<(), AllocError>
-    ensures { OnOk result (string_bytes text.new ≡ string_bytes text.old ++ item_words item) }
-{
-    match item {
-        Some(number) => push_titled(text, " ", number),
-        None => Ok(()),
-    }
-}
+pub const LINE: Text = (", line ", ", Zeile ");
 
-/// Appends the words for an entry: its day or, if the day can't be read, the entry's number.
-#[tactic(auto, unfolding(crate::specs::Texts::entry_words))]
-pub fn push_entry(
-    text: &mut String,
-    day: Option<u8>,
-    entry: Option<usize>,
-) -> Result<(), AllocError>
-    ensures { OnOk result (string_bytes text.new ≡ string_bytes text.old ++ entry_words day entry) }
-{
-    match (day, entry) {
-        (Some(day), _) => push_titled(text, ", day ", usize::from(day)),
-        (None, Some(entry)) => push_titled(text, ", entry ", entry),
-        (None, None) => Ok(()),
-    }
-}
+pub const COLUMN: Text = (", column ", ", Spalte ");
+
+pub const WARNING: Text = (": warning: ", ": Warnung: ");
+
+/// The warning about an unread key. The values are the key's name, and advice.
+pub const UNREAD: Text = ("nobody reads the key ~~\n", "niemand liest den Namen ~~\n");
+
+/// The advice for an unread key: this text, or the next text. The value is a known key.
+pub const WRITE_KEY: Text = (": write `~`", ": `~` schreiben");
+
+pub const WRITE_ENTRIES: Text = (
+    ": write `[[day]]` above the lines of each day",
+    ": `[[day]]` über die Zeilen jedes Tages schreiben",
+);
+
+/// The warning about a cable with letters in falling order. The values are the cable, and the cable as the desk writes
+/// it.
+pub const CABLE_ORDER: Text = (
+    "the desk writes the cable `~` as `~`\n",
+    "desk schreibt das Kabel `~` als `~`\n",
+);
+
+pub const REFUSED: Text = ("the desk refuses the value", "desk lehnt den Wert ab");
+
+/// A value has the wrong type: this text, and the next text. The value is the type, in words.
+pub const DAYS_NEEDED: Text = (
+    "~ stands where a list of days is needed: write `[[day]]` above the lines of each day",
+    "~ steht, wo eine Liste von Tagen stehen muss: `[[day]]` über die Zeilen jedes Tages schreiben",
+);
+
+pub const ENTRY_NEEDED: Text = (
+    "~ stands where an entry is needed: write `[[day]]` above each day's lines",
+    "~ steht, wo ein Eintrag stehen muss: `[[day]]` über die Zeilen jedes Tages schreiben",
+);
+
+pub const UNKNOWN_FILE: Text = (
+    "it can't be told whether this is a key sheet or a machine file: a key sheet has `[[day]]` above the lines of each day, a machine file has `version` and `model`",
+    "ob dies eine Schlüsseltafel oder eine Maschinendatei ist, ist nicht zu erkennen: eine Schlüsseltafel hat `[[day]]` über den Zeilen jedes Tages, eine Maschinendatei hat `version` und `model`",
+);
+
+pub const NEW_VERSION_NEEDED: Text = (
+    "the machine file of an M4 needs `version = 2`",
+    "die Maschinendatei einer M4 braucht `version = 2`",
+);
+
+/// The values are the day, and two entries.
+pub const DAY_TWICE: Text = (
+    "day ~ stands in entry ~ and in entry ~",
+    "Tag ~ steht in Eintrag ~ und in Eintrag ~",
+);
+
+/// A file isn't TOML. The values are the parser's message and the likely mistake. The parser has only English messages:
+/// the German text takes the likely mistake alone.
+pub const NOT_TOML: Text = ("this isn't TOML: ~; ~", "dies ist kein TOML: ~");
+
+/// The likely mistakes in a file that isn't TOML: this text, and the texts after it.
+pub const NOT_UTF8: Text = ("save the file as UTF-8", "die Datei als UTF-8 speichern");
+
+pub const KEY_TWICE: Text = (
+    "a key stands twice; above the lines of each day stands `[[day]]`",
+    "ein Name steht zweimal da; über den Zeilen jedes Tages steht `[[day]]`",
+);
+
+pub const CURLY_QUOTE: Text = (
+    "write straight quotes `\"`, and plain characters",
+    "gerade Anführungszeichen `\"` und einfache Zeichen schreiben",
+);
+
+pub const QUOTE_MISSING: Text = (
+    "a quote `\"` is missing",
+    "ein Anführungszeichen `\"` fehlt",
+);
+
+pub const LEADING_ZERO: Text = (
+    "write numbers without a leading zero: 5 for 05",
+    "Zahlen ohne führende Null schreiben: 5 statt 05",
+);
+
+pub const COLON: Text = ("write `=` for `:`", "`=` statt `:` schreiben");
+
+pub const SIGN_MISSING: Text = (
+    "look for a comma, a bracket or a quote that is missing, here or in the line above",
+    "hier und in der Zeile darüber suchen, ob ein Komma, eine Klammer oder ein Anführungszeichen fehlt",
+);
+
+pub const END_MISSING: Text = (
+    "look for a quote or a bracket that is missing in the lines above",
+    "in den Zeilen darüber suchen, ob ein Anführungszeichen oder eine Klammer fehlt",
+);

@@ -1,10 +1,14 @@
 -- How a text from a file is shown in a line. The text stands in backticks. If it is long, or has control characters,
 -- only its length in bytes is shown.
 -- Test: tests/cases/curator-look.toml
-use Rattle.std.specs.Prelude.{codes, ℕ, ◌++◌, ◌==◌, ◌&&◌, nat_le, not, Bool, List, length, decimal, if◌then◌else◌}
+use Rattle.std.specs.Prelude.{codes, ℕ, ◌++◌, ◌==◌, ◌&&◌, nat_le, not, Bool, List, [], ◌∷◌, length, decimal, if◌then◌else◌}
 use Rattle.std.specs.List.{list_all}
 use Rattle.kd_tables.specs.declared.model.Model.{Model}
 use Rattle.kd_tables.specs.declared.model.Model.TheVariants.{EnigmaI, M3, M4, M209}
+use Rattle.kd_language.specs.declared.language.Language.{Language}
+use Rattle.kd_language.specs.Language.{text_in}
+use Rattle.kd_language.specs.Template.{filled}
+use Rattle.kd_slips.specs.declared.texts.TheConstants.{AN_ENIGMA_I, AN_M3, AN_M4, A_CONVERTER, LONG_TEXT}
 
 -- whether the byte isn't a control character
 abbrev pub is_printed : ℕ → Bool
@@ -14,13 +18,13 @@ is_printed byte = nat_le 32 byte && not (byte == 127)
 unfoldable pub can_be_shown : List ℕ → Bool
 can_be_shown text = nat_le (length text) 40 && list_all is_printed text
 
-unfoldable pub shown_text : List ℕ → List ℕ
-shown_text text = if can_be_shown text then codes "`" ++ text ++ codes "`"
-    else codes "a text of " ++ decimal (length text) ++ codes " bytes"
+unfoldable pub shown_text : Language → List ℕ → List ℕ
+shown_text l text = if can_be_shown text then codes "`" ++ text ++ codes "`"
+    else filled (text_in l LONG_TEXT) (decimal (length text) ∷ [])
 
 -- the model's name, with an article before it
-abbrev pub model_with_article : Model → List ℕ
-model_with_article EnigmaI = codes "an Enigma I"
-model_with_article M3 = codes "an M3"
-model_with_article M4 = codes "an M4"
-model_with_article M209 = codes "a Converter M-209"
+abbrev pub model_with_article : Language → Model → List ℕ
+model_with_article l EnigmaI = text_in l AN_ENIGMA_I
+model_with_article l M3 = text_in l AN_M3
+model_with_article l M4 = text_in l AN_M4
+model_with_article l M209 = text_in l A_CONVERTER

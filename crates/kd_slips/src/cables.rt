@@ -3,21 +3,24 @@ ghost use Rattle.std.specs.Prelude.{IfErr, None};
 ghost use Rattle.kd_sheet.specs.declared.fault.SheetFault.TheVariants.{LetterTwice};
 ghost use Rattle.kd_slips.specs.Items.{HasFault};
 
-use crate::letters::{check_capitals, check_text};
+use crate::letters::{check_capitals, check_text, letter_text};
 use crate::slip::{Slip, refuse};
+use crate::texts;
 use crate::values::{check_at_most, item_text, items_at, items_of, shown};
+use itoa::Buffer;
+use kd_language::Wording;
 use kd_sheet::by_key::find_at;
 use kd_sheet::{Key, SheetFault};
-use std::alloc::{AllocError, Global};
+use std::alloc::AllocError;
 use toml::{Table, Value};
 
 /// Checks the cables of a machine file, at the key `cables`.
-pub fn check_machine_cables(alloc: Global, table: &Table) -> Result<(), Slip> {
+pub fn check_machine_cables(wording: Wording, table: &Table) -> Result<(), Slip> {
     match find_at(table, Key::Cables) {
         Some(value) => check_cables(
-            alloc,
+            wording,
             Key::Cables,
-            items_of(alloc, value, Key::Cables)?,
+            items_of(wording, value, Key::Cables)?,
             None,
         ),
         None => Ok(()),
@@ -25,26 +28,26 @@ pub fn check_machine_cables(alloc: Global, table: &Table) -> Result<(), Slip> {
 }
 
 /// Checks the pairs of a day, at the key `plugs`.
-pub fn check_pairs(alloc: Global, table: &Table) -> Result<(), Slip> {
+pub fn check_pairs(wording: Wording, table: &Table) -> Result<(), Slip> {
     check_cables(
-        alloc,
+        wording,
         Key::Plugs,
-        items_at(alloc, table, Key::Plugs)?,
+        items_at(wording, table, Key::Plugs)?,
         Some(2),
     )
 }
 
 /// Checks the groups of a day, at the key `groups`.
-pub fn check_groups(alloc: Global, table: &Table) -> Result<(), Slip> {
+pub fn check_groups(wording: Wording, table: &Table) -> Result<(), Slip> {
     let Some(value) = find_at(table, Key::Groups) else {
         return Ok(());
     };
     let fault = SheetFault::BadValue(Key::Groups);
-    let items = items_of(alloc, value, Key::Groups)?;
-    check_at_most(alloc, Key::Groups, items.len(), 4, "groups")?;
+    let items = items_of(wording, value, Key::Groups)?;
+    check_at_most(wording, Key::Groups, items.len(), 4, texts::GROUP_COUNT)?;
     for (place, item) in items.iter().enumerate() {
-        let text = item_text(alloc, item, place + 1, fault)?;
-        check_text(alloc, text, fault, 3, " for a group")?;
+        let text = item_text(wording, item, place + 1, fault)?;
+        check_text(wording, text, fault, 3, texts::FOR_A_GROUP)?;
     }
     Ok(())
 }
@@ -52,17 +55,17 @@ pub fn check_groups(alloc: Global, table: &Table) -> Result<(), Slip> {
 /// Checks the items of a list of cables. Each cable must have `count` letters or, if `count` is `None`, at most two. No
 /// letter may come twice.
 fn check_cables(
-    alloc: Global,
+    wording: Wording,
     key: Key,
     items: &[Value],
     count: Option<usize>,
 ) -> Result<(), Slip> {
     let fault = SheetFault::BadValue(key);
-    check_at_most(alloc, key, items.len(), 13, "cables")?;
+    check_at_most(wording, key, items.len(), 13, texts::CABLE_COUNT)?;
     for (place, item) in items.iter().enumerate() {
-        let text = item_text(alloc, item, place + 1, fault)?;
-        check_ends(alloc, text, fault, count)?;
-        check_new(alloc, items, place, text)?;
+        let text = item_text(wording, item, place + 1, fault)?;
+        check_ends(wording, text, fault, count)?;
+        check_new(wording, items, place, text)?;
     }
     Ok(())
 }
@@ -70,14 +73,14 @@ fn check_cables(
 /// Refuses the cable `text` if it has a letter twice, or a letter of an earlier cable.
 ///
 /// `text` is the item at place `place` of `items`.
-fn check_new(alloc: Global, items: &[Value], place: usize, text: &str) -> Result<(), Slip>
+fn check_new(wording: Wording, items: &[Value], place: usize, text: &str) -> Result<(), Slip>
     ensures { IfErr result (HasFault LetterTwice None) }
 {
-    check_twice_within(alloc, text)?;
+    check_twice_within(wording, text)?;
     for earlier in items.iter().take(place) {
         if let Some(before) = earlier.as_str() {
             for byte in text.as_bytes() {
-                check_apart(alloc, before, text, *byte)?;
+                check_apart(wording, before, text, *byte)?;
             }
         }
     }
@@ -85,7 +88,7 @@ fn check_new(alloc: Global, items: &[Value], place: usize, text: &str) -> Result
 }
 
 /// Refuses a cable that has the same letter at both ends.
-fn check_twice_within(alloc: Global, text: &str) -> Result<(), Slip>
+fn check_twice_within(wording: Wording, text: &str) -> Result<(), Slip>
     ensures { IfErr result (HasFault LetterTwice None) }
 {
     if let [one, other] = text.as_bytes()
@@ -93,14 +96,20 @@ fn check_twice_within(alloc: Global, text: &str) -> Result<(), Slip>
     {
         return refuse(
             SheetFault::LetterTwice,
-            format!(in alloc; "the letter {} is at both ends of {text}", char::from(*one)),
+            both_ends_words(wording, *one, text),
         );
     }
     Ok(())
 }
 
+/// Why the cable `text`, which has the letter `byte` at both ends, is refused.
+fn both_ends_words(wording: Wording, byte: u8, text: &str) -> Result<String, AllocError> {
+    let letter = letter_text(wording.alloc, byte)?;
+    wording.fill(texts::LETTER_AT_BOTH_ENDS, &[letter.as_str(), text])
+}
+
 /// Refuses the letter `byte` of the cable `text`, if the cable `earlier` has this letter, too.
-fn check_apart(alloc: Global, earlier: &str, text: &str, byte: u8) -> Result<(), Slip>
+fn check_apart(wording: Wording, earlier: &str, text: &str, byte: u8) -> Result<(), Slip>
     ensures { IfErr result (HasFault LetterTwice None) }
 {
     if !earlier.as_bytes().contains(&byte) {
@@ -108,16 +117,24 @@ fn check_apart(alloc: Global, earlier: &str, text: &str, byte: u8) -> Result<(),
     }
     refuse(
         SheetFault::LetterTwice,
-        format!(in alloc;
-            "the letter {} is in {earlier} and in {text}",
-            char::from(byte)
-        ),
+        letter_twice_words(wording, byte, earlier, text),
     )
+}
+
+/// Why the letter `byte`, which the cables `earlier` and `text` have, is refused.
+fn letter_twice_words(
+    wording: Wording,
+    byte: u8,
+    earlier: &str,
+    text: &str,
+) -> Result<String, AllocError> {
+    let letter = letter_text(wording.alloc, byte)?;
+    wording.fill(texts::LETTER_TWICE, &[letter.as_str(), earlier, text])
 }
 
 /// Checks the text of a cable. It must have `count` capital letters or, if `count` is `None`, at most two.
 fn check_ends(
-    alloc: Global,
+    wording: Wording,
     text: &str,
     fault: SheetFault,
     count: Option<usize>,
@@ -125,21 +142,21 @@ fn check_ends(
     ensures { IfErr result (HasFault fault None) }
 {
     if let Some(count) = count {
-        return check_text(alloc, text, fault, count, ", one for each end of a cable");
+        return check_text(wording, text, fault, count, texts::FOR_EACH_END);
     }
-    check_capitals(alloc, text, fault)?;
+    check_capitals(wording, text, fault)?;
     if text.len() <= 2 {
         return Ok(());
     }
-    refuse(fault, many_ends_words(alloc, text))
+    refuse(fault, many_ends_words(wording, text))
 }
 
 /// Why the cable `text`, which has more than two letters, is refused.
-fn many_ends_words(alloc: Global, text: &str) -> Result<String, AllocError> {
-    let text_shown = shown(alloc, text)?;
-    format!(in alloc;
-        "{} has {} letters, and a cable has two ends",
-        text_shown.as_str(),
-        text.len()
+fn many_ends_words(wording: Wording, text: &str) -> Result<String, AllocError> {
+    let text_shown = shown(wording, text)?;
+    let mut buffer = Buffer::new();
+    wording.fill(
+        texts::MANY_ENDS,
+        &[text_shown.as_str(), buffer.format(text.len())],
     )
 }

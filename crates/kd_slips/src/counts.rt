@@ -5,10 +5,13 @@ ghost use Rattle.std.specs.String.{string_bytes};
 ghost use Rattle.kd_slips.specs.Counts.{count, count_words, counts_of, day_lines, few_line, few_lines, few_words};
 ghost use Rattle.kd_slips.specs.Counts.{has_more, has_most, noun};
 
+use crate::texts;
 use itoa::Buffer;
+use kd_language::template::push_filled;
+use kd_language::{Language, Wording};
 use kd_state::SheetDay;
 use kd_tables::Model;
-use std::alloc::{AllocError, Global};
+use std::alloc::AllocError;
 
 /// What is counted on a day: its pairs, or its groups.
 #[derive(Clone, Copy)]
@@ -40,12 +43,13 @@ pub fn counts_of(day: &SheetDay) -> DayCounts
 
 /// The warnings about all days that have fewer pairs, or fewer groups, than another day of their model. Each warning
 /// begins with `start`.
-pub fn few_lines(alloc: Global, start: &str, days: &[DayCounts]) -> Result<String, AllocError>
-    ensures { IfOk result (λ lines. string_bytes lines ≡ few_lines start.now days.now) }
+pub fn few_lines(wording: Wording, start: &str, days: &[DayCounts]) -> Result<String, AllocError>
+    ensures { IfOk result (λ lines.
+        string_bytes lines ≡ few_lines wording.language start.now days.now) }
 {
-    let mut lines = String::new(alloc);
+    let mut lines = String::new(wording.alloc);
     for day in days {
-        push_day(&mut lines, start, days, day)?;
+        push_day(&mut lines, wording, start, days, day)?;
     }
     Ok(lines)
 }
@@ -54,15 +58,16 @@ pub fn few_lines(alloc: Global, start: &str, days: &[DayCounts]) -> Result<Strin
 #[tactic(auto, using(std::proofs::Common::append_assoc), unfolding(crate::specs::Counts::day_lines))]
 fn push_day(
     lines: &mut String,
+    wording: Wording,
     start: &str,
     days: &[DayCounts],
     day: &DayCounts,
 ) -> Result<(), AllocError>
     ensures { OnOk result (string_bytes lines.new
-        ≡ string_bytes lines.old ++ day_lines start.now days.now day.now) }
+        ≡ string_bytes lines.old ++ day_lines wording.language start.now days.now day.now) }
 {
-    push_few(lines, start, days, day, Counted::Pairs)?;
-    push_few(lines, start, days, day, Counted::Groups)
+    push_few(lines, wording, start, days, day, Counted::Pairs)?;
+    push_few(lines, wording, start, days, day, Counted::Groups)
 }
 
 /// Appends the warning about `day`, if another day of the same model in `days` has more pairs or groups.
@@ -70,16 +75,17 @@ fn push_day(
 /// `counted` says whether pairs or groups are compared.
 fn push_few(
     lines: &mut String,
+    wording: Wording,
     start: &str,
     days: &[DayCounts],
     day: &DayCounts,
     counted: Counted,
 ) -> Result<(), AllocError>
     ensures { OnOk result (string_bytes lines.new
-        ≡ string_bytes lines.old ++ few_line start.now days.now day.now counted) }
+        ≡ string_bytes lines.old ++ few_line wording.language start.now days.now day.now counted) }
 {
     match find_most(counted, days, day, days) {
-        Some(most) => push_words(lines, start, counted, day, &most),
+        Some(most) => push_words(lines, wording, start, counted, day, &most),
         None => Ok(()),
     }
 }
@@ -142,56 +148,55 @@ fn has_more(counted: Counted, day: &DayCounts, other: &DayCounts) -> bool
 #[tactic(auto, using(std::proofs::Common::append_assoc), unfolding(crate::specs::Counts::few_words))]
 fn push_words(
     lines: &mut String,
+    wording: Wording,
     start: &str,
     counted: Counted,
     day: &DayCounts,
     most: &DayCounts,
 ) -> Result<(), AllocError>
     ensures { OnOk result (string_bytes lines.new
-        ≡ string_bytes lines.old ++ few_words start.now counted day.now most.now) }
+        ≡ string_bytes lines.old ++ few_words wording.language start.now counted day.now most.now) }
 {
+    let words = count_words(wording, counted, count(counted, day))?;
+    let mut day_buffer = Buffer::new();
+    let mut most_day_buffer = Buffer::new();
+    let mut most_buffer = Buffer::new();
+    let values = [
+        day_buffer.format(day.day),
+        words.as_str(),
+        most_day_buffer.format(most.day),
+        most_buffer.format(count(counted, most)),
+    ];
     lines.push_str(start)?;
-    push_titled(lines, "day ", usize::from(day.day))?;
-    lines.push_str(" has ")?;
-    push_count(lines, counted, count(counted, day))?;
-    push_titled(lines, ", and day ", usize::from(most.day))?;
-    push_titled(lines, " has ", count(counted, most))?;
-    lines.push_str("\n")
+    push_filled(lines, wording.language.text(texts::FEW), &values)
 }
 
-/// Appends the words that give a number of pairs or groups, for example `no pairs`.
-#[tactic(auto, using(std::proofs::Common::append_assoc), unfolding(crate::specs::Counts::count_words))]
-fn push_count(text: &mut String, counted: Counted, number: usize) -> Result<(), AllocError>
-    ensures { OnOk result (string_bytes text.new
-        ≡ string_bytes text.old ++ count_words counted number) }
+/// The words that give a number of pairs or groups, for example `no pairs`.
+#[tactic(auto, unfolding(crate::specs::Counts::count_words))]
+fn count_words(wording: Wording, counted: Counted, number: usize) -> Result<String, AllocError>
+    ensures { IfOk result (λ words.
+        string_bytes words ≡ count_words wording.language counted number) }
 {
-    if number == 0 {
-        text.push_str("no")?;
-    } else {
-        push_titled(text, "", number)?;
-    }
-    text.push_str(noun(counted))?;
-    text.push_str(if number == 1 { "" } else { "s" })
-}
-
-/// Appends `title`, and then a number in decimal.
-#[tactic(auto, using(std::proofs::Common::append_assoc))]
-fn push_titled(text: &mut String, title: &str, number: usize) -> Result<(), AllocError>
-    ensures { OnOk result (string_bytes text.new
-        ≡ string_bytes text.old ++ title.now ++ decimal number) }
-{
+    let mut words = String::new(wording.alloc);
     let mut buffer = Buffer::new();
-    text.push_str(title)?;
-    text.push_str(buffer.format(number))
+    if number == 0 {
+        words.push_str(wording.language.text(texts::NO))?;
+    } else {
+        words.push_str(buffer.format(number))?;
+    }
+    words.push_str(noun(wording.language, counted, number))?;
+    Ok(words)
 }
 
-/// A space, then the noun `pair` or `group`.
-fn noun(counted: Counted) -> &'static str
-    ensures { result.now ≡ noun counted }
+/// A space, then the noun for `number` pairs or groups.
+fn noun(language: Language, counted: Counted, number: usize) -> &'static str
+    ensures { result.now ≡ noun language counted number }
 {
     match counted {
-        Counted::Pairs => " pair",
-        Counted::Groups => " group",
+        Counted::Pairs if number == 1 => language.text(texts::PAIR),
+        Counted::Pairs => language.text(texts::PAIRS),
+        Counted::Groups if number == 1 => language.text(texts::GROUP),
+        Counted::Groups => language.text(texts::GROUPS),
     }
 }
 

@@ -7,78 +7,84 @@ ghost use Rattle.kd_slips.specs.Shown.{model_with_article};
 
 use crate::letters::in_capitals;
 use crate::slip::{Slip, refuse};
+use crate::texts;
 use crate::values::{check_count, item_text, items_at, shown, text_at};
+use itoa::Buffer;
+use kd_language::{Language, Wording};
 use kd_sheet::{Key, SheetFault};
 use kd_tables::{Model, Reflector, Wheel, allowed, in_box};
-use std::alloc::{AllocError, Global};
+use std::alloc::AllocError;
 use toml::{Table, Value};
 
 /// The model's name, with an article before it.
-pub fn model_name(model: Model) -> &'static str
-    ensures value { result.now ≡ model_with_article model }
-    ensures len { length result.now ≤ 17 }
+pub fn model_name(language: Language, model: Model) -> &'static str
+    ensures value { result.now ≡ model_with_article language model }
+    ensures len { length result.now ≤ 19 }
 {
     match model {
-        Model::EnigmaI => "an Enigma I",
-        Model::M3 => "an M3",
-        Model::M4 => "an M4",
-        Model::M209 => "a Converter M-209",
+        Model::EnigmaI => language.text(texts::AN_ENIGMA_I),
+        Model::M3 => language.text(texts::AN_M3),
+        Model::M4 => language.text(texts::AN_M4),
+        Model::M209 => language.text(texts::A_CONVERTER),
     }
 }
 
 /// The wheels in the model's box, in words.
-pub fn box_words(model: Model) -> &'static str
-    ensures { length result.now ≤ 25 }
+pub fn box_words(language: Language, model: Model) -> &'static str
+    ensures { length result.now ≤ 26 }
 {
     match model {
-        Model::EnigmaI => "I to V",
-        Model::M3 => "I to VIII",
-        Model::M4 => "I to VIII, Beta and Gamma",
-        Model::M209 => "none of these",
+        Model::EnigmaI => language.text(texts::BOX_OF_ENIGMA_I),
+        Model::M3 => language.text(texts::BOX_OF_M3),
+        Model::M4 => language.text(texts::BOX_OF_M4),
+        Model::M209 => language.text(texts::BOX_OF_M209),
     }
 }
 
 /// The model at the key `model`, or the reason why there is no valid model.
-pub fn model_at(alloc: Global, table: &Table) -> Result<Model, Slip> {
-    let name = text_at(alloc, table, Key::Model)?;
+pub fn model_at(wording: Wording, table: &Table) -> Result<Model, Slip> {
+    let name = text_at(wording, table, Key::Model)?;
     match Model::from_text(name.as_bytes()) {
         Some(model) => Ok(model),
-        None => unknown_model(alloc, name),
+        None => unknown_model(wording, name),
     }
 }
 
 /// Checks that the text at the key `reflector` names one of the model's reflectors.
-pub fn check_reflector(alloc: Global, table: &Table, model: Model) -> Result<(), Slip> {
-    let name = text_at(alloc, table, Key::Reflector)?;
+pub fn check_reflector(wording: Wording, table: &Table, model: Model) -> Result<(), Slip> {
+    let name = text_at(wording, table, Key::Reflector)?;
     if has_reflector(model, name) {
         return Ok(());
     }
     let fault = SheetFault::BadValue(Key::Reflector);
     if let Some(reflector) = near_reflector(model, name) {
-        return refuse_case(alloc, fault, name, reflector.text().as_str());
+        return refuse_case(wording, fault, name, reflector.text().as_str());
     }
-    refuse(fault, no_reflector_words(alloc, model, name))
+    refuse(fault, no_reflector_words(wording, model, name))
 }
 
 /// Why `name`, which names none of the model's reflectors, is refused.
-fn no_reflector_words(alloc: Global, model: Model, name: &str) -> Result<String, AllocError> {
-    let name_shown = shown(alloc, name)?;
-    format!(in alloc;
-        "{} is no reflector of {}, which has {}",
-        name_shown.as_str(),
-        model_name(model),
-        reflector_words(model)
+fn no_reflector_words(wording: Wording, model: Model, name: &str) -> Result<String, AllocError> {
+    let name_shown = shown(wording, name)?;
+    wording.fill(
+        texts::NO_REFLECTOR,
+        &[
+            name_shown.as_str(),
+            model_name(wording.language, model),
+            reflector_words(wording.language, model),
+        ],
     )
 }
 
 /// Checks that the list at `key` has a valid wheel for each slot of the model. In a machine file, a slot may be empty.
-pub fn check_wheels(alloc: Global, table: &Table, key: Key, model: Model) -> Result<(), Slip> {
-    let items = items_at(alloc, table, key)?;
-    check_count(alloc, key, items.len(), usize::from(model.slots()), "slots")?;
+pub fn check_wheels(wording: Wording, table: &Table, key: Key, model: Model) -> Result<(), Slip> {
+    let items = items_at(wording, table, key)?;
+    let slots = usize::from(model.slots());
+    check_count(wording, key, items.len(), slots, texts::SLOT_COUNT)?;
     let mut slot = 1;
     for item in items {
-        let name = item_text(alloc, item, usize::from(slot), SheetFault::BadValue(key))?;
-        check_wheel(alloc, items, key, model, slot, name)?;
+        let name = item_text(wording, item, usize::from(slot), SheetFault::BadValue(key))?;
+        check_wheel(wording, items, key, model, slot, name)?;
         if slot < 4 {
             slot += 1;
         }
@@ -87,13 +93,13 @@ pub fn check_wheels(alloc: Global, table: &Table, key: Key, model: Model) -> Res
 }
 
 /// The model's reflectors, in words.
-fn reflector_words(model: Model) -> &'static str {
-    match model {
-        Model::EnigmaI => "A, B and C",
-        Model::M3 => "B and C",
-        Model::M4 => "b and c",
-        Model::M209 => "none",
-    }
+fn reflector_words(language: Language, model: Model) -> &'static str {
+    language.text(match model {
+        Model::EnigmaI => texts::REFLECTORS_OF_ENIGMA_I,
+        Model::M3 => texts::REFLECTORS_OF_M3,
+        Model::M4 => texts::REFLECTORS_OF_M4,
+        Model::M209 => texts::REFLECTORS_OF_M209,
+    })
 }
 
 /// The model's reflector named `name`. Capital and small letters count as equal.
@@ -107,24 +113,21 @@ fn near_reflector(model: Model, name: &str) -> Option<Reflector> {
 }
 
 /// Refuses a name that no model has.
-fn unknown_model(alloc: Global, name: &str) -> Result<Model, Slip>
+fn unknown_model(wording: Wording, name: &str) -> Result<Model, Slip>
     ensures refused { IsErr result }
     ensures slip { IfErr result (HasFault UnknownModel None) }
 {
     let fault = SheetFault::UnknownModel;
     if let Some(model) = near_model(name) {
-        return refuse_case(alloc, fault, name, model.text().as_str());
+        return refuse_case(wording, fault, name, model.text().as_str());
     }
-    refuse(fault, no_model_words(alloc, name))
+    refuse(fault, no_model_words(wording, name))
 }
 
 /// Why `name`, which names no model, is refused.
-fn no_model_words(alloc: Global, name: &str) -> Result<String, AllocError> {
-    let name_shown = shown(alloc, name)?;
-    format!(in alloc;
-        "{} is no model: write `Enigma I`, `M3`, `M4` or `M-209`",
-        name_shown.as_str()
-    )
+fn no_model_words(wording: Wording, name: &str) -> Result<String, AllocError> {
+    let name_shown = shown(wording, name)?;
+    wording.fill(texts::NO_MODEL, &[name_shown.as_str()])
 }
 
 /// The model named `name`. Capital and small letters count as equal.
@@ -146,7 +149,7 @@ fn has_reflector(model: Model, name: &str) -> bool {
 
 /// Checks the wheel `name` for slot `slot`, in the list `items` at `key`.
 fn check_wheel(
-    alloc: Global,
+    wording: Wording,
     items: &[Value],
     key: Key,
     model: Model,
@@ -158,32 +161,34 @@ fn check_wheel(
     }
     let wheel = match Wheel::from_text(name.as_bytes()) {
         Some(wheel) => wheel,
-        None => unknown_wheel(alloc, name, key, model)?,
+        None => unknown_wheel(wording, name, key, model)?,
     };
-    check_allowed(alloc, model, slot, wheel)?;
-    check_first(alloc, items, slot, name)
+    check_allowed(wording, model, slot, wheel)?;
+    check_first(wording, items, slot, name)
 }
 
 /// Refuses a name that no wheel has.
-fn unknown_wheel(alloc: Global, name: &str, key: Key, model: Model) -> Result<Wheel, Slip>
+fn unknown_wheel(wording: Wording, name: &str, key: Key, model: Model) -> Result<Wheel, Slip>
     ensures refused { IsErr result }
     ensures slip { IfErr result (HasFault (BadValue key) None) }
 {
     let fault = SheetFault::BadValue(key);
     if let Some(wheel) = near_wheel(name) {
-        return refuse_case(alloc, fault, name, wheel.text().as_str());
+        return refuse_case(wording, fault, name, wheel.text().as_str());
     }
-    refuse(fault, no_wheel_words(alloc, name, model))
+    refuse(fault, no_wheel_words(wording, name, model))
 }
 
 /// Why `name`, which names no wheel, is refused.
-fn no_wheel_words(alloc: Global, name: &str, model: Model) -> Result<String, AllocError> {
-    let name_shown = shown(alloc, name)?;
-    format!(in alloc;
-        "{} is no wheel; {} has {}",
-        name_shown.as_str(),
-        model_name(model),
-        box_words(model)
+fn no_wheel_words(wording: Wording, name: &str, model: Model) -> Result<String, AllocError> {
+    let name_shown = shown(wording, name)?;
+    wording.fill(
+        texts::NO_WHEEL,
+        &[
+            name_shown.as_str(),
+            model_name(wording.language, model),
+            box_words(wording.language, model),
+        ],
     )
 }
 
@@ -198,18 +203,15 @@ fn near_wheel(name: &str) -> Option<Wheel> {
 }
 
 /// Refuses `name`, which differs from the name `right` only in capital and small letters.
-fn refuse_case<T>(alloc: Global, fault: SheetFault, name: &str, right: &str) -> Result<T, Slip>
+fn refuse_case<T>(wording: Wording, fault: SheetFault, name: &str, right: &str) -> Result<T, Slip>
     ensures refused { IsErr result }
     ensures slip { IfErr result (HasFault fault None) }
 {
-    refuse(
-        fault,
-        format!(in alloc; "capital and small letters: write `{right}` for `{name}`"),
-    )
+    refuse(fault, wording.fill(texts::OTHER_CASE, &[right, name]))
 }
 
 /// Checks that `model` allows `wheel` in slot `slot`.
-fn check_allowed(alloc: Global, model: Model, slot: u8, wheel: Wheel) -> Result<(), Slip>
+fn check_allowed(wording: Wording, model: Model, slot: u8, wheel: Wheel) -> Result<(), Slip>
     ensures { IfErr result (HasFault WheelNotAllowed None) }
 {
     if allowed(model, slot, wheel) {
@@ -217,45 +219,51 @@ fn check_allowed(alloc: Global, model: Model, slot: u8, wheel: Wheel) -> Result<
     }
     refuse(
         SheetFault::WheelNotAllowed,
-        not_allowed_words(alloc, model, slot, wheel),
+        not_allowed_words(wording, model, slot, wheel),
     )
 }
 
 /// Why `wheel`, which `model` doesn't allow in slot `slot`, is refused.
 fn not_allowed_words(
-    alloc: Global,
+    wording: Wording,
     model: Model,
     slot: u8,
     wheel: Wheel,
 ) -> Result<String, AllocError> {
     let name = wheel.text();
+    let mut buffer = Buffer::new();
     if in_box(model, wheel) {
-        return format!(in alloc;
-            "wheel {} doesn't go into slot {slot} of {}, which takes {}",
-            name.as_str(),
-            model_name(model),
-            slot_words(model, slot)
+        return wording.fill(
+            texts::NOT_FOR_SLOT,
+            &[
+                name.as_str(),
+                buffer.format(slot),
+                model_name(wording.language, model),
+                slot_words(wording.language, model, slot),
+            ],
         );
     }
-    format!(in alloc;
-        "wheel {} isn't in the box of {}, which has {}",
-        name.as_str(),
-        model_name(model),
-        box_words(model)
+    wording.fill(
+        texts::NOT_IN_BOX,
+        &[
+            name.as_str(),
+            model_name(wording.language, model),
+            box_words(wording.language, model),
+        ],
     )
 }
 
 /// The wheels that slot `slot` of the model takes, in words.
-fn slot_words(model: Model, slot: u8) -> &'static str {
+fn slot_words(language: Language, model: Model, slot: u8) -> &'static str {
     match model {
-        Model::M4 if slot == 1 => "Beta or Gamma",
-        Model::M4 => box_words(Model::M3),
-        Model::EnigmaI | Model::M3 | Model::M209 => box_words(model),
+        Model::M4 if slot == 1 => language.text(texts::GREEK_WHEELS),
+        Model::M4 => box_words(language, Model::M3),
+        Model::EnigmaI | Model::M3 | Model::M209 => box_words(language, model),
     }
 }
 
 /// Refuses the wheel `name` in slot `slot`, if an earlier slot has this wheel, too.
-fn check_first(alloc: Global, items: &[Value], slot: u8, name: &str) -> Result<(), Slip>
+fn check_first(wording: Wording, items: &[Value], slot: u8, name: &str) -> Result<(), Slip>
     ensures { IfErr result (HasFault WheelTwice None) }
 {
     let mut earlier = 1;
@@ -264,11 +272,30 @@ fn check_first(alloc: Global, items: &[Value], slot: u8, name: &str) -> Result<(
             if item.as_str() == Some(name) {
                 return refuse(
                     SheetFault::WheelTwice,
-                    format!(in alloc; "wheel {name} is in slot {earlier} and in slot {slot}"),
+                    wheel_twice_words(wording, name, earlier, slot),
                 );
             }
             earlier += 1;
         }
     }
     Ok(())
+}
+
+/// Why the wheel `name`, which is in the slots `earlier` and `slot`, is refused.
+fn wheel_twice_words(
+    wording: Wording,
+    name: &str,
+    earlier: u8,
+    slot: u8,
+) -> Result<String, AllocError> {
+    let mut earlier_buffer = Buffer::new();
+    let mut slot_buffer = Buffer::new();
+    wording.fill(
+        texts::WHEEL_TWICE,
+        &[
+            name,
+            earlier_buffer.format(earlier),
+            slot_buffer.format(slot),
+        ],
+    )
 }

@@ -6,28 +6,30 @@ ghost use Rattle.kd_sheet.specs.Bars.{bars_in, rows_in};
 ghost use Rattle.kd_sheet.specs.declared.fault.SheetFault.TheVariants.{BadRow, BadValue};
 ghost use Rattle.kd_sheet.specs.declared.key.Key.TheVariants as keys;
 
-use crate::letters::{check_capitals, check_on_wheel};
+use crate::letters::{check_capitals, check_on_wheel, letter_text};
 use crate::slip::{Slip, refuse, refuse_item};
+use crate::texts;
 use crate::values::{check_count, item_text, items_at, shown};
+use kd_language::{Text, Wording};
 use kd_sheet::by_key::{bars_in, find_at, rows_in};
 use kd_sheet::{BARS, Key, SheetFault, pins_of_text};
 use kd_tables::{Letter, ring1, ring2, ring3, ring4, ring5, ring6};
-use std::alloc::{AllocError, Global};
+use std::alloc::AllocError;
 use toml::{Table, Value};
 
 /// Checks the pins at the key `pins`. A slip's words are about the first wheel whose pins the desk refuses.
 #[tactic(auto, unfolding(crate::specs::Items::refused_pins))]
-pub fn check_pins(alloc: Global, table: &Table) -> Result<(), Slip>
+pub fn check_pins(wording: Wording, table: &Table) -> Result<(), Slip>
     ensures read { OnOk result (refused_pins (table_view table.now) ≡ None) }
     ensures item { IfErr result (IsOfItem (refused_pins (table_view table.now))) }
 {
-    let items = items_at(alloc, table, Key::Pins)?;
-    check_count(alloc, Key::Pins, items.len(), 6, "wheels")?;
-    check_pin_items(alloc, items)
+    let items = items_at(wording, table, Key::Pins)?;
+    check_count(wording, Key::Pins, items.len(), 6, texts::WHEEL_COUNT)?;
+    check_pin_items(wording, items)
 }
 
 /// Checks the standings at the key `bars`. A slip's words are about the first bar that the desk refuses.
-pub fn check_bars(alloc: Global, table: &Table) -> Result<(), Slip>
+pub fn check_bars(wording: Wording, table: &Table) -> Result<(), Slip>
     ensures read { OnOk result (IsOk (bars_in (table_view table.now))) }
     ensures row { (number : ℕ) → bars_in (table_view table.now) ≡ Err (BadRow number)
         → IfErr result (HasFault (BadRow number) (Some number)) }
@@ -35,19 +37,15 @@ pub fn check_bars(alloc: Global, table: &Table) -> Result<(), Slip>
 {
     match bars_in(table) {
         Ok(_) => Ok(()),
-        Err(SheetFault::BadRow(number)) => refuse_row(
-            alloc,
-            table,
-            Key::Bars,
-            number,
-            "is no standing: write the places of the two lugs from the left, such as `0L-3` or `1-0R`",
-        ),
-        Err(_) => refuse_list(alloc, table, Key::Bars),
+        Err(SheetFault::BadRow(number)) => {
+            refuse_row(wording, table, Key::Bars, number, texts::NO_STANDING)
+        }
+        Err(_) => refuse_list(wording, table, Key::Bars),
     }
 }
 
 /// Checks the rows at the key `rows`. A slip's words are about the first row that the desk refuses.
-pub fn check_rows(alloc: Global, table: &Table) -> Result<(), Slip>
+pub fn check_rows(wording: Wording, table: &Table) -> Result<(), Slip>
     ensures read { OnOk result (IsOk (rows_in (table_view table.now))) }
     ensures row { (number : ℕ) → rows_in (table_view table.now) ≡ Err (BadRow number)
         → IfErr result (HasFault (BadRow number) (Some number)) }
@@ -55,19 +53,15 @@ pub fn check_rows(alloc: Global, table: &Table) -> Result<(), Slip>
 {
     match rows_in(table) {
         Ok(_) => Ok(()),
-        Err(SheetFault::BadRow(number)) => refuse_row(
-            alloc,
-            table,
-            Key::Rows,
-            number,
-            "is no row: write two different numbers from 0 to 6, such as `0-3`, or `0-0`",
-        ),
-        Err(_) => refuse_list(alloc, table, Key::Rows),
+        Err(SheetFault::BadRow(number)) => {
+            refuse_row(wording, table, Key::Rows, number, texts::NO_ROW)
+        }
+        Err(_) => refuse_list(wording, table, Key::Rows),
     }
 }
 
 /// Refuses the first item that the desk can't read as the pins of its wheel.
-fn check_pin_items(alloc: Global, items: &[Value]) -> Result<(), Slip>
+fn check_pin_items(wording: Wording, items: &[Value]) -> Result<(), Slip>
     requires { length items.now ≤ 6 }
     ensures read { OnOk result (first_refused reads_pins (map view items.now) ≡ None) }
     ensures item { IfErr result (IsOfItem (first_refused reads_pins (map view items.now))) }
@@ -75,7 +69,11 @@ fn check_pin_items(alloc: Global, items: &[Value]) -> Result<(), Slip>
     for (index, item) in items.iter().enumerate() {
         let wheel = index as u8 + 1;
         if !reads_pins(wheel, item) {
-            return at_item(alloc, refuse_pins(alloc, wheel, item), usize::from(wheel));
+            return at_item(
+                wording,
+                refuse_pins(wording, wheel, item),
+                usize::from(wheel),
+            );
         }
     }
     Ok(())
@@ -104,7 +102,7 @@ fn reads_pins(wheel: u8, item: &Value) -> bool
 
 /// Returns the slip in `checked`, with `item` as the number of its item. If `checked` is `Ok`, returns a slip with
 /// general words, because the desk refuses the item in any case.
-fn at_item(alloc: Global, checked: Result<(), Slip>, item: usize) -> Result<(), Slip>
+fn at_item(wording: Wording, checked: Result<(), Slip>, item: usize) -> Result<(), Slip>
     ensures refused { IsErr result }
     ensures slip { IfErr result (IsOfItem (Some item)) }
 {
@@ -112,7 +110,7 @@ fn at_item(alloc: Global, checked: Result<(), Slip>, item: usize) -> Result<(), 
         Ok(()) => refuse_item(
             SheetFault::BadValue(Key::Pins),
             item,
-            String::from_str(alloc, "these aren't the pins of the wheel"),
+            wording.fill(texts::NOT_THE_PINS, &[]),
         ),
         Err(Slip::Fault(fault, _, words)) => Err(Slip::Fault(fault, Some(item), words)),
         Err(Slip::NoMemory) => Err(Slip::NoMemory),
@@ -120,21 +118,21 @@ fn at_item(alloc: Global, checked: Result<(), Slip>, item: usize) -> Result<(), 
 }
 
 /// Explains why the desk can't read `item` as the pins of pin wheel `wheel`.
-fn refuse_pins(alloc: Global, wheel: u8, item: &Value) -> Result<(), Slip> {
+fn refuse_pins(wording: Wording, wheel: u8, item: &Value) -> Result<(), Slip> {
     let number = usize::from(wheel);
-    let text = item_text(alloc, item, number, SheetFault::BadValue(Key::Pins))?;
-    check_wheel_pins(alloc, wheel, text)
+    let text = item_text(wording, item, number, SheetFault::BadValue(Key::Pins))?;
+    check_wheel_pins(wording, wheel, text)
 }
 
 /// Checks that the pins in `text` are on pin wheel `wheel`, and that no pin comes twice.
-fn check_wheel_pins(alloc: Global, wheel: u8, text: &str) -> Result<(), Slip>
+fn check_wheel_pins(wording: Wording, wheel: u8, text: &str) -> Result<(), Slip>
     ensures { IfErr result (HasFault (BadValue keys.Pins) None) }
 {
     let fault = SheetFault::BadValue(Key::Pins);
-    check_capitals(alloc, text, fault)?;
+    check_capitals(wording, text, fault)?;
     for (place, byte) in text.as_bytes().iter().enumerate() {
         if let Some(letter) = Letter::from_byte(*byte) {
-            check_on_wheel(alloc, wheel, letter, fault)?;
+            check_on_wheel(wording, wheel, letter, fault)?;
         }
         if text
             .as_bytes()
@@ -142,34 +140,43 @@ fn check_wheel_pins(alloc: Global, wheel: u8, text: &str) -> Result<(), Slip>
             .take(place)
             .any(|earlier| earlier == byte)
         {
-            return refuse(
-                fault,
-                format!(in alloc; "the pin {} stands twice", char::from(*byte)),
-            );
+            return refuse(fault, pin_twice_words(wording, *byte));
         }
     }
     Ok(())
 }
 
-/// Refuses item number `number` of the list at `key`. If the item is a text, the slip's words are this text, then
-/// `advice`.
-fn refuse_row(alloc: Global, table: &Table, key: Key, number: u8, advice: &str) -> Result<(), Slip>
+/// Why a text of pins that has the pin `byte` twice is refused.
+fn pin_twice_words(wording: Wording, byte: u8) -> Result<String, AllocError> {
+    let pin = letter_text(wording.alloc, byte)?;
+    wording.fill(texts::PIN_TWICE, &[pin.as_str()])
+}
+
+/// Refuses item number `number` of the list at `key`. If the item is a text, the slip has the words `words`, whose
+/// value is this item.
+fn refuse_row(
+    wording: Wording,
+    table: &Table,
+    key: Key,
+    number: u8,
+    words: Text,
+) -> Result<(), Slip>
     ensures refused { IsErr result }
     ensures slip { IfErr result (HasFault (BadRow number) (Some number)) }
 {
     let fault = SheetFault::BadRow(number);
     let place = usize::from(number);
     let Some(item) = numbered_item(table, key, number) else {
-        return refuse_item(fault, place, String::from_str(alloc, "the item is missing"));
+        return refuse_item(fault, place, wording.fill(texts::ITEM_MISSING, &[]));
     };
-    let text = item_text(alloc, item, place, fault)?;
-    refuse_item(fault, place, row_words(alloc, text, advice))
+    let text = item_text(wording, item, place, fault)?;
+    refuse_item(fault, place, row_words(wording, text, words))
 }
 
-/// The text of a row, then `advice`.
-fn row_words(alloc: Global, text: &str, advice: &str) -> Result<String, AllocError> {
-    let text_shown = shown(alloc, text)?;
-    format!(in alloc; "{} {advice}", text_shown.as_str())
+/// The words `words`, whose value is the row `text`.
+fn row_words(wording: Wording, text: &str, words: Text) -> Result<String, AllocError> {
+    let text_shown = shown(wording, text)?;
+    wording.fill(words, &[text_shown.as_str()])
 }
 
 /// Item number `number` of the list at `key`, counted from 1.
@@ -179,14 +186,14 @@ fn numbered_item(table: &Table, key: Key, number: u8) -> Option<&Value> {
 }
 
 /// Refuses the value at `key`, which isn't a list with an item for each bar.
-fn refuse_list(alloc: Global, table: &Table, key: Key) -> Result<(), Slip>
+fn refuse_list(wording: Wording, table: &Table, key: Key) -> Result<(), Slip>
     ensures refused { IsErr result }
     ensures slip { IfErr result IsOfItsRow }
 {
-    let items = items_at(alloc, table, key)?;
-    check_count(alloc, key, items.len(), BARS, "bars")?;
+    let items = items_at(wording, table, key)?;
+    check_count(wording, key, items.len(), BARS, texts::BAR_COUNT)?;
     refuse(
         SheetFault::BadValue(key),
-        String::from_str(alloc, "the list has another form"),
+        wording.fill(texts::OTHER_FORM, &[]),
     )
 }

@@ -1,5 +1,5 @@
 //! Finds values in a table, and refuses values of another type.
-ghost use Rattle.std.specs.Prelude.{◌≡◌, ◌≢◌, ◌<◌, ◌≤◌, map, IfErr, IfOk, None, OnErr, OnOk, Some};
+ghost use Rattle.std.specs.Prelude.{◌≡◌, ◌≢◌, ◌<◌, ◌≤◌, ◌++◌, codes, map, IfErr, IfOk, None, OnErr, OnOk, Some};
 ghost use Rattle.std.specs.List.{list_all};
 ghost use Rattle.std.specs.Option.{option_and_then};
 ghost use Rattle.std.specs.String.{string_bytes};
@@ -12,7 +12,9 @@ ghost use Rattle.kd_slips.specs.Items.{HasFault, type_fault};
 ghost use Rattle.kd_slips.specs.Shown.{can_be_shown, is_printed, shown_text};
 
 use crate::slip::{Slip, refuse, refuse_item};
+use crate::texts;
 use itoa::Buffer;
+use kd_language::{Language, Text, Wording};
 use kd_sheet::by_key::find_at;
 use kd_sheet::{Key, SheetFault};
 use std::alloc::{AllocError, Global};
@@ -22,7 +24,7 @@ use toml::{Table, Value};
 const SHOWN: usize = 40;
 
 /// The value at `key`, or a slip if the key is missing.
-pub fn value_at(alloc: Global, table: &Table, key: Key) -> Result<&Value, Slip>
+pub fn value_at(wording: Wording, table: &Table, key: Key) -> Result<&Value, Slip>
     ensures found { IfOk result (λ value.
         get_member (key_name key) (table_view table.now) ≡ Some (view value.now)) }
     ensures missing { OnErr result (get_member (key_name key) (table_view table.now) ≡ None) }
@@ -32,26 +34,26 @@ pub fn value_at(alloc: Global, table: &Table, key: Key) -> Result<&Value, Slip>
         Some(value) => Ok(value),
         None => refuse(
             SheetFault::Missing(key),
-            format!(in alloc; "the key `{}` is missing", key.name()),
+            wording.fill(texts::KEY_MISSING, &[key.name()]),
         ),
     }
 }
 
 /// The type of `value`, in words.
-pub fn kind_of(value: &Value) -> &'static str {
-    match value {
-        Value::String(_) => "a text",
-        Value::Integer(_) => "a number",
-        Value::Float(_) => "a number with a point",
-        Value::Boolean(_) => "true or false",
-        Value::Datetime(_) => "a date",
-        Value::Array(_) => "a list",
-        Value::Table(_) => "a table",
-    }
+pub fn kind_of(language: Language, value: &Value) -> &'static str {
+    language.text(match value {
+        Value::String(_) => texts::A_TEXT,
+        Value::Integer(_) => texts::A_NUMBER,
+        Value::Float(_) => texts::A_NUMBER_WITH_POINT,
+        Value::Boolean(_) => texts::TRUE_OR_FALSE,
+        Value::Datetime(_) => texts::A_DATE,
+        Value::Array(_) => texts::A_LIST,
+        Value::Table(_) => texts::A_TABLE,
+    })
 }
 
 /// The text at `key`, or the reason why there is no text.
-pub fn text_at(alloc: Global, table: &Table, key: Key) -> Result<&str, Slip>
+pub fn text_at(wording: Wording, table: &Table, key: Key) -> Result<&str, Slip>
     ensures found { IfOk result (λ text.
         option_and_then as_str (get_member (key_name key) (table_view table.now)) ≡ Some text.now) }
     ensures other { OnErr result
@@ -59,17 +61,17 @@ pub fn text_at(alloc: Global, table: &Table, key: Key) -> Result<&str, Slip>
     ensures slip { IfErr result
         (HasFault (type_fault key (get_member (key_name key) (table_view table.now))) None) }
 {
-    let value = value_at(alloc, table, key)?;
+    let value = value_at(wording, table, key)?;
     match value.as_str() {
         Some(text) => Ok(text),
-        None => refuse(SheetFault::BadValue(key), no_text_words(alloc, value)),
+        None => refuse(SheetFault::BadValue(key), no_text_words(wording, value)),
     }
 }
 
 /// The text of `item`; if `item` isn't a text, a slip with the fault `fault`. `number` is the item's number in its
 /// list.
 pub fn item_text(
-    alloc: Global,
+    wording: Wording,
     item: &Value,
     number: usize,
     fault: SheetFault,
@@ -80,21 +82,18 @@ pub fn item_text(
 {
     match item.as_str() {
         Some(text) => Ok(text),
-        None => refuse_item(fault, number, no_text_words(alloc, item)),
+        None => refuse_item(fault, number, no_text_words(wording, item)),
     }
 }
 
 /// Why `value`, which isn't a text, is refused where a text is needed.
-fn no_text_words(alloc: Global, value: &Value) -> Result<String, AllocError> {
-    format!(in alloc;
-        "{} stands where a text is needed, in double quotes",
-        kind_of(value)
-    )
+fn no_text_words(wording: Wording, value: &Value) -> Result<String, AllocError> {
+    wording.fill(texts::TEXT_NEEDED, &[kind_of(wording.language, value)])
 }
 
 /// The items of `value`, or a slip if `value` isn't a list. `value` stands at `key`.
 #[tactic(auto, using(kd_sheet::proofs::ReadBack::Described::KeyValues::Steps::items_found))]
-pub fn items_of(alloc: Global, value: &Value, key: Key) -> Result<&[Value], Slip>
+pub fn items_of(wording: Wording, value: &Value, key: Key) -> Result<&[Value], Slip>
     ensures found { IfOk result (λ items. as_items (view value.now) ≡ Some (map view items.now)) }
     ensures other { OnErr result (as_items (view value.now) ≡ None) }
     ensures slip { IfErr result (HasFault (BadValue key) None) }
@@ -103,16 +102,13 @@ pub fn items_of(alloc: Global, value: &Value, key: Key) -> Result<&[Value], Slip
         Some(items) => Ok(items.as_slice()),
         None => refuse(
             SheetFault::BadValue(key),
-            format!(in alloc;
-                "{} stands where a list is needed, in brackets",
-                kind_of(value)
-            ),
+            wording.fill(texts::LIST_NEEDED, &[kind_of(wording.language, value)]),
         ),
     }
 }
 
 /// The items of the list at `key`, or the reason why there is no list.
-pub fn items_at(alloc: Global, table: &Table, key: Key) -> Result<&[Value], Slip>
+pub fn items_at(wording: Wording, table: &Table, key: Key) -> Result<&[Value], Slip>
     ensures found { IfOk result (λ items.
         option_and_then as_items (get_member (key_name key) (table_view table.now)) ≡ Some (map view items.now)) }
     ensures other { OnErr result
@@ -120,11 +116,17 @@ pub fn items_at(alloc: Global, table: &Table, key: Key) -> Result<&[Value], Slip
     ensures slip { IfErr result
         (HasFault (type_fault key (get_member (key_name key) (table_view table.now))) None) }
 {
-    items_of(alloc, value_at(alloc, table, key)?, key)
+    items_of(wording, value_at(wording, table, key)?, key)
 }
 
-/// Checks that a list of `len` items has exactly `count` items. `of` says what the items are.
-pub fn check_count(alloc: Global, key: Key, len: usize, count: usize, of: &str) -> Result<(), Slip>
+/// Checks that a list of `len` items has exactly `count` items. `text` is the text for another number of items.
+pub fn check_count(
+    wording: Wording,
+    key: Key,
+    len: usize,
+    count: usize,
+    text: Text,
+) -> Result<(), Slip>
     ensures same { OnOk result (len ≡ count) }
     ensures other { OnErr result (len ≢ count) }
     ensures slip { IfErr result (HasFault (BadValue key) None) }
@@ -134,12 +136,18 @@ pub fn check_count(alloc: Global, key: Key, len: usize, count: usize, of: &str) 
     }
     refuse(
         SheetFault::BadValue(key),
-        other_len_words(alloc, len, "", count, of),
+        other_len_words(wording, len, count, text),
     )
 }
 
-/// Checks that a list of `len` items has at most `most` items. `of` says what the items are.
-pub fn check_at_most(alloc: Global, key: Key, len: usize, most: usize, of: &str) -> Result<(), Slip>
+/// Checks that a list of `len` items has at most `most` items. `text` is the text for more items.
+pub fn check_at_most(
+    wording: Wording,
+    key: Key,
+    len: usize,
+    most: usize,
+    text: Text,
+) -> Result<(), Slip>
     ensures few { OnOk result (len ≤ most) }
     ensures many { OnErr result (most < len) }
     ensures slip { IfErr result (HasFault (BadValue key) None) }
@@ -149,50 +157,53 @@ pub fn check_at_most(alloc: Global, key: Key, len: usize, most: usize, of: &str)
     }
     refuse(
         SheetFault::BadValue(key),
-        other_len_words(alloc, len, "at most ", most, of),
+        other_len_words(wording, len, most, text),
     )
 }
 
-/// Why a list of `len` items is refused: `bound` and `count` say how many items it may have.
+/// Why a list of `len` items is refused. The values of `text` are the list's items in words, and `count`.
 fn other_len_words(
-    alloc: Global,
+    wording: Wording,
     len: usize,
-    bound: &str,
     count: usize,
-    of: &str,
+    text: Text,
 ) -> Result<String, AllocError> {
-    let items = items_words(alloc, len)?;
-    format!(in alloc;
-        "{} there, and there are {bound}{count} {of}",
-        items.as_str()
-    )
+    let items = items_words(wording, len)?;
+    let mut buffer = Buffer::new();
+    wording.fill(text, &[items.as_str(), buffer.format(count)])
 }
 
 /// `text` in backticks. If `text` is long, or has control characters, only its length in bytes.
 #[tactic(auto, using(std::proofs::Common::append_assoc), unfolding(crate::specs::Shown::shown_text))]
-pub fn shown(alloc: Global, text: &str) -> Result<String, AllocError>
-    ensures { IfOk result (λ words. string_bytes words ≡ shown_text text.now) }
+pub fn shown(wording: Wording, text: &str) -> Result<String, AllocError>
+    ensures { IfOk result (λ words. string_bytes words ≡ shown_text wording.language text.now) }
 {
-    let mut words = String::new(alloc);
     if can_be_shown(text) {
-        words.push_str("`")?;
-        words.push_str(text)?;
-        words.push_str("`")?;
+        in_backticks(wording.alloc, text)
     } else {
         let mut buffer = Buffer::new();
-        words.push_str("a text of ")?;
-        words.push_str(buffer.format(text.len()))?;
-        words.push_str(" bytes")?;
+        wording.fill(texts::LONG_TEXT, &[buffer.format(text.len())])
     }
+}
+
+#[tactic(auto, using(std::proofs::Common::append_assoc))]
+fn in_backticks(alloc: Global, text: &str) -> Result<String, AllocError>
+    ensures { IfOk result (λ words. string_bytes words ≡ codes "`" ++ text.now ++ codes "`") }
+{
+    let mut words = String::new(alloc);
+    words.push_str("`")?;
+    words.push_str(text)?;
+    words.push_str("`")?;
     Ok(words)
 }
 
 /// The number of items in a list, in words.
-fn items_words(alloc: Global, len: usize) -> Result<String, AllocError> {
+fn items_words(wording: Wording, len: usize) -> Result<String, AllocError> {
+    let mut buffer = Buffer::new();
     match len {
-        0 => String::from_str(alloc, "none stands"),
-        1 => String::from_str(alloc, "1 stands"),
-        _ => format!(in alloc; "{len} stand"),
+        0 => wording.fill(texts::NONE_STANDS, &[]),
+        1 => wording.fill(texts::ONE_STANDS, &[]),
+        _ => wording.fill(texts::SEVERAL_STAND, &[buffer.format(len)]),
     }
 }
 

@@ -1,4 +1,4 @@
-use Rattle.kd_curator_command.proofs.Prelude.{◌≡◌, ◌∙◌, Some, None, ap, codes, found_of, rows_of, rules, same_Some, sym}
+use Rattle.kd_curator_command.proofs.Prelude.{◌≡◌, ◌∙◌, Some, None, ap, codes, found_of, rules, same_Some, sym}
 use Rattle.kd_curator_command.proofs.CommandLines.{read_none, read_some}
 use Rattle.kd_curator_command.proofs.command.is_used.Goals as goal
 

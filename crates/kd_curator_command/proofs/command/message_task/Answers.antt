@@ -1,17 +1,12 @@
-use Rattle.kd_curator_command.proofs.Prelude.{refl, rules}
+use Rattle.kd_curator_command.proofs.Prelude.{refl}
 use Rattle.kd_curator_command.proofs.command.message_task.Goals as goal
 
 pub returns-in_err-day-clause-none : goal.returns-in_err-day-clause-none
 returns-in_err-day-clause-none c = λ _ task of. c.in_err-day.ensures.none refl task.day of.day
-
-pub returns-in_err-language-clause-none : goal.returns-in_err-language-clause-none
-returns-in_err-language-clause-none c =
-    λ _ task of. c.language_asked.ensures.none (search rules) task.language of.language
 
 pub returns-clause-said : goal.returns-clause-said
 returns-clause-said c = record {
   same = refl;
   day = c.in_ok-day.ensures.said;
   results = c.results_asked.ensures;
-  language = (search rules);
 }

@@ -4,11 +4,7 @@ use Rattle.kd_curator_command.proofs.command.page_of.Goals as goal
 
 pub returns-in_err-days-clause-none : goal.returns-in_err-days-clause-none
 returns-in_err-days-clause-none c =
-    λ _ task of. let is = only_page _ task of in c.days_asked.ensures.none (search rules) is.0 is.2
-
-pub returns-in_err-language-clause-none : goal.returns-in_err-language-clause-none
-returns-in_err-language-clause-none c =
-    λ _ task of. let is = only_page _ task of in c.language_asked.ensures.none (search rules) is.1 is.3
+    λ _ task of. let is = only_page _ task of in c.days_asked.ensures.none (search rules) is.0 is.1
 
 pub returns-clause-said : goal.returns-clause-said
 returns-clause-said c = record { name = refl; arguments = (search rules) }

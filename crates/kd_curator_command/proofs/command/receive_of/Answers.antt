@@ -33,7 +33,6 @@ returns-in_err-task-clause-none c =
       same = is.5;
       day = is.4.day;
       results = is.4.results;
-      language = is.4.language;
     })
 
 pub returns-clause-said : goal.returns-clause-said
@@ -50,5 +49,4 @@ returns-clause-said c =
       message = subst (λ d. HasMessage (rows_of found) d c.in_ok-message.message.now) (sym task.same) message;
       day = task.day;
       results = task.results;
-      language = task.language;
     }

@@ -66,7 +66,6 @@ returns-in-Some-clause-said c =
       message = subst (λ d. HasMessage (rows_of found) d c.in-Some.message.now) (sym task.same) one;
       day = task.day;
       results = task.results;
-      language = task.language;
     }
 
 pub returns-in_ok-several-in-None-clause-said : goal.returns-in_ok-several-in-None-clause-said

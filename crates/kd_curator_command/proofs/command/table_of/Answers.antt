@@ -6,12 +6,7 @@ pub returns-in_err-sheet-clause-none : goal.returns-in_err-sheet-clause-none
 returns-in_err-sheet-clause-none c =
     let found = found_of c.args.words.now in
     let none = read_none found (codes "SHEET") c.get_str.result c.get_str.ensures c.in_err-sheet.was in
-    λ _ command of. let is = only_table _ command of in missing (rows_of found) (codes "SHEET") is.0 none is.3.sheet
-
-pub returns-in_err-language-clause-none : goal.returns-in_err-language-clause-none
-returns-in_err-language-clause-none c =
-    λ _ command of. let is = only_table _ command of in
-    c.language_asked.ensures.none (search rules) is.2 is.3.language
+    λ _ command of. let is = only_table _ command of in missing (rows_of found) (codes "SHEET") is.0 none is.2.sheet
 
 pub returns-clause-said : goal.returns-clause-said
 returns-clause-said c =
@@ -20,5 +15,4 @@ returns-clause-said c =
       name = refl;
       sheet = read_some found (codes "SHEET") c.get_str.result c.in_ok-sheet.sheet c.get_str.ensures (search rules);
       form = c.form_of-form.ensures;
-      language = (search rules);
     }

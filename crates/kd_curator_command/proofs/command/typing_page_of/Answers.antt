@@ -7,12 +7,7 @@ returns-in_err-machine-clause-none c =
     let found = found_of c.args.words.now in
     let none = read_none found (codes "MACHINE") c.get_str.result c.get_str.ensures c.in_err-machine.was in
     λ _ command of. let is = only_typing_page _ command of in
-    missing (rows_of found) (codes "MACHINE") is.0 none is.2.machine
-
-pub returns-in_err-language-clause-none : goal.returns-in_err-language-clause-none
-returns-in_err-language-clause-none c =
-    λ _ command of. let is = only_typing_page _ command of in
-    c.language_asked.ensures.none (search rules) is.1 is.2.language
+    missing (rows_of found) (codes "MACHINE") is.0 none is.1.machine
 
 pub returns-clause-said : goal.returns-clause-said
 returns-clause-said c =
@@ -21,5 +16,4 @@ returns-clause-said c =
       name = refl;
       machine =
           read_some found (codes "MACHINE") c.get_str.result c.in_ok-machine.machine c.get_str.ensures (search rules);
-      language = (search rules);
     }

@@ -11,7 +11,7 @@ loop-argument-init c = first_shape _ _ _ c.new.ensures.app c.new.ensures.local c
 pub loop-argument-preserved : goal.loop-argument-preserved
 loop-argument-preserved c =
     let nothing : Bor (List ℕ) = record { ref_ptr = (0, 0); now = [] } in
-    let none : Argument = record { name = nothing; sort = Needed; help = nothing } in
+    let none : Argument = record { name = nothing; sort = Needed; help = (nothing, nothing) } in
     let words = c.args.words.now in
     let place = c.loop-argument.argument-index in
     rw (take_more words.arguments.now place none c.loop-argument-test.true)

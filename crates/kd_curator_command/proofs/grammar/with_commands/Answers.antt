@@ -8,7 +8,7 @@ pub loop-words-preserved : goal.loop-words-preserved
 loop-words-preserved c =
     let nothing : Bor (List ℕ) = record { ref_ptr = (0, 0); now = [] } in
     let none : CommandWords =
-    record { name = nothing; about = nothing; arguments = record { ref_ptr = (0, 0); now = [] } } in
+    record { name = nothing; about = (nothing, nothing); arguments = record { ref_ptr = (0, 0); now = [] } } in
     one_command_more c.loop-words.invariant c.in_ok-command.ensures c.in_ok-grammar.ensures
     ∙ sym (fold_more _ _ c.args.commands.now c.loop-words.words-index none c.loop-words-test.true)
 

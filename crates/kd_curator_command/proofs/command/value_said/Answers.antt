@@ -1,7 +1,7 @@
-use Rattle.kd_curator_command.proofs.Prelude.{◌≡◌, ◌∙◌, ℕ, List, Some, Row, ap, codes, found_of, rows_of, subcommand_rows_of, sym}
-use Rattle.kd_curator_command.specs.CommandLine.{output_said}
+use Rattle.kd_curator_command.proofs.Prelude.{◌≡◌, ◌∙◌, ℕ, List, Some, Row, ap, found_of, rows_of, subcommand_rows_of, sym}
+use Rattle.kd_curator_command.specs.CommandLine.{value_said}
 use Rattle.kd_curator_command.proofs.CommandLines.{name_with_rows, read_maybe}
-use Rattle.kd_curator_command.proofs.command.output_said.Goals as goal
+use Rattle.kd_curator_command.proofs.command.value_said.Goals as goal
 
 pub returns : goal.returns
 returns c =
@@ -9,4 +9,5 @@ returns c =
     let said : List ℕ × List Row = (c.in_ok-words.field-0-0.now, rows_of found) in
     let entered : subcommand_rows_of c.args.matches.now ≡ Some said =
     name_with_rows _ _ _ said.0 said.1 c.in_ok-words.ensures.name c.in_ok-words.ensures.rows in
-    sym (read_maybe found (codes "output") c.get_str.result c.get_str.ensures) ∙ sym (ap output_said entered)
+    sym (read_maybe found c.args.name.now c.get_str.result c.get_str.ensures)
+    ∙ sym (ap (value_said c.args.name.now) entered)

@@ -1,6 +1,6 @@
 use Rattle.std.proofs.Common.{inl, inr, lit<, refl}
 use Rattle.std.proofs.lemmas.Str.Pattern.{split_parts}
-use Rattle.kd_findings.proofs.texts.first_line.Goals as goal
+use Rattle.kd_findings.proofs.words.first_line.Goals as goal
 
 pub returns-in-Some : goal.returns-in-Some
 returns-in-Some c =

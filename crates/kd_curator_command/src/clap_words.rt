@@ -1,0 +1,104 @@
+//! The words of `clap` in German.
+
+use kd_language::Text;
+use std::alloc::{AllocError, Global};
+
+/// The sentences and words that `clap` writes in help and in errors, in the order in which they can stand there. Each
+/// sign `~` stands for words from the command line, or for names of the grammar.
+const SENTENCES: [Text; 21] = [
+    (
+        "the following required arguments were not provided:\n",
+        "diese Argumente fehlen:\n",
+    ),
+    ("unrecognized subcommand ", "unbekannter Befehl "),
+    (
+        "unexpected argument '~' found\n",
+        "unerwartetes Argument '~'\n",
+    ),
+    (
+        "unexpected value '~' for '~' found; no more were expected\n",
+        "unerwarteter Wert '~' für '~'; weitere Werte sind nicht erlaubt\n",
+    ),
+    (
+        "a value is required for '~' but none was supplied\n",
+        "für '~' fehlt ein Wert\n",
+    ),
+    (
+        "the argument '~' cannot be used multiple times\n",
+        "das Argument '~' darf nur einmal vorkommen\n",
+    ),
+    (
+        "\n  tip: a similar argument exists: ",
+        "\n  Tipp: ein ähnliches Argument ist ",
+    ),
+    (
+        "\n  tip: a similar subcommand exists: ",
+        "\n  Tipp: ein ähnlicher Befehl ist ",
+    ),
+    (
+        "\n  tip: some similar subcommands exist: ",
+        "\n  Tipp: ähnliche Befehle sind ",
+    ),
+    (
+        "\n  tip: subcommand '~' exists; to use it, remove the '--' before it\n",
+        "\n  Tipp: '~' ist ein Befehl; für ihn das '--' davor weglassen\n",
+    ),
+    (
+        "\n  tip: to pass '~' as a value, use ",
+        "\n  Tipp: '~' als Wert so schreiben: ",
+    ),
+    ("\n  tip: '~' exists\n", "\n  Tipp: '~' gibt es\n"),
+    ("\nUsage: ", "\nAufruf: "),
+    (" [OPTIONS] ", " [OPTIONEN] "),
+    (" <COMMAND>\n", " <BEFEHL>\n"),
+    ("\nCommands:\n", "\nBefehle:\n"),
+    ("\nArguments:\n", "\nArgumente:\n"),
+    ("\nOptions:\n", "\nOptionen:\n"),
+    ("  Print help\n", "  Schreibt diese Hilfe\n"),
+    ("  Print version\n", "  Schreibt die Version\n"),
+    (
+        "\nFor more information, try '--help'.\n",
+        "\nMehr dazu mit '--help'.\n",
+    ),
+];
+
+/// The text `text` of `clap`, with its sentences in German.
+pub(crate) fn german_text(alloc: Global, text: &str) -> Result<String, AllocError> {
+    let mut german = String::new(alloc);
+    match text.strip_prefix("error: ") {
+        Some(message) => {
+            german.push_str("Fehler: ")?;
+            push_sentences(&mut german, message)?;
+        }
+        None => push_sentences(&mut german, text)?,
+    }
+    Ok(german)
+}
+
+/// Appends `text`, with its sentences in German.
+fn push_sentences(german: &mut String, text: &str) -> Result<(), AllocError> {
+    let mut rest = text;
+    for sentence in &SENTENCES {
+        rest = push_sentence(german, rest, *sentence)?;
+    }
+    german.push_str(rest)
+}
+
+/// Appends `text` up to the end of the English half of `sentence`, with the German half in its place. The result is the
+/// rest of `text`. If `text` doesn't have the sentence, appends nothing.
+fn push_sentence<'t>(
+    german: &mut String,
+    text: &'t str,
+    sentence: Text,
+) -> Result<&'t str, AllocError> {
+    let mut rest = text;
+    for (english, translated) in sentence.0.split('~').zip(sentence.1.split('~')) {
+        let Some((before, after)) = rest.split_once(english) else {
+            break;
+        };
+        german.push_str(before)?;
+        german.push_str(translated)?;
+        rest = after;
+    }
+    Ok(rest)
+}
