@@ -96,7 +96,8 @@ fn reason_for(
     mistake_words(wording, message, wording.language.text(mistake))
 }
 
-/// The parser's message `message`, and the likely mistake. German words leave out the message, which is in English.
+/// The words for a fault: the parser's message `message`, and the likely mistake. German words leave out the message,
+/// which is in English.
 fn mistake_words<'w>(
     wording: Wording,
     message: &'w str,

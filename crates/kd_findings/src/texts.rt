@@ -14,7 +14,10 @@ pub const COLUMN: Text = (", column ", ", Spalte ");
 pub const WARNING: Text = (": warning: ", ": Warnung: ");
 
 /// The warning about an unread key. The values are the key's name, and advice.
-pub const UNREAD: Text = ("nobody reads the key ~~\n", "niemand liest den Namen ~~\n");
+pub const UNREAD: Text = (
+    "nobody reads the key ~~\n",
+    "~ ist ein Name, den niemand liest~\n",
+);
 
 /// The advice for an unread key: this text, or the next text. The value is a known key.
 pub const WRITE_KEY: Text = (": write `~`", ": `~` schreiben");

@@ -40,8 +40,9 @@ fn push_all_unread(
     name: &str,
     keys: &[Unread<'_>],
 ) -> Result<(), AllocError>
-    ensures { OnOk result (AppendsText (ArePieces
-        (TellsUnread wording.language name.now) (unread_of keys.now)) (string_bytes text.old) (string_bytes text.new)) }
+    ensures { OnOk result (AppendsText
+        (ArePieces (TellsUnread wording.language name.now) (unread_of keys.now))
+        (string_bytes text.old) (string_bytes text.new)) }
 {
     for key in keys {
         push_unread(text, wording, name, key)?;
@@ -57,7 +58,8 @@ fn push_unread(
     key: &Unread<'_>,
 ) -> Result<(), AllocError>
     ensures { OnOk result (AppendsText
-        (TellsUnread wording.language name.now (unread_key key.now)) (string_bytes text.old) (string_bytes text.new)) }
+        (TellsUnread wording.language name.now (unread_key key.now))
+        (string_bytes text.old) (string_bytes text.new)) }
 {
     let advice = advice_of(wording, key.meant)?;
     push_told(text, wording, name, key, first_line(advice.as_str()))
@@ -117,8 +119,8 @@ fn push_orders(
     name: &str,
     document: &Table,
 ) -> Result<(), AllocError>
-    ensures { OnOk result (string_bytes lines.new
-        ≡ string_bytes lines.old ++ order_lines wording.language name.now (table_view document.now)) }
+    ensures { OnOk result (string_bytes lines.new ≡ string_bytes lines.old
+        ++ order_lines wording.language name.now (table_view document.now)) }
 {
     if !is_machine_file(document) {
         return Ok(());
@@ -140,8 +142,8 @@ fn push_file_cables(
     name: &str,
     document: &Table,
 ) -> Result<(), AllocError>
-    ensures { OnOk result (string_bytes lines.new
-        ≡ string_bytes lines.old ++ cable_lines wording.language name.now (table_view document.now)) }
+    ensures { OnOk result (string_bytes lines.new ≡ string_bytes lines.old
+        ++ cable_lines wording.language name.now (table_view document.now)) }
 {
     match items_at(document, Key::Cables) {
         Some(items) => push_cables(lines, wording, name, items),

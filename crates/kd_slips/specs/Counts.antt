@@ -1,6 +1,6 @@
 -- The warnings about days that have fewer pairs, or fewer groups, than another day of their model.
 -- Test: tests/cases/curator-sheet.toml
-use Rattle.std.specs.Prelude.{decimal, ℕ, nat_lt, ◌==◌, ◌&&◌, not, Bool, List, [], ◌∷◌, ◌++◌, find, flat_map, length, Option, if◌then◌else◌}
+use Rattle.std.specs.Prelude.{decimal, ℕ, nat_lt, ◌==◌, ◌&&◌, not, Bool, List, [], ◌∷◌, ◌++◌, find, flat_map, length, if◌then◌else◌}
 use Rattle.std.specs.List.{list_any}
 use Rattle.std.specs.Option.{option_map_or}
 use Rattle.kd_tables.specs.contracts.model.ModelPartialEq.TheImpl as model_eq

@@ -1,5 +1,5 @@
 -- Whether a name may be a mistyped form of another name.
-use Rattle.std.specs.Prelude.{ℕ, ◌+◌, ◌-◌, nat_le, Bool, List, [], ◌∷◌, length, reverse, if◌then◌else◌}
+use Rattle.std.specs.Prelude.{ℕ, ◌+◌, nat_le, Bool, List, ◌∷◌, length, reverse, if◌then◌else◌}
 use Rattle.std.specs.Char.{eq_ignore_ascii_case}
 
 -- how many letters two names have in common at their starts; capital and small letters count as equal

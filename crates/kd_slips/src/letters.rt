@@ -149,7 +149,7 @@ fn other_count_words(
     )
 }
 
-/// A text of one letter.
+/// The letter `byte`, as a text.
 pub fn letter_text(alloc: Global, byte: u8) -> Result<String, AllocError> {
     let mut text = String::new(alloc);
     text.push(char::from(byte))?;

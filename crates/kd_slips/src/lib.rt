@@ -1,4 +1,5 @@
-//! Says in words why a value in a machine file or a key sheet is refused. Also warns of days with few pairs or groups.
+//! Says in English or German words why a value in a machine file or a key sheet is refused. Also warns of days with few
+//! pairs or groups.
 //!
 //! For each sort of value, a module has checks, which `kd_findings` calls. A check returns a `Slip` if it refuses the
 //! value.

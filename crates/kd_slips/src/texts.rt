@@ -102,8 +102,8 @@ pub const OTHER_LETTERS: Text = (
     "~ hat ~ Buchstaben, nötig sind ~~",
 );
 
-/// What the letters of a text stand for: this text, and the texts after it up to `FOR_A_GROUP`. It is empty for the list
-/// letters. The value of `FOR_EACH_IN_BOX` are the wheels of the box.
+/// What the letters of a text stand for: this text, and the texts after it up to `FOR_A_GROUP`. It is empty for list
+/// letters. The value of `FOR_EACH_IN_BOX` is the wheels of the box, in words.
 pub const FOR_THE_LIST: Text = ("", "");
 
 pub const FOR_EACH_SLOT: Text = (", one for each slot", ", einer für jeden Platz");
@@ -215,13 +215,13 @@ pub const ITEM_MISSING: Text = ("the item is missing", "der Wert fehlt");
 /// A text of the list `bars` isn't the standing of a bar.
 pub const NO_STANDING: Text = (
     "~ is no standing: write the places of the two lugs from the left, such as `0L-3` or `1-0R`",
-    "~ nennt nicht zwei Plätze: die Plätze der beiden Reiter schreiben, der linke zuerst, etwa `0L-3` oder `1-0R`",
+    "~ ist keine Reiterstellung: die Plätze der beiden Reiter schreiben, den linken zuerst, etwa `0L-3` oder `1-0R`",
 );
 
 /// A text of the list `rows` isn't a row.
 pub const NO_ROW: Text = (
     "~ is no row: write two different numbers from 0 to 6, such as `0-3`, or `0-0`",
-    "~ nennt nicht die Reiter einer Stange: zwei verschiedene Zahlen von 0 bis 6 schreiben, etwa `0-3`, oder `0-0`",
+    "~ ist keine Reiterstellung: zwei verschiedene Zahlen von 0 bis 6 schreiben, etwa `0-3`, oder `0-0`",
 );
 
 pub const OTHER_FORM: Text = (
@@ -247,8 +247,8 @@ pub const MANY_ENDS: Text = (
     "~ hat ~ Buchstaben, und ein Kabel hat zwei Enden",
 );
 
-/// A day has fewer pairs, or fewer groups, than another day. The values are the day, its pairs or groups, the other day,
-/// and the number of this day's pairs or groups.
+/// A day has fewer pairs, or fewer groups, than another day. The values are the day, its pairs or groups in words, the
+/// other day, and the number of this day's pairs or groups.
 pub const FEW: Text = (
     "day ~ has ~, and day ~ has ~\n",
     "Tag ~ hat ~, und Tag ~ hat ~\n",

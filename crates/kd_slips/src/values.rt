@@ -186,6 +186,7 @@ pub fn shown(wording: Wording, text: &str) -> Result<String, AllocError>
     }
 }
 
+/// `text` in backticks.
 #[tactic(auto, using(std::proofs::Common::append_assoc))]
 fn in_backticks(alloc: Global, text: &str) -> Result<String, AllocError>
     ensures { IfOk result (λ words. string_bytes words ≡ codes "`" ++ text.now ++ codes "`") }

@@ -8,4 +8,5 @@ use Rattle.kd_findings.proofs.warnings.push_cables.Given as goal
 -- the warnings of the cables so far are appended
 abbrev pub invariant-loop-item : goal.invariant-loop-item
 invariant-loop-item l = string_bytes l.lines
-    ≡ string_bytes l.initial.lines ++ flat_map (cable_line l.wording.language l.name) (map view (take l.item-index l.items))
+    ≡ string_bytes l.initial.lines
+    ++ flat_map (cable_line l.wording.language l.name) (map view (take l.item-index l.items))
