@@ -31,7 +31,7 @@ pub const UNREAD_COLUMN: Text = (
 /// The words for a table whose quotes are wrong.
 pub const OPEN_QUOTE: Text = (
     "a quote isn't closed, or something follows the closing quote of a cell",
-    "ein Anführungszeichen wird nicht geschlossen, oder nach dem schließenden einer Zelle folgt noch etwas",
+    "ein Anführungszeichen wird nicht geschlossen, oder nach dem schließenden Anführungszeichen einer Zelle folgt noch etwas",
 );
 
 /// The words for a table without rows, or with only blank rows under the first row.
@@ -82,10 +82,7 @@ pub const NO_NAMES: Text = (
 // ---- Rows.
 
 /// The value is the number of an earlier row with the same day.
-pub const SAME_DAY: Text = (
-    "row ~ has this day, too",
-    "diesen Tag hat schon die Zeile ~",
-);
+pub const SAME_DAY: Text = ("row ~ has this day, too", "diesen Tag hat schon Zeile ~");
 
 /// The value is the name of the first column in which the row has no cell.
 pub const ROW_ENDS: Text = (
