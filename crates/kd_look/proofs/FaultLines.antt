@@ -10,6 +10,7 @@ use Rattle.kd_sheet.specs.Document.{◌>>=◌}
 use Rattle.kd_sheet.specs.MachineFile.{machine_in}
 use Rattle.kd_sheet.specs.SheetFile.{sheet_in}
 use Rattle.kd_sheet.specs.declared.fault.SheetFault.{SheetFault}
+use Rattle.kd_language.specs.declared.language.Language.{Language}
 use Rattle.kd_findings.specs.Faults.{faults_of, first_fault}
 use Rattle.kd_findings.specs.Kind.{is_machine_file}
 use Rattle.kd_findings.specs.SheetFaults.{AreFaults, file_fault}
@@ -23,28 +24,29 @@ use Rattle.kd_findings.proofs.Appending.{AppendsText-then}
 unfoldable use Rattle.kd_look.specs.File.{file_in}
 
 -- the line of the first finding is appended, and then the lines of the others
-pub AreFaultLines-then : (name : List ℕ) (findings : List Finding) (lines : List (Option ℕ)) (first : Finding)
-    (d : Option ℕ) (old middle new : List ℕ) → 1 ≤ length findings → first ≡ get_or findings 0 first
-    → AppendsText (IsLineAt name first.place (get_or lines 0 d) first.fault) old middle
+pub AreFaultLines-then : (l : Language) (name : List ℕ) (findings : List Finding) (lines : List (Option ℕ))
+    (first : Finding) (d : Option ℕ) (old middle new : List ℕ) → 1 ≤ length findings → first ≡ get_or findings 0 first
+    → AppendsText (IsLineAt l name first.place (get_or lines 0 d) first.fault) old middle
     → ((bytes : List ℕ) → take (length lines - 1) (drop 1 lines)
     ≡ map (line_of bytes) (take (length findings - 1) (drop 1 findings))
-    → AppendsText (AreFaultLines name bytes (faults_of (take (length findings - 1) (drop 1 findings)))) middle new)
+    → AppendsText (AreFaultLines l name bytes (faults_of (take (length findings - 1) (drop 1 findings)))) middle new)
     → (bytes : List ℕ) → lines ≡ map (line_of bytes) findings
-    → AppendsText (AreFaultLines name bytes (faults_of findings)) old new
-AreFaultLines-then name [] lines first d old middle new some is one others bytes are = absurd (omega (arith, some))
-AreFaultLines-then name (head ∷ rest) [] first d old middle new some is one others bytes are =
+    → AppendsText (AreFaultLines l name bytes (faults_of findings)) old new
+AreFaultLines-then l name [] lines first d old middle new some is one others bytes are = absurd (omega (arith, some))
+AreFaultLines-then l name (head ∷ rest) [] first d old middle new some is one others bytes are =
     absurd (omega (arith, ap length are))
-AreFaultLines-then name (head ∷ rest) (line ∷ lines) first d old middle new some is one others bytes are =
-    let of_first = subst (λ finding. AppendsText (IsLineAt name finding.place line finding.fault) old middle) is one in
-    let of_line : AppendsText (IsFaultLine name bytes head.place head.fault) old middle =
-    subst (λ number. AppendsText (IsLineAt name head.place number head.fault) old middle)
+AreFaultLines-then l name (head ∷ rest) (line ∷ lines) first d old middle new some is one others bytes are =
+    let of_first =
+    subst (λ finding. AppendsText (IsLineAt l name finding.place line finding.fault) old middle) is one in
+    let of_line : AppendsText (IsFaultLine l name bytes head.place head.fault) old middle =
+    subst (λ number. AppendsText (IsLineAt l name head.place number head.fault) old middle)
     (ap (λ numbers. get_or numbers 0 line) are) of_first in
     let all : take (length (head ∷ rest) - 1) rest ≡ rest = take_all _ rest (omega arith) in
     let all_lines : take (length (line ∷ lines) - 1) lines ≡ lines = take_all _ lines (omega arith) in
     let same : take (length (line ∷ lines) - 1) lines ≡ map (line_of bytes) (take (length (head ∷ rest) - 1) rest) =
     all_lines ∙ ap (drop 1) are ∙ sym (ap (map (line_of bytes)) all) in
     AppendsText-then _ _ old middle new of_line
-    (subst (λ list. AppendsText (AreFaultLines name bytes (faults_of list)) middle new) all (others bytes same))
+    (subst (λ list. AppendsText (AreFaultLines l name bytes (faults_of list)) middle new) all (others bytes same))
 
 -- a choice of what a machine file and what a sheet says, in another form, has the same fault
 of_choice : (choice : Bool) (sheet : Result (List (Option Day)) SheetFault) (machine : Result Parts SheetFault)
@@ -64,15 +66,15 @@ file_fault-is document fault is =
     of_choice (is_machine_file document) (sheet_in document) (machine_in document) fault is
 
 -- the lines of all faults of a document are the lines for the document
-pub AreLinesFor-document : (name bytes text empty : List ℕ) (document : Members) (fault : SheetFault)
-    (found : List (KeyPlace × SheetFault)) → file_in document ≡ Err fault → AreFaults document found
-    → first_fault found ≡ file_fault document → empty ≡ [] → AppendsText (AreFaultLines name bytes found) empty text
-    → AreLinesFor name bytes document fault text
-AreLinesFor-document name bytes text empty document fault found is are first none lines =
+pub AreLinesFor-document : (l : Language) (name bytes text empty : List ℕ) (document : Members)
+    (fault : SheetFault) (found : List (KeyPlace × SheetFault)) → file_in document ≡ Err fault
+    → AreFaults document found → first_fault found ≡ file_fault document → empty ≡ [] → AppendsText (AreFaultLines l name bytes found) empty text
+    → AreLinesFor l name bytes document fault text
+AreLinesFor-document l name bytes text empty document fault found is are first none lines =
     let whole : lines.text ≡ text = sym (lines.added ∙ ap (λ front. front ++ lines.text) none) in
     record {
       found = found;
       are = are;
       first = first ∙ file_fault-is document fault is;
-      lines = subst (AreFaultLines name bytes found) whole lines.fits;
+      lines = subst (AreFaultLines l name bytes found) whole lines.fits;
     }

@@ -8,6 +8,8 @@ use Rattle.kd_tables.specs.Text.{letters_text}
 use Rattle.kd_tables.specs.declared.model.Model.{Model}
 use Rattle.kd_state.specs.SheetDay.{Day, Pin, Rotor, day_model}
 use Rattle.kd_sheet.specs.Sheet.{day_of}
+use Rattle.kd_language.specs.Language.{text_in}
+use Rattle.kd_language.specs.declared.language.Language.{Language}
 use Rattle.kd_findings.specs.Texts.{titled}
 use Rattle.kd_look.specs.Groups.{KnownMessage}
 use Rattle.kd_look.specs.MissingDays.{KnownFile}
@@ -16,6 +18,7 @@ use Rattle.kd_look.specs.declared.file.File.TheVariants as files
 use Rattle.kd_look.specs.declared.group_days.Search.{Search}
 use Rattle.kd_look.specs.declared.message.order_head.KeyLine.{KeyLine}
 use Rattle.kd_look.specs.declared.message.order_head.KeyLine.TheVariants as lines
+use Rattle.kd_look.specs.declared.texts.TheConstants as texts
 
 -- A message and a key sheet in which the days of the message's groups are sought: the name of the message's file, how
 -- the message's keys are written, the name of the sheet's file, and the sheet.
@@ -61,30 +64,30 @@ abbrev pub days_with : GroupSearch → List ℕ → List ℕ
 days_with search group = filter (is_day_with search group) (range_with_len 1 31)
 
 -- the line that says that the group of part `part` is of day `day`
-unfoldable pub group_day_line : GroupSearch → ℕ → List ℕ → ℕ → List ℕ
-group_day_line search part group day =
-    search.name ++ titled (codes ": part ") part ++ codes ": group " ++ letters_text group
-    ++ titled (codes " is of day ") day ++ codes " in " ++ search.sheet ++ codes "\n"
+unfoldable pub group_day_line : Language → GroupSearch → ℕ → List ℕ → ℕ → List ℕ
+group_day_line l search part group day =
+    search.name ++ titled (text_in l texts.OF_PART) part ++ text_in l texts.GROUP ++ letters_text group
+    ++ titled (text_in l texts.OF_DAY) day ++ text_in l texts.IN_SHEET ++ search.sheet ++ codes "\n"
 
 -- the warning that no day of the sheet suits the message and the group of part `part`
-unfoldable pub no_group_line : GroupSearch → ℕ → List ℕ → List ℕ
-no_group_line search part group =
-    search.name ++ titled (codes ": warning: part ") part ++ codes ": no day for such a machine in " ++ search.sheet
-    ++ codes " has the group " ++ letters_text group ++ codes "\n"
+unfoldable pub no_group_line : Language → GroupSearch → ℕ → List ℕ → List ℕ
+no_group_line l search part group =
+    search.name ++ titled (text_in l texts.PART_WARNING) part ++ text_in l texts.NO_DAY_IN ++ search.sheet
+    ++ text_in l texts.HAS_GROUP ++ letters_text group ++ codes "\n"
 
 -- a line for each of the days that have the group; if there are none, the warning
-abbrev pub lines_for : GroupSearch → ℕ → List ℕ → List ℕ → List ℕ
-lines_for search part group [] = no_group_line search part group
-lines_for search part group (day ∷ days) = flat_map (group_day_line search part group) (day ∷ days)
+abbrev pub lines_for : Language → GroupSearch → ℕ → List ℕ → List ℕ → List ℕ
+lines_for l search part group [] = no_group_line l search part group
+lines_for l search part group (day ∷ days) = flat_map (group_day_line l search part group) (day ∷ days)
 
 -- the lines about the group of part `part`
-unfoldable pub part_lines : GroupSearch → ℕ → List ℕ → List ℕ
-part_lines search part group = lines_for search part group (days_with search group)
+unfoldable pub part_lines : Language → GroupSearch → ℕ → List ℕ → List ℕ
+part_lines l search part group = lines_for l search part group (days_with search group)
 
 -- the lines about groups; `part` is the part of the first group
-abbrev pub parts_lines : GroupSearch → ℕ → List (List ℕ) → List ℕ
-parts_lines search part groups =
-    flat_map (λ numbered. part_lines search numbered.0 numbered.1) (enumerate_from part groups)
+abbrev pub parts_lines : Language → GroupSearch → ℕ → List (List ℕ) → List ℕ
+parts_lines l search part groups =
+    flat_map (λ numbered. part_lines l search numbered.0 numbered.1) (enumerate_from part groups)
 
 -- the days of a key sheet; `None` if the file isn't a key sheet
 abbrev pub month_in : Option File → Option (List (Option Day))
@@ -93,18 +96,18 @@ month_in (Some (files.Machine machine)) = None
 month_in None = None
 
 -- the lines about the groups of a message and the days of a file; empty if the file isn't a key sheet
-abbrev pub sheet_lines : List ℕ → KnownMessage → KnownFile → List ℕ
-sheet_lines name message sheet = option_map_or
-    (λ month. parts_lines (record { name = name; keys = message.keys; sheet = sheet.name; month = month }) 1 message.groups)
+abbrev pub sheet_lines : Language → List ℕ → KnownMessage → KnownFile → List ℕ
+sheet_lines l name message sheet = option_map_or (λ month.
+    parts_lines l (record { name = name; keys = message.keys; sheet = sheet.name; month = month }) 1 message.groups)
     (month_in sheet.file) []
 
 -- the lines about the groups of a file and the days of all key sheets; empty if the file isn't an order or a form
-abbrev pub message_lines : List KnownFile → KnownFile → List ℕ
-message_lines all read = option_map_or (λ message. flat_map (sheet_lines read.name message) all) read.message []
+abbrev pub message_lines : Language → List KnownFile → KnownFile → List ℕ
+message_lines l all read = option_map_or (λ message. flat_map (sheet_lines l read.name message) all) read.message []
 
 -- the lines about the groups of all orders and forms, and the days of all key sheets
-abbrev pub group_day_words : List KnownFile → List ℕ
-group_day_words all = flat_map (message_lines all) all
+abbrev pub group_day_words : Language → List KnownFile → List ℕ
+group_day_words l all = flat_map (message_lines l all) all
 
 -- ---- Borrowed names and sheets. No public contract cites this definition.
 

@@ -6,6 +6,8 @@ use Rattle.std.specs.Prelude.{Option, Some, None, Result, Ok, Err, if◌then◌e
 use Rattle.std.specs.List.{enumerate_from, filter, flat_map, position, range_with_len}
 use Rattle.std.specs.Option.{option_map_or, option_to_list}
 use Rattle.kd_tables.specs.Text.{is_capital, letters_text}
+use Rattle.kd_language.specs.Language.{text_in}
+use Rattle.kd_language.specs.declared.language.Language.{Language}
 use Rattle.kd_findings.specs.NotToml.{column_at}
 use Rattle.kd_findings.specs.Texts.{titled}
 use Rattle.kd_look.specs.Form.{form_answer, heading_follows}
@@ -16,6 +18,7 @@ use Rattle.kd_look.specs.declared.message.fault.MessageFault.{MessageFault}
 use Rattle.kd_look.specs.declared.message.form_heading.FormHeading.{FormHeading}
 use Rattle.kd_look.specs.declared.message.order_head.KeyLine.{KeyLine}
 use Rattle.kd_look.specs.declared.message.order_head.KeyLine.TheVariants as lines
+use Rattle.kd_look.specs.declared.texts.TheConstants.{GROUP, PART}
 
 -- An order or a form without a fault: how its keys are written, and the groups of its parts, in the order of the parts.
 pub record KnownMessage : Type 0 where
@@ -88,13 +91,13 @@ abbrev pub message_of : List ℕ → Option KnownMessage
 message_of text = if is_form text then form_message text (form_answer text) else order_message text (order_start text)
 
 -- the line about the group of part `part`
-unfoldable pub group_line : ℕ → List ℕ → List ℕ
-group_line part group = titled (codes "part ") part ++ codes ": group " ++ letters_text group ++ codes "\n"
+unfoldable pub group_line : Language → ℕ → List ℕ → List ℕ
+group_line l part group = titled (text_in l PART) part ++ text_in l GROUP ++ letters_text group ++ codes "\n"
 
 -- the lines about groups; `part` is the part of the first group
-abbrev pub numbered_lines : ℕ → List (List ℕ) → List ℕ
-numbered_lines part groups = flat_map (λ numbered. group_line numbered.0 numbered.1) (enumerate_from part groups)
+abbrev pub numbered_lines : Language → ℕ → List (List ℕ) → List ℕ
+numbered_lines l part groups = flat_map (λ numbered. group_line l numbered.0 numbered.1) (enumerate_from part groups)
 
 -- the lines about the groups of a message; empty if the message has a fault
-abbrev pub group_lines : Option KnownMessage → List ℕ
-group_lines message = option_map_or (λ known. numbered_lines 1 known.groups) message []
+abbrev pub group_lines : Language → Option KnownMessage → List ℕ
+group_lines l message = option_map_or (λ known. numbered_lines l 1 known.groups) message []

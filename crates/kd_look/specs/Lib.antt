@@ -16,5 +16,5 @@ pub mod OrderHead
 pub mod Report
 pub mod SheetWords
 pub mod Signs
-pub mod Texts
+pub mod Values
 pub mod Warnings

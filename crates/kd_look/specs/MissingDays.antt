@@ -1,16 +1,20 @@
 -- The warnings about machines for which no key sheet has a day.
 -- Test: tests/cases/curator-look.toml
-use Rattle.std.specs.Prelude.{codes, ℕ, ◌++◌, Bool, false, List, [], flat_map, Option, Some, None, if◌then◌else◌}
+use Rattle.std.specs.Prelude.{ℕ, Bool, false, List, [], ◌∷◌, flat_map, Option, Some, None, if◌then◌else◌}
 use Rattle.std.specs.List.{list_any}
 use Rattle.std.specs.Option.{option_map_or}
 use Rattle.kd_tables.specs.declared.model.Model.{Model}
+use Rattle.kd_tables.specs.declared.model.Model.TheVariants.{EnigmaI, M3, M4, M209}
 use Rattle.kd_state.specs.Machine.{model_of}
 use Rattle.kd_sheet.specs.Sheet.{has_days_of}
-use Rattle.kd_slips.specs.Shown.{model_with_article}
+use Rattle.kd_language.specs.Language.{text_in}
+use Rattle.kd_language.specs.declared.language.Language.{Language}
+use Rattle.kd_language.specs.Template.{filled}
 use Rattle.kd_look.specs.Groups.{KnownMessage}
 use Rattle.kd_look.specs.declared.file.File.{File}
 use Rattle.kd_look.specs.declared.file.File.TheVariants as files
 use Rattle.kd_look.specs.declared.missing_days.ReadFile.{ReadFile}
+use Rattle.kd_look.specs.declared.texts.TheConstants as texts
 
 -- A file's name and, if the file has no fault, the file's content: a machine or a key sheet in `file`, an order or a
 -- form in `message`.
@@ -43,31 +47,32 @@ words_for (Some (files.Sheet month)) words = words
 words_for (Some (files.Machine machine)) words = []
 words_for None words = []
 
--- the start of a warning: the name of the machine file, and the name of the key sheet
-unfoldable pub no_day_start : List ℕ → List ℕ → List ℕ
-no_day_start name sheet = name ++ codes ": warning: " ++ sheet
+-- the model after the word `for`; in German, this is the accusative
+abbrev pub model_after_for : Language → Model → List ℕ
+model_after_for l EnigmaI = text_in l texts.ENIGMA_I
+model_after_for l M3 = text_in l texts.M3
+model_after_for l M4 = text_in l texts.M4
+model_after_for l M209 = text_in l texts.CONVERTER
 
--- the end of the warning that the key sheet has no day for the machine; `model` is the machine's model in words
-unfoldable pub no_day_end : List ℕ → List ℕ
-no_day_end model = codes " has no day for " ++ model ++ codes "\n"
-
-abbrev pub no_day_words : List ℕ → List ℕ → List ℕ → List ℕ
-no_day_words name sheet model = no_day_start name sheet ++ no_day_end model
+-- the warning that the key sheet `sheet` has no day for the machine in the file `name`; `model` is the machine's model
+-- in words
+abbrev pub no_day_words : Language → List ℕ → List ℕ → List ℕ → List ℕ
+no_day_words l name sheet model = filled (text_in l texts.NO_DAY) (name ∷ sheet ∷ model ∷ [])
 
 -- the warning that a key sheet has no day for the machine; empty if the file isn't a key sheet
-abbrev pub no_day_line : List ℕ → Model → KnownFile → List ℕ
-no_day_line name model sheet = words_for sheet.file (no_day_words name sheet.name (model_with_article model))
+abbrev pub no_day_line : Language → List ℕ → Model → KnownFile → List ℕ
+no_day_line l name model sheet = words_for sheet.file (no_day_words l name sheet.name (model_after_for l model))
 
 -- The warnings about a machine file, one for each key sheet. Empty if some key sheet has a day for the machine, or if
 -- the file isn't a machine file.
-abbrev pub missing_lines : List KnownFile → KnownFile → List ℕ
-missing_lines all read = option_map_or
-    (λ model. if list_any (serves model) all then [] else flat_map (no_day_line read.name model) all)
+abbrev pub missing_lines : Language → List KnownFile → KnownFile → List ℕ
+missing_lines l all read = option_map_or
+    (λ model. if list_any (serves model) all then [] else flat_map (no_day_line l read.name model) all)
     (machine_model read) []
 
 -- the warnings about all machine files
-abbrev pub missing_words : List KnownFile → List ℕ
-missing_words all = flat_map (missing_lines all) all
+abbrev pub missing_words : Language → List KnownFile → List ℕ
+missing_words l all = flat_map (missing_lines l all) all
 
 -- ---- Files that were read. No public contract cites this definition.
 

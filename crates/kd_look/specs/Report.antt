@@ -1,8 +1,10 @@
 -- The report on a file: its content in words, or its faults.
 -- Test: tests/cases/curator-look.toml
-use Rattle.std.specs.Prelude.{codes, ◌≡◌, ℕ, ◌++◌, Bool, true, false, List, MatchResult, Option, None, Result, Ok, Err}
+use Rattle.std.specs.Prelude.{◌≡◌, ℕ, ◌++◌, Bool, true, false, List, MatchResult, Option, None, Result, Ok, Err}
 use Rattle.std.specs.Prelude.{if◌then◌else◌}
 use Rattle.toml.specs.Data.{Members}
+use Rattle.kd_language.specs.Language.{text_in}
+use Rattle.kd_language.specs.declared.language.Language.{Language}
 use Rattle.kd_sheet.specs.Document.{document_of}
 use Rattle.kd_sheet.specs.declared.fault.SheetFault.{SheetFault}
 use Rattle.kd_look.specs.FaultWords.{NamesFault, SaysPlainly}
@@ -20,6 +22,7 @@ use Rattle.kd_look.specs.declared.message.fault.MessageFault.{MessageFault}
 use Rattle.kd_look.specs.declared.outcome.FoundFault.TheVariants as founds
 use Rattle.kd_look.specs.declared.outcome.Outcome.{Outcome}
 use Rattle.kd_look.specs.declared.outcome.Outcome.TheVariants as outcomes
+use Rattle.kd_look.specs.declared.texts.TheConstants.{KEY_SHEET, MACHINE_FILE}
 
 -- the outcome for a machine file or a key sheet: `Faultless`, or the file's first fault
 abbrev pub outcome_of : Result File SheetFault → Outcome
@@ -66,37 +69,38 @@ abbrev pub file_message : List ℕ → Option KnownMessage
 file_message bytes = message_by bytes (document_of bytes)
 
 -- the words for a file's content, after the file's name
-unfoldable pub file_words : List ℕ → File → List ℕ
-file_words name (files.Machine machine) = name ++ codes ": a machine file without a fault\n" ++ machine_words machine
-file_words name (files.Sheet month) = name ++ codes ": a key sheet without a fault\n" ++ sheet_words month
+unfoldable pub file_words : Language → List ℕ → File → List ℕ
+file_words l name (files.Machine machine) = name ++ text_in l MACHINE_FILE ++ machine_words l machine
+file_words l name (files.Sheet month) = name ++ text_in l KEY_SHEET ++ sheet_words l month
 
 -- The text has the words for the file's content, the warnings about the document's keys, and then the warnings about
 -- the file's days.
-pub record Describes (name bytes : List ℕ) (document : Members) (file : File) (text : List ℕ) : Type 0 where
+pub record Describes (l : Language) (name bytes : List ℕ) (document : Members) (file : File) (text : List ℕ)
+    : Type 0 where
   pub keys : List ℕ
   pub days : List ℕ
-  pub warn : AreKeyWarnings name bytes document keys
-  pub of_days : WarnsOfFile name file days
-  pub whole : text ≡ file_words name file ++ (keys ++ days)
+  pub warn : AreKeyWarnings l name bytes document keys
+  pub of_days : WarnsOfFile l name file days
+  pub whole : text ≡ file_words l name file ++ (keys ++ days)
 
 -- The text is the report on a file that is a document. If the document has no fault, the text has the words for the
 -- file's content. Otherwise the text has the lines that name the faults.
-abbrev pub IsDocumentReport : List ℕ → List ℕ → Members → List ℕ → Type 0
-IsDocumentReport name bytes document text = MatchResult (file_in document)
-    (λ file. Describes name bytes document file text) (λ fault. NamesFault name bytes document fault text)
+abbrev pub IsDocumentReport : Language → List ℕ → List ℕ → Members → List ℕ → Type 0
+IsDocumentReport l name bytes document text = MatchResult (file_in document)
+    (λ file. Describes l name bytes document file text) (λ fault. NamesFault l name bytes document fault text)
 
 -- the report on an order or a form
-abbrev pub message_report : List ℕ → List ℕ → List ℕ
-message_report name bytes = message_words name bytes ++ group_lines (message_of bytes)
+abbrev pub message_report : Language → List ℕ → List ℕ → List ℕ
+message_report l name bytes = message_words l name bytes ++ group_lines l (message_of bytes)
 
 -- The text is the report on a file that isn't a document. The truth value says whether the file is an order
 -- or a form.
-abbrev pub IsOtherReport : Bool → List ℕ → List ℕ → SheetFault → List ℕ → Type 0
-IsOtherReport true name bytes fault text = text ≡ message_report name bytes
-IsOtherReport false name bytes fault text = SaysPlainly name bytes fault text
+abbrev pub IsOtherReport : Language → Bool → List ℕ → List ℕ → SheetFault → List ℕ → Type 0
+IsOtherReport l true name bytes fault text = text ≡ message_report l name bytes
+IsOtherReport l false name bytes fault text = SaysPlainly l name bytes fault text
 
 -- The text is the report on the file called `name`, with the content `bytes`.
-abbrev pub IsReport : List ℕ → List ℕ → List ℕ → Type 0
-IsReport name bytes text = MatchResult (document_of bytes)
-    (λ document. IsDocumentReport name bytes document text)
-    (λ fault. IsOtherReport (is_message bytes) name bytes fault text)
+abbrev pub IsReport : Language → List ℕ → List ℕ → List ℕ → Type 0
+IsReport l name bytes text = MatchResult (document_of bytes)
+    (λ document. IsDocumentReport l name bytes document text)
+    (λ fault. IsOtherReport l (is_message bytes) name bytes fault text)

@@ -9,8 +9,11 @@ use Rattle.kd_tables.specs.Tables.{all_models, model_text}
 use Rattle.kd_tables.specs.declared.model.Model.{Model}
 use Rattle.kd_state.specs.SheetDay.{Day, rotor_day}
 use Rattle.kd_sheet.specs.Sheet.{day_of, has_day_of}
+use Rattle.kd_language.specs.Language.{text_in}
+use Rattle.kd_language.specs.declared.language.Language.{Language}
 use Rattle.kd_look.specs.declared.sheet_words.DaySort.{DaySort}
 use Rattle.kd_look.specs.declared.sheet_words.DaySort.TheVariants as sorts
+use Rattle.kd_look.specs.declared.texts.TheConstants.{DAY, FIRST_DAY, LAST_DAY, WITHOUT_GROUPS}
 
 -- whether the day is a rotor machine's day without groups
 abbrev pub lacks_groups : Day → Bool
@@ -24,28 +27,28 @@ has_day month sorts.WithoutGroups number = option_map_or lacks_groups (day_of mo
 -- The words that day `number` adds to the lines for the days of a sort, such as `M3: days 4 to 9`. The day is of this
 -- sort. The first day of a line adds the line's beginning, with `title`. The last day of a line adds the line's end.
 -- Days between them add nothing. `before` and `after` say whether the previous day and the next day are of this sort.
-unfoldable pub day_words : List ℕ → Bool → Bool → ℕ → List ℕ
-day_words title before after number =
+unfoldable pub day_words : Language → List ℕ → Bool → Bool → ℕ → List ℕ
+day_words l title before after number =
     if before then (if after then [] else decimal number ++ codes "\n")
-    else (if after then title ++ codes ": days " ++ decimal number ++ codes " to "
-    else title ++ codes ": day " ++ decimal number ++ codes "\n")
+    else (if after then title ++ text_in l FIRST_DAY ++ decimal number ++ text_in l LAST_DAY
+    else title ++ text_in l DAY ++ decimal number ++ codes "\n")
 
 -- the words that day `number` of the sheet adds to the lines for the days of a sort; empty if the day isn't of this
 -- sort
-unfoldable pub numbered_day_words : List (Option Day) → List ℕ → DaySort → ℕ → List ℕ
-numbered_day_words month title sort number =
+unfoldable pub numbered_day_words : Language → List (Option Day) → List ℕ → DaySort → ℕ → List ℕ
+numbered_day_words l month title sort number =
     if has_day month sort number
-    then day_words title (has_day month sort (number - 1)) (has_day month sort (number + 1)) number else []
+    then day_words l title (has_day month sort (number - 1)) (has_day month sort (number + 1)) number else []
 
 -- the lines for the days of the sort `sort`; each line begins with `title`
-unfoldable pub sort_words : List (Option Day) → List ℕ → DaySort → List ℕ
-sort_words month title sort = flat_map (numbered_day_words month title sort) (range_with_len 1 31)
+unfoldable pub sort_words : Language → List (Option Day) → List ℕ → DaySort → List ℕ
+sort_words l month title sort = flat_map (numbered_day_words l month title sort) (range_with_len 1 31)
 
 -- the lines for a model's days
-abbrev pub model_words : List (Option Day) → Model → List ℕ
-model_words month model = sort_words month (model_text model) (sorts.Of model)
+abbrev pub model_words : Language → List (Option Day) → Model → List ℕ
+model_words l month model = sort_words l month (model_text model) (sorts.Of model)
 
 -- the words for a key sheet: the days of each model, and the days without groups
-unfoldable pub sheet_words : List (Option Day) → List ℕ
-sheet_words month =
-    flat_map (model_words month) all_models ++ sort_words month (codes "without groups") sorts.WithoutGroups
+unfoldable pub sheet_words : Language → List (Option Day) → List ℕ
+sheet_words l month =
+    flat_map (model_words l month) all_models ++ sort_words l month (text_in l WITHOUT_GROUPS) sorts.WithoutGroups

@@ -4,22 +4,25 @@ ghost use Rattle.std.specs.String.{string_bytes};
 ghost use Rattle.kd_look.specs.Warnings.{WarnsOfDays};
 
 use crate::day_lines::push_day_line;
+use crate::texts::ALIKE;
+use itoa::Buffer;
+use kd_language::Wording;
 use kd_sheet::Sheet;
 use kd_state::SheetDay;
-use std::alloc::{AllocError, Global};
+use std::alloc::AllocError;
 
 /// Appends a warning for each day that differs from an earlier day only in its number.
 pub fn push_alike_days(
     lines: &mut String,
-    alloc: Global,
+    wording: Wording,
     name: &str,
     sheet: &Sheet,
 ) -> Result<(), AllocError>
-    ensures { OnOk result (WarnsOfDays name.now (string_bytes lines.old)
-        → WarnsOfDays name.now (string_bytes lines.new)) }
+    ensures { OnOk result (WarnsOfDays wording.language name.now (string_bytes lines.old)
+        → WarnsOfDays wording.language name.now (string_bytes lines.new)) }
 {
     for number in 2..32 {
-        push_alike(lines, alloc, name, sheet, number)?;
+        push_alike(lines, wording, name, sheet, number)?;
     }
     Ok(())
 }
@@ -27,19 +30,24 @@ pub fn push_alike_days(
 /// Appends a warning if the day `number` differs from an earlier day only in its number.
 fn push_alike(
     lines: &mut String,
-    alloc: Global,
+    wording: Wording,
     name: &str,
     sheet: &Sheet,
     number: u8,
 ) -> Result<(), AllocError>
-    ensures { OnOk result (WarnsOfDays name.now (string_bytes lines.old)
-        → WarnsOfDays name.now (string_bytes lines.new)) }
+    ensures { OnOk result (WarnsOfDays wording.language name.now (string_bytes lines.old)
+        → WarnsOfDays wording.language name.now (string_bytes lines.new)) }
 {
     let Some(earlier) = first_alike(sheet, number) else {
         return Ok(());
     };
-    let words = format!(in alloc; "s {earlier} and {number} are alike but for the number")?;
-    push_day_line(lines, name, words.as_str())
+    let mut earlier_text = Buffer::new();
+    let mut number_text = Buffer::new();
+    let words = wording.fill(
+        ALIKE,
+        &[earlier_text.format(earlier), number_text.format(number)],
+    )?;
+    push_day_line(lines, wording.language, name, words.as_str())
 }
 
 /// Finds the first earlier day that equals day `number` in everything but the number.

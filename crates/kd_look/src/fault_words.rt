@@ -12,18 +12,20 @@ ghost use Rattle.kd_findings.specs.Texts.{AppendsText};
 ghost use Rattle.kd_sheet.specs.Document.{document_of};
 
 use crate::line::lines_of;
+use crate::texts::LINE;
 use crate::warnings::{key_warnings, push_mark};
 use kd_findings::{
     Finding, KeyPlace, find_faults, first_line, push_entry, push_titled, toml_words, wrong_words,
 };
+use kd_language::{Language, Wording};
 use kd_sheet::SheetFault;
-use std::alloc::{AllocError, Global};
+use std::alloc::AllocError;
 use toml::Table;
 
 /// The lines about the faults of a file's `document`, and then the warnings about the document's keys. `fault` is the
 /// first of the faults.
 pub fn refusal(
-    alloc: Global,
+    wording: Wording,
     bytes: &[u8],
     name: &str,
     document: &Table,
@@ -31,31 +33,33 @@ pub fn refusal(
 ) -> Result<String, AllocError>
     requires { file_in (table_view document.now) ≡ Err fault }
     ensures { IfOk result (λ text.
-        NamesFault name.now bytes.now (table_view document.now) fault (string_bytes text)) }
+        NamesFault wording.language name.now bytes.now (table_view document.now) fault
+        (string_bytes text)) }
 {
-    let mut text = fault_lines(alloc, bytes, name, document, fault)?;
-    text.push_str(key_warnings(alloc, bytes, name, document)?.as_str())?;
+    let mut text = fault_lines(wording, bytes, name, document, fault)?;
+    text.push_str(key_warnings(wording, bytes, name, document)?.as_str())?;
     Ok(text)
 }
 
 /// The line about a file that isn't TOML, and then the warning about a byte order mark.
 pub fn plain_refusal(
-    alloc: Global,
+    wording: Wording,
     bytes: &[u8],
     name: &str,
     fault: SheetFault,
 ) -> Result<String, AllocError>
     requires { document_of bytes.now ≡ Err fault }
-    ensures { IfOk result (λ text. SaysPlainly name.now bytes.now fault (string_bytes text)) }
+    ensures { IfOk result (λ text.
+        SaysPlainly wording.language name.now bytes.now fault (string_bytes text)) }
 {
-    let mut text = plain_line(alloc, bytes, name, fault)?;
-    push_mark(&mut text, bytes, name)?;
+    let mut text = plain_line(wording, bytes, name, fault)?;
+    push_mark(&mut text, wording.language, bytes, name)?;
     Ok(text)
 }
 
 /// The lines about the faults of a file's `document`. `fault` is the first of these faults.
 fn fault_lines(
-    alloc: Global,
+    wording: Wording,
     bytes: &[u8],
     name: &str,
     document: &Table,
@@ -63,14 +67,15 @@ fn fault_lines(
 ) -> Result<String, AllocError>
     requires { file_in (table_view document.now) ≡ Err fault }
     ensures { IfOk result (λ text.
-        AreLinesFor name.now bytes.now (table_view document.now) fault (string_bytes text)) }
+        AreLinesFor wording.language name.now bytes.now (table_view document.now) fault
+        (string_bytes text)) }
 {
-    let findings = find_faults(alloc, document)?;
-    let mut text = String::new(alloc);
-    let lines = lines_of(alloc, bytes, findings.as_slice())?;
+    let findings = find_faults(wording, document)?;
+    let mut text = String::new(wording.alloc);
+    let lines = lines_of(wording.alloc, bytes, findings.as_slice())?;
     push_findings(
         &mut text,
-        alloc,
+        wording,
         name,
         findings.as_slice(),
         lines.as_slice(),
@@ -81,19 +86,19 @@ fn fault_lines(
 /// Appends a line about each of `findings`. For each finding, `lines` has the number of the finding's line in the file.
 fn push_findings(
     text: &mut String,
-    alloc: Global,
+    wording: Wording,
     name: &str,
     findings: &[Finding],
     lines: &[Option<usize>],
 ) -> Result<(), AllocError>
     ensures { OnOk result ((bytes : List ℕ) → lines.now ≡ map (line_of bytes) findings.now
-        → AppendsText (AreFaultLines name.now bytes (faults_of findings.now))
+        → AppendsText (AreFaultLines wording.language name.now bytes (faults_of findings.now))
         (string_bytes text.old) (string_bytes text.new)) }
 {
     match (findings, lines) {
         ([finding, findings @ ..], [line, lines @ ..]) => {
-            push_finding(text, alloc, name, finding, *line)?;
-            push_findings(text, alloc, name, findings, lines)
+            push_finding(text, wording, name, finding, *line)?;
+            push_findings(text, wording, name, findings, lines)
         }
         _ => Ok(()),
     }
@@ -102,17 +107,19 @@ fn push_findings(
 /// Appends the line about `finding`, whose value is in line `line` of the file.
 fn push_finding(
     text: &mut String,
-    alloc: Global,
+    wording: Wording,
     name: &str,
     finding: &Finding,
     line: Option<usize>,
 ) -> Result<(), AllocError>
-    ensures { OnOk result (AppendsText (IsLineAt name.now finding.now.place line finding.now.fault)
+    ensures { OnOk result (AppendsText
+        (IsLineAt wording.language name.now finding.now.place line finding.now.fault)
         (string_bytes text.old) (string_bytes text.new)) }
 {
-    let wrong = wrong_words(alloc, &finding.explanation)?;
+    let wrong = wrong_words(wording.alloc, &finding.explanation)?;
     push_fault_line(
         text,
+        wording.language,
         name,
         finding.place,
         line,
@@ -125,6 +132,7 @@ fn push_finding(
 #[tactic(auto, using(std::proofs::Common::append_assoc), unfolding(crate::specs::FaultWords::fault_line))]
 fn push_fault_line(
     text: &mut String,
+    language: Language,
     name: &str,
     place: KeyPlace,
     line: Option<usize>,
@@ -132,11 +140,11 @@ fn push_fault_line(
     fault: SheetFault,
 ) -> Result<(), AllocError>
     ensures { OnOk result (string_bytes text.new
-        ≡ string_bytes text.old ++ fault_line name.now place line wrong.now fault) }
+        ≡ string_bytes text.old ++ fault_line language name.now place line wrong.now fault) }
 {
     text.push_str(name)?;
-    push_entry(text, place.day, place.entry)?;
-    push_line(text, line)?;
+    push_entry(text, language, place.day, place.entry)?;
+    push_line(text, language, line)?;
     text.push_str(", ")?;
     text.push_str(place.key.name())?;
     text.push_str(wrong)?;
@@ -145,11 +153,12 @@ fn push_fault_line(
 
 /// Appends the number of a line, if it is known.
 #[tactic(auto, unfolding(crate::specs::FaultWords::line_words))]
-fn push_line(text: &mut String, line: Option<usize>) -> Result<(), AllocError>
-    ensures { OnOk result (string_bytes text.new ≡ string_bytes text.old ++ line_words line) }
+fn push_line(text: &mut String, language: Language, line: Option<usize>) -> Result<(), AllocError>
+    ensures { OnOk result (string_bytes text.new
+        ≡ string_bytes text.old ++ line_words language line) }
 {
     match line {
-        Some(number) => push_titled(text, ", line ", number),
+        Some(number) => push_titled(text, language.text(LINE), number),
         None => Ok(()),
     }
 }
@@ -157,16 +166,17 @@ fn push_line(text: &mut String, line: Option<usize>) -> Result<(), AllocError>
 /// The line about a file that isn't TOML.
 #[tactic(auto, using(std::proofs::Common::append_assoc))]
 fn plain_line(
-    alloc: Global,
+    wording: Wording,
     bytes: &[u8],
     name: &str,
     fault: SheetFault,
 ) -> Result<String, AllocError>
     requires { result_ok (document_of bytes.now) ≡ None }
-    ensures { IfOk result (λ text. IsPlainLine name.now bytes.now fault (string_bytes text)) }
+    ensures { IfOk result (λ text.
+        IsPlainLine wording.language name.now bytes.now fault (string_bytes text)) }
 {
-    let mut text = String::from_str(alloc, name)?;
-    let words = toml_words(alloc, bytes)?;
+    let mut text = String::from_str(wording.alloc, name)?;
+    let words = toml_words(wording, bytes)?;
     text.push_str(words.as_str())?;
     push_fault(&mut text, fault)?;
     Ok(text)

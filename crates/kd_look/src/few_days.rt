@@ -1,8 +1,12 @@
 //! Days of a key sheet that have fewer pairs, or fewer groups, than another day of their model.
-ghost use Rattle.std.specs.Prelude.{◌≡◌, ◌++◌, codes, IfOk, OnOk};
+ghost use Rattle.std.specs.Prelude.{◌≡◌, ◌++◌, IfOk, OnOk};
 ghost use Rattle.std.specs.String.{string_bytes};
+ghost use Rattle.kd_language.specs.Language.{text_in};
 ghost use Rattle.kd_look.specs.Warnings.{counts_in, counts_on, few_day_words};
+ghost use Rattle.kd_look.specs.declared.texts.TheConstants.{WARNING as WARNING_TEXT};
 
+use crate::texts::WARNING;
+use kd_language::Wording;
 use kd_sheet::Sheet;
 use kd_slips::counts::{DayCounts, counts_of, few_lines};
 use std::alloc::{AllocError, Global};
@@ -11,16 +15,16 @@ use std::alloc::{AllocError, Global};
 #[tactic(auto, unfolding(crate::specs::Warnings::few_day_words))]
 pub fn push_few_days(
     lines: &mut String,
-    alloc: Global,
+    wording: Wording,
     name: &str,
     sheet: &Sheet,
 ) -> Result<(), AllocError>
     ensures { OnOk result (string_bytes lines.new
-        ≡ string_bytes lines.old ++ few_day_words name.now sheet.now) }
+        ≡ string_bytes lines.old ++ few_day_words wording.language name.now sheet.now) }
 {
-    let start = warning_start(alloc, name)?;
-    let days = counts_in(alloc, sheet)?;
-    let few = few_lines(alloc, start.as_str(), days.as_slice())?;
+    let start = warning_start(wording, name)?;
+    let days = counts_in(wording.alloc, sheet)?;
+    let few = few_lines(wording, start.as_str(), days.as_slice())?;
     lines.push_str(few.as_str())
 }
 
@@ -45,11 +49,12 @@ fn push_counts(days: &mut Vec<DayCounts>, sheet: &Sheet, number: u8) -> Result<(
     Ok(())
 }
 
-/// The start of a warning: the file's name, and `: warning: `.
-fn warning_start(alloc: Global, name: &str) -> Result<String, AllocError>
-    ensures { IfOk result (λ start. string_bytes start ≡ name.now ++ codes ": warning: ") }
+/// The start of a warning: the file's name, and `WARNING`.
+fn warning_start(wording: Wording, name: &str) -> Result<String, AllocError>
+    ensures { IfOk result (λ start.
+        string_bytes start ≡ name.now ++ text_in wording.language WARNING_TEXT) }
 {
-    let mut start = String::from_str(alloc, name)?;
-    start.push_str(": warning: ")?;
+    let mut start = String::from_str(wording.alloc, name)?;
+    start.push_str(wording.language.text(WARNING))?;
     Ok(start)
 }

@@ -12,8 +12,10 @@ use crate::file::File;
 use crate::message::groups::Message;
 use crate::message::order_head::KeyLine;
 use crate::missing_days::ReadFile;
-use crate::texts::push_letters;
+use crate::texts::{GROUP, HAS_GROUP, IN_SHEET, NO_DAY_IN, OF_DAY, OF_PART, PART_WARNING};
+use crate::values::push_letters;
 use kd_findings::push_titled;
+use kd_language::{Language, Wording};
 use kd_sheet::Sheet;
 use kd_state::SheetDay;
 use kd_tables::{Letter, Model};
@@ -31,12 +33,13 @@ pub struct Search<'f> {
 }
 
 /// The lines about the groups of all orders and forms of `files`, and the days of all key sheets.
-pub fn group_day_lines(alloc: Global, files: &[ReadFile<'_>]) -> Result<String, AllocError>
-    ensures { IfOk result (λ lines. string_bytes lines ≡ group_day_words (map known_of files.now)) }
+pub fn group_day_lines(wording: Wording, files: &[ReadFile<'_>]) -> Result<String, AllocError>
+    ensures { IfOk result (λ lines.
+        string_bytes lines ≡ group_day_words wording.language (map known_of files.now)) }
 {
-    let mut lines = String::new(alloc);
+    let mut lines = String::new(wording.alloc);
     for file in files {
-        push_message(&mut lines, alloc, files, file)?;
+        push_message(&mut lines, wording, files, file)?;
     }
     Ok(lines)
 }
@@ -46,15 +49,15 @@ pub fn group_day_lines(alloc: Global, files: &[ReadFile<'_>]) -> Result<String, 
 /// Appends nothing if `file` isn't an order or a form.
 fn push_message(
     lines: &mut String,
-    alloc: Global,
+    wording: Wording,
     files: &[ReadFile<'_>],
     file: &ReadFile<'_>,
 ) -> Result<(), AllocError>
-    ensures { OnOk result (string_bytes lines.new
-        ≡ string_bytes lines.old ++ message_lines (map known_of files.now) (known_of file.now)) }
+    ensures { OnOk result (string_bytes lines.new ≡ string_bytes lines.old
+        ++ message_lines wording.language (map known_of files.now) (known_of file.now)) }
 {
     match &file.message {
-        Some(message) => push_sheets(lines, alloc, file.name, message, files),
+        Some(message) => push_sheets(lines, wording, file.name, message, files),
         None => Ok(()),
     }
 }
@@ -65,18 +68,18 @@ fn push_message(
 #[tactic(auto, using(std::proofs::Common::append_assoc))]
 fn push_sheets(
     lines: &mut String,
-    alloc: Global,
+    wording: Wording,
     name: &str,
     message: &Message,
     files: &[ReadFile<'_>],
 ) -> Result<(), AllocError>
     ensures { OnOk result (string_bytes lines.new ≡ string_bytes lines.old
-        ++ flat_map (sheet_lines name.now message.now) (map known_of files.now)) }
+        ++ flat_map (sheet_lines wording.language name.now message.now) (map known_of files.now)) }
 {
     match files {
         [file, rest @ ..] => {
-            push_sheet(lines, alloc, name, message, file)?;
-            push_sheets(lines, alloc, name, message, rest)
+            push_sheet(lines, wording, name, message, file)?;
+            push_sheets(lines, wording, name, message, rest)
         }
         [] => Ok(()),
     }
@@ -87,13 +90,13 @@ fn push_sheets(
 /// Appends nothing if `sheet` isn't a key sheet.
 fn push_sheet(
     lines: &mut String,
-    alloc: Global,
+    wording: Wording,
     name: &str,
     message: &Message,
     sheet: &ReadFile<'_>,
 ) -> Result<(), AllocError>
-    ensures { OnOk result (string_bytes lines.new
-        ≡ string_bytes lines.old ++ sheet_lines name.now message.now (known_of sheet.now)) }
+    ensures { OnOk result (string_bytes lines.new ≡ string_bytes lines.old
+        ++ sheet_lines wording.language name.now message.now (known_of sheet.now)) }
 {
     match &sheet.file {
         Some(File::Sheet(month)) => {
@@ -103,7 +106,7 @@ fn push_sheet(
                 sheet: sheet.name,
                 month,
             };
-            push_parts(lines, alloc, &search, 1, message.groups())
+            push_parts(lines, wording, &search, 1, message.groups())
         }
         Some(File::Machine(_)) | None => Ok(()),
     }
@@ -113,19 +116,19 @@ fn push_sheet(
 #[tactic(auto, using(std::proofs::Common::append_assoc))]
 fn push_parts(
     lines: &mut String,
-    alloc: Global,
+    wording: Wording,
     search: &Search<'_>,
     part: usize,
     groups: &[[Letter; 3]],
 ) -> Result<(), AllocError>
     requires { part + length groups.now < 2 ^ 64 }
-    ensures { OnOk result (string_bytes lines.new
-        ≡ string_bytes lines.old ++ parts_lines (search_of search.now) part groups.now) }
+    ensures { OnOk result (string_bytes lines.new ≡ string_bytes lines.old
+        ++ parts_lines wording.language (search_of search.now) part groups.now) }
 {
     match groups {
         [group, rest @ ..] => {
-            push_part(lines, alloc, search, part, *group)?;
-            push_parts(lines, alloc, search, part + 1, rest)
+            push_part(lines, wording, search, part, *group)?;
+            push_parts(lines, wording, search, part + 1, rest)
         }
         [] => Ok(()),
     }
@@ -135,16 +138,23 @@ fn push_parts(
 #[tactic(auto, unfolding(crate::specs::GroupDays::part_lines))]
 fn push_part(
     lines: &mut String,
-    alloc: Global,
+    wording: Wording,
     search: &Search<'_>,
     part: usize,
     group: [Letter; 3],
 ) -> Result<(), AllocError>
     ensures { OnOk result (string_bytes lines.new
-        ≡ string_bytes lines.old ++ part_lines (search_of search.now) part group) }
+        ≡ string_bytes lines.old ++ part_lines wording.language (search_of search.now) part group) }
 {
-    let days = days_with(alloc, search, group)?;
-    push_lines_for(lines, search, part, &group, days.as_slice())
+    let days = days_with(wording.alloc, search, group)?;
+    push_lines_for(
+        lines,
+        wording.language,
+        search,
+        part,
+        &group,
+        days.as_slice(),
+    )
 }
 
 /// Appends a line for each of `days`, the days that have the group of part `part`.
@@ -152,17 +162,18 @@ fn push_part(
 /// If there is no such day, appends the warning.
 fn push_lines_for(
     lines: &mut String,
+    language: Language,
     search: &Search<'_>,
     part: usize,
     group: &[Letter],
     days: &[u8],
 ) -> Result<(), AllocError>
-    ensures { OnOk result (string_bytes lines.new
-        ≡ string_bytes lines.old ++ lines_for (search_of search.now) part group.now days.now) }
+    ensures { OnOk result (string_bytes lines.new ≡ string_bytes lines.old
+        ++ lines_for language (search_of search.now) part group.now days.now) }
 {
     match days {
-        [_, ..] => push_days(lines, search, part, group, days),
-        [] => push_no_group(lines, search, part, group),
+        [_, ..] => push_days(lines, language, search, part, group, days),
+        [] => push_no_group(lines, language, search, part, group),
     }
 }
 
@@ -170,18 +181,19 @@ fn push_lines_for(
 #[tactic(auto, using(std::proofs::Common::append_assoc))]
 fn push_days(
     lines: &mut String,
+    language: Language,
     search: &Search<'_>,
     part: usize,
     group: &[Letter],
     days: &[u8],
 ) -> Result<(), AllocError>
     ensures { OnOk result (string_bytes lines.new ≡ string_bytes lines.old
-        ++ flat_map (group_day_line (search_of search.now) part group.now) days.now) }
+        ++ flat_map (group_day_line language (search_of search.now) part group.now) days.now) }
 {
     match days {
         [day, rest @ ..] => {
-            push_day(lines, search, part, group, *day)?;
-            push_days(lines, search, part, group, rest)
+            push_day(lines, language, search, part, group, *day)?;
+            push_days(lines, language, search, part, group, rest)
         }
         [] => Ok(()),
     }
@@ -191,20 +203,21 @@ fn push_days(
 #[tactic(auto, using(std::proofs::Common::append_assoc), unfolding(crate::specs::GroupDays::group_day_line))]
 fn push_day(
     lines: &mut String,
+    language: Language,
     search: &Search<'_>,
     part: usize,
     group: &[Letter],
     day: u8,
 ) -> Result<(), AllocError>
-    ensures { OnOk result (string_bytes lines.new
-        ≡ string_bytes lines.old ++ group_day_line (search_of search.now) part group.now day) }
+    ensures { OnOk result (string_bytes lines.new ≡ string_bytes lines.old
+        ++ group_day_line language (search_of search.now) part group.now day) }
 {
     lines.push_str(search.name)?;
-    push_titled(lines, ": part ", part)?;
-    lines.push_str(": group ")?;
+    push_titled(lines, language.text(OF_PART), part)?;
+    lines.push_str(language.text(GROUP))?;
     push_letters(lines, group)?;
-    push_titled(lines, " is of day ", usize::from(day))?;
-    lines.push_str(" in ")?;
+    push_titled(lines, language.text(OF_DAY), usize::from(day))?;
+    lines.push_str(language.text(IN_SHEET))?;
     lines.push_str(search.sheet)?;
     lines.push_str("\n")
 }
@@ -213,18 +226,19 @@ fn push_day(
 #[tactic(auto, using(std::proofs::Common::append_assoc), unfolding(crate::specs::GroupDays::no_group_line))]
 fn push_no_group(
     lines: &mut String,
+    language: Language,
     search: &Search<'_>,
     part: usize,
     group: &[Letter],
 ) -> Result<(), AllocError>
     ensures { OnOk result (string_bytes lines.new
-        ≡ string_bytes lines.old ++ no_group_line (search_of search.now) part group.now) }
+        ≡ string_bytes lines.old ++ no_group_line language (search_of search.now) part group.now) }
 {
     lines.push_str(search.name)?;
-    push_titled(lines, ": warning: part ", part)?;
-    lines.push_str(": no day for such a machine in ")?;
+    push_titled(lines, language.text(PART_WARNING), part)?;
+    lines.push_str(language.text(NO_DAY_IN))?;
     lines.push_str(search.sheet)?;
-    lines.push_str(" has the group ")?;
+    lines.push_str(language.text(HAS_GROUP))?;
     push_letters(lines, group)?;
     lines.push_str("\n")
 }

@@ -1,4 +1,4 @@
-//! Describes machine files, key sheets, orders and forms in words, or names their faults.
+//! Describes machine files, key sheets, orders and forms in words, or names their faults. The words are English or German.
 #![tactic(auto)]
 
 mod alike;
@@ -17,6 +17,7 @@ mod outcome;
 mod report;
 mod sheet_words;
 mod texts;
+mod values;
 mod warnings;
 
 pub use looking::{NamedFile, look_at};

@@ -12,8 +12,9 @@ use crate::group_days::group_day_lines;
 use crate::missing_days::{ReadFile, missing_day_warnings};
 use crate::outcome::Outcome;
 use crate::report::{Report, make_report};
+use kd_language::Wording;
 use kd_tables::{Sink, WriteFault, put_all};
-use std::alloc::{AllocError, Global};
+use std::alloc::AllocError;
 
 /// A file that `look_at` describes.
 #[derive(Clone, Copy)]
@@ -24,18 +25,18 @@ pub struct NamedFile<'f> {
     pub bytes: &'f [u8],
 }
 
-/// Describes `files` in words, or names their faults.
+/// Describes `files` in the words of `wording`, or names their faults.
 pub fn look_at<W: Sink>(
-    alloc: Global,
+    wording: Wording,
     files: &[NamedFile<'_>],
     sink: &mut W,
 ) -> Result<Outcome, WriteFault<AllocError>>
-    ensures looks { IsLookAnswer (map named_text files.now)
+    ensures looks { IsLookAnswer wording.language (map named_text files.now)
         (port W.taken W.has_failed sink.old sink.new) result }
     ensures untouched { IsErr result → is_device result ≡ false → sink.new ≡ sink.old }
     ensures failed { W.has_failed sink.new ≡ (W.has_failed sink.old || is_device result) }
 {
-    let WholeReport { text, outcome } = match report_all(alloc, files) {
+    let WholeReport { text, outcome } = match report_all(wording, files) {
         Ok(report) => report,
         Err(fault) => return Err(WriteFault::Unwritten(fault)),
     };
@@ -53,15 +54,15 @@ struct WholeReport {
 }
 
 /// Makes the report on `files`: a report on each file, then the lines that compare the files.
-fn report_all(alloc: Global, files: &[NamedFile<'_>]) -> Result<WholeReport, AllocError>
+fn report_all(wording: Wording, files: &[NamedFile<'_>]) -> Result<WholeReport, AllocError>
     ensures report { IfOk result (λ made.
-        IsWholeReport (map named_text files.now) (string_bytes made.text)) }
+        IsWholeReport wording.language (map named_text files.now) (string_bytes made.text)) }
     ensures found { IfOk result (λ made. made.outcome ≡ outcome_of_all (map named_text files.now)) }
 {
-    let mut text = String::new(alloc);
-    let mut known = Vec::new(alloc);
-    let outcome = push_reports(&mut text, &mut known, alloc, files)?;
-    push_comparisons(&mut text, alloc, known.as_slice())?;
+    let mut text = String::new(wording.alloc);
+    let mut known = Vec::new(wording.alloc);
+    let outcome = push_reports(&mut text, &mut known, wording, files)?;
+    push_comparisons(&mut text, wording, known.as_slice())?;
     Ok(WholeReport { text, outcome })
 }
 
@@ -70,15 +71,15 @@ fn report_all(alloc: Global, files: &[NamedFile<'_>]) -> Result<WholeReport, All
 #[tactic(auto, using(std::proofs::Common::append_assoc))]
 fn push_comparisons(
     text: &mut String,
-    alloc: Global,
+    wording: Wording,
     files: &[ReadFile<'_>],
 ) -> Result<(), AllocError>
     ensures { OnOk result (string_bytes text.new
-        ≡ string_bytes text.old ++ comparison_words (map known_of files.now)) }
+        ≡ string_bytes text.old ++ comparison_words wording.language (map known_of files.now)) }
 {
-    let missing = missing_day_warnings(alloc, files)?;
+    let missing = missing_day_warnings(wording, files)?;
     text.push_str(missing.as_str())?;
-    let days = group_day_lines(alloc, files)?;
+    let days = group_day_lines(wording, files)?;
     text.push_str(days.as_str())
 }
 
@@ -86,19 +87,20 @@ fn push_comparisons(
 fn push_reports<'f>(
     text: &mut String,
     known: &mut Vec<ReadFile<'f>>,
-    alloc: Global,
+    wording: Wording,
     files: &[NamedFile<'f>],
 ) -> Result<Outcome, AllocError>
-    ensures reports { OnOk result (AppendsText (AreReports (map named_text files.now))
-        (string_bytes text.old) (string_bytes text.new)) }
+    ensures reports { OnOk result (AppendsText
+        (AreReports wording.language (map named_text files.now)) (string_bytes text.old)
+        (string_bytes text.new)) }
     ensures found { IfOk result (λ found. found ≡ outcome_of_all (map named_text files.now)) }
     ensures known { OnOk result (map known_of known.new.items
         ≡ map known_of known.old.items ++ map known_text (map named_text files.now)) }
 {
     match files {
         [first, rest @ ..] => {
-            let found = push_report(text, known, alloc, *first)?;
-            let later = push_reports(text, known, alloc, rest)?;
+            let found = push_report(text, known, wording, *first)?;
+            let later = push_reports(text, known, wording, rest)?;
             Ok(found.or(later))
         }
         [] => Ok(Outcome::Faultless),
@@ -109,10 +111,11 @@ fn push_reports<'f>(
 fn push_report<'f>(
     text: &mut String,
     known: &mut Vec<ReadFile<'f>>,
-    alloc: Global,
+    wording: Wording,
     file: NamedFile<'f>,
 ) -> Result<Outcome, AllocError>
-    ensures report { OnOk result (AppendsText (IsReport file.entry.name.now file.entry.bytes.now)
+    ensures report { OnOk result (AppendsText
+        (IsReport wording.language file.entry.name.now file.entry.bytes.now)
         (string_bytes text.old) (string_bytes text.new)) }
     ensures found { IfOk result (λ found. found ≡ file_outcome file.entry.bytes.now) }
     ensures known { OnOk result (map known_of known.new.items
@@ -123,7 +126,7 @@ fn push_report<'f>(
         outcome,
         file: said,
         message,
-    } = make_report(alloc, file.bytes, file.name)?;
+    } = make_report(wording, file.bytes, file.name)?;
     text.push_str(report.as_str())?;
     known.push(ReadFile {
         name: file.name,

@@ -7,7 +7,9 @@ ghost use Rattle.kd_look.specs.MachineWords.{label, letter_words, ring_words, wh
 ghost use Rattle.kd_look.specs.MachineWords.{cable_words, pin_words, pin_wheel_words, bar_words, thing_words};
 ghost use Rattle.kd_look.specs.MachineWords.{things_words, reflector_words, machine_words};
 
-use crate::texts::{push_letter, push_number, push_two_digits};
+use crate::texts;
+use crate::values::{push_letter, push_number, push_two_digits};
+use kd_language::Language;
 use kd_state::Machine;
 use kd_tables::{Letter, Wheel};
 use std::alloc::AllocError;
@@ -23,32 +25,38 @@ pub enum Thing {
 
 /// Appends a line for the model, the reflector, and each slot, cable, pin wheel and bar of `machine`.
 #[tactic(auto, using(std::proofs::Common::append_assoc), unfolding(crate::specs::MachineWords::machine_words))]
-pub fn push_machine(text: &mut String, machine: &Machine) -> Result<(), AllocError>
-    ensures { OnOk result (string_bytes text.new ≡ string_bytes text.old ++ machine_words machine.now) }
+pub fn push_machine(
+    text: &mut String,
+    language: Language,
+    machine: &Machine,
+) -> Result<(), AllocError>
+    ensures { OnOk result (string_bytes text.new
+        ≡ string_bytes text.old ++ machine_words language machine.now) }
 {
-    text.push_str("model ")?;
+    text.push_str(language.text(texts::MODEL))?;
     text.push_str(machine.model().text().as_str())?;
     text.push_str("\n")?;
-    push_reflector(text, machine)?;
-    push_things(text, machine, Thing::Slot, 4)?;
-    push_things(text, machine, Thing::Cable, 13)?;
-    push_things(text, machine, Thing::PinWheel, 6)?;
-    push_things(text, machine, Thing::Bar, 27)
+    push_reflector(text, language, machine)?;
+    push_things(text, language, machine, Thing::Slot, 4)?;
+    push_things(text, language, machine, Thing::Cable, 13)?;
+    push_things(text, language, machine, Thing::PinWheel, 6)?;
+    push_things(text, language, machine, Thing::Bar, 27)
 }
 
 /// Appends the lines of all things of the sort `thing`, with the numbers from 1 to `count`.
 fn push_things(
     text: &mut String,
+    language: Language,
     machine: &Machine,
     thing: Thing,
     count: u8,
 ) -> Result<(), AllocError>
     requires { count < 255 }
-    ensures { OnOk result
-        (string_bytes text.new ≡ string_bytes text.old ++ things_words machine.now thing count) }
+    ensures { OnOk result (string_bytes text.new
+        ≡ string_bytes text.old ++ things_words language machine.now thing count) }
 {
     for index in 0..count {
-        push_thing(text, machine, thing, index + 1)?;
+        push_thing(text, language, machine, thing, index + 1)?;
     }
     Ok(())
 }
@@ -57,47 +65,59 @@ fn push_things(
 #[tactic(auto, unfolding(crate::specs::MachineWords::thing_words))]
 fn push_thing(
     text: &mut String,
+    language: Language,
     machine: &Machine,
     thing: Thing,
     number: u8,
 ) -> Result<(), AllocError>
-    ensures { OnOk result
-        (string_bytes text.new ≡ string_bytes text.old ++ thing_words machine.now thing number) }
+    ensures { OnOk result (string_bytes text.new
+        ≡ string_bytes text.old ++ thing_words language machine.now thing number) }
 {
     match thing {
-        Thing::Slot => push_slot(text, machine, number),
-        Thing::Cable => push_cable(text, machine, number),
-        Thing::PinWheel => push_pin_wheel(text, machine, number),
-        Thing::Bar => push_bar(text, machine, number),
+        Thing::Slot => push_slot(text, language, machine, number),
+        Thing::Cable => push_cable(text, language, machine, number),
+        Thing::PinWheel => push_pin_wheel(text, language, machine, number),
+        Thing::Bar => push_bar(text, language, machine, number),
     }
 }
 
 /// Appends the line of slot `slot`, if the machine has this slot.
 #[tactic(auto, using(std::proofs::Common::append_assoc), unfolding(crate::specs::MachineWords::slot_words))]
-fn push_slot(text: &mut String, machine: &Machine, slot: u8) -> Result<(), AllocError>
-    ensures { OnOk result (string_bytes text.new ≡ string_bytes text.old ++ slot_words machine.now slot) }
+fn push_slot(
+    text: &mut String,
+    language: Language,
+    machine: &Machine,
+    slot: u8,
+) -> Result<(), AllocError>
+    ensures { OnOk result (string_bytes text.new
+        ≡ string_bytes text.old ++ slot_words language machine.now slot) }
 {
     let Some(held) = machine.slot(slot) else {
         return Ok(());
     };
-    push_label(text, "slot", slot)?;
+    push_label(text, language.text(texts::SLOT), slot)?;
     match held {
-        Some(wheel) => push_wheel(text, machine, wheel),
-        None => text.push_str("empty\n"),
+        Some(wheel) => push_wheel(text, language, machine, wheel),
+        None => text.push_str(language.text(texts::EMPTY)),
     }
 }
 
 /// Appends a wheel with its ring and its window letter.
 #[tactic(auto, using(std::proofs::Common::append_assoc), unfolding(crate::specs::MachineWords::wheel_words))]
-fn push_wheel(text: &mut String, machine: &Machine, wheel: Wheel) -> Result<(), AllocError>
+fn push_wheel(
+    text: &mut String,
+    language: Language,
+    machine: &Machine,
+    wheel: Wheel,
+) -> Result<(), AllocError>
     ensures { OnOk result
-        (string_bytes text.new ≡ string_bytes text.old ++ wheel_words machine.now wheel) }
+        (string_bytes text.new ≡ string_bytes text.old ++ wheel_words language machine.now wheel) }
 {
-    text.push_str("wheel ")?;
+    text.push_str(language.text(texts::WHEEL))?;
     text.push_str(wheel.text().as_str())?;
-    text.push_str(", ring ")?;
+    text.push_str(language.text(texts::RING))?;
     push_ring(text, machine.ring(wheel))?;
-    text.push_str(", window ")?;
+    text.push_str(language.text(texts::WINDOW))?;
     push_optional_letter(text, machine.letter(wheel))?;
     text.push_str("\n")
 }
@@ -129,12 +149,17 @@ fn push_optional_letter(text: &mut String, letter: Option<Letter>) -> Result<(),
 /// Appends the line of cable `cable`. Appends nothing if the machine doesn't have this cable, or if neither end of the
 /// cable has a letter.
 #[tactic(auto, unfolding(crate::specs::MachineWords::cable_words))]
-fn push_cable(text: &mut String, machine: &Machine, cable: u8) -> Result<(), AllocError>
+fn push_cable(
+    text: &mut String,
+    language: Language,
+    machine: &Machine,
+    cable: u8,
+) -> Result<(), AllocError>
     ensures { OnOk result
-        (string_bytes text.new ≡ string_bytes text.old ++ cable_words machine.now cable) }
+        (string_bytes text.new ≡ string_bytes text.old ++ cable_words language machine.now cable) }
 {
     match machine.cable(cable) {
-        Some((one, other)) => push_cable_line(text, cable, one, other),
+        Some((one, other)) => push_cable_line(text, language, cable, one, other),
         None => Ok(()),
     }
 }
@@ -143,15 +168,19 @@ fn push_cable(text: &mut String, machine: &Machine, cable: u8) -> Result<(), All
 #[tactic(auto, using(std::proofs::Common::append_assoc), unfolding(crate::specs::MachineWords::cable_line))]
 fn push_cable_line(
     text: &mut String,
+    language: Language,
     cable: u8,
     one: Option<Letter>,
     other: Option<Letter>,
 ) -> Result<(), AllocError>
-    ensures { OnOk result (string_bytes text.new ≡ string_bytes text.old ++ cable_line cable one other) }
+    ensures { OnOk result (string_bytes text.new
+        ≡ string_bytes text.old ++ cable_line language cable one other) }
 {
     match (one, other) {
-        (Some(one), Some(other)) => push_plugged_cable(text, cable, one, other),
-        (Some(letter), None) | (None, Some(letter)) => push_loose_cable(text, cable, letter),
+        (Some(one), Some(other)) => push_plugged_cable(text, language, cable, one, other),
+        (Some(letter), None) | (None, Some(letter)) => push_loose_cable(
+            text, language, cable, letter,
+        ),
         (None, None) => Ok(()),
     }
 }
@@ -160,14 +189,15 @@ fn push_cable_line(
 #[tactic(auto, using(std::proofs::Common::append_assoc), unfolding(crate::specs::MachineWords::cable_line))]
 fn push_plugged_cable(
     text: &mut String,
+    language: Language,
     cable: u8,
     one: Letter,
     other: Letter,
 ) -> Result<(), AllocError>
-    ensures { OnOk result
-        (string_bytes text.new ≡ string_bytes text.old ++ cable_line cable (Some one) (Some other)) }
+    ensures { OnOk result (string_bytes text.new
+        ≡ string_bytes text.old ++ cable_line language cable (Some one) (Some other)) }
 {
-    push_label(text, "cable", cable)?;
+    push_label(text, language.text(texts::CABLE), cable)?;
     push_letter(text, one)?;
     push_letter(text, other)?;
     text.push_str("\n")
@@ -175,30 +205,40 @@ fn push_plugged_cable(
 
 /// Appends the line of a cable with one letter.
 #[tactic(auto, using(std::proofs::Common::append_assoc), unfolding(crate::specs::MachineWords::cable_line))]
-fn push_loose_cable(text: &mut String, cable: u8, letter: Letter) -> Result<(), AllocError>
-    ensures one { OnOk result
-        (string_bytes text.new ≡ string_bytes text.old ++ cable_line cable (Some letter) None) }
-    ensures other { OnOk result
-        (string_bytes text.new ≡ string_bytes text.old ++ cable_line cable None (Some letter)) }
+fn push_loose_cable(
+    text: &mut String,
+    language: Language,
+    cable: u8,
+    letter: Letter,
+) -> Result<(), AllocError>
+    ensures one { OnOk result (string_bytes text.new
+        ≡ string_bytes text.old ++ cable_line language cable (Some letter) None) }
+    ensures other { OnOk result (string_bytes text.new
+        ≡ string_bytes text.old ++ cable_line language cable None (Some letter)) }
 {
-    push_label(text, "cable", cable)?;
+    push_label(text, language.text(texts::CABLE), cable)?;
     push_letter(text, letter)?;
-    text.push_str(", one end free\n")
+    text.push_str(language.text(texts::FREE_END))
 }
 
 /// Appends the line of pin wheel `wheel`, if the machine has this wheel.
 #[tactic(auto, using(std::proofs::Common::append_assoc), unfolding(crate::specs::MachineWords::pin_wheel_words))]
-fn push_pin_wheel(text: &mut String, machine: &Machine, wheel: u8) -> Result<(), AllocError>
-    ensures { OnOk result
-        (string_bytes text.new ≡ string_bytes text.old ++ pin_wheel_words machine.now wheel) }
+fn push_pin_wheel(
+    text: &mut String,
+    language: Language,
+    machine: &Machine,
+    wheel: u8,
+) -> Result<(), AllocError>
+    ensures { OnOk result (string_bytes text.new
+        ≡ string_bytes text.old ++ pin_wheel_words language machine.now wheel) }
 {
     let Some(shown) = machine.shown(wheel) else {
         return Ok(());
     };
-    push_label(text, "wheel", wheel)?;
-    text.push_str("window ")?;
+    push_label(text, language.text(texts::PIN_WHEEL), wheel)?;
+    text.push_str(language.text(texts::SHOWN))?;
     push_letter(text, shown)?;
-    text.push_str(", effective pins:")?;
+    text.push_str(language.text(texts::PINS))?;
     push_pins(text, machine, wheel)?;
     text.push_str("\n")
 }
@@ -242,13 +282,19 @@ fn push_spaced_letter(text: &mut String, letter: Letter) -> Result<(), AllocErro
 
 /// Appends the line of bar `bar`, if the machine has this bar.
 #[tactic(auto, using(std::proofs::Common::append_assoc), unfolding(crate::specs::MachineWords::bar_words))]
-fn push_bar(text: &mut String, machine: &Machine, bar: u8) -> Result<(), AllocError>
-    ensures { OnOk result (string_bytes text.new ≡ string_bytes text.old ++ bar_words machine.now bar) }
+fn push_bar(
+    text: &mut String,
+    language: Language,
+    machine: &Machine,
+    bar: u8,
+) -> Result<(), AllocError>
+    ensures { OnOk result (string_bytes text.new
+        ≡ string_bytes text.old ++ bar_words language machine.now bar) }
 {
     let Some(standing) = machine.standing(bar) else {
         return Ok(());
     };
-    push_label(text, "bar", bar)?;
+    push_label(text, language.text(texts::BAR), bar)?;
     text.push_str(standing.text().as_str())?;
     text.push_str("\n")
 }
@@ -265,13 +311,18 @@ fn push_label(text: &mut String, name: &str, number: u8) -> Result<(), AllocErro
 }
 
 /// Appends the line of the reflector, if the machine has one.
-fn push_reflector(text: &mut String, machine: &Machine) -> Result<(), AllocError>
-    ensures { OnOk result (string_bytes text.new ≡ string_bytes text.old ++ reflector_words machine.now) }
+fn push_reflector(
+    text: &mut String,
+    language: Language,
+    machine: &Machine,
+) -> Result<(), AllocError>
+    ensures { OnOk result (string_bytes text.new
+        ≡ string_bytes text.old ++ reflector_words language machine.now) }
 {
     let Some(reflector) = machine.reflector() else {
         return Ok(());
     };
-    text.push_str("reflector ")?;
+    text.push_str(language.text(texts::REFLECTOR))?;
     text.push_str(reflector.text().as_str())?;
     text.push_str("\n")
 }

@@ -3,13 +3,15 @@ ghost use Rattle.std.specs.Prelude.{◌≡◌, ◌++◌, IfOk, OnOk, flat_map, m
 ghost use Rattle.std.specs.List.{list_any};
 ghost use Rattle.std.specs.String.{string_bytes};
 ghost use Rattle.kd_look.specs.MissingDays.{machine_model, missing_lines, missing_words, no_day_line};
-ghost use Rattle.kd_look.specs.MissingDays.{no_day_end, no_day_start, no_day_words, known_of, serves};
+ghost use Rattle.kd_look.specs.MissingDays.{known_of, model_after_for, no_day_words, serves};
 
 use crate::file::File;
 use crate::message::groups::Message;
-use kd_slips::model_name;
+use crate::texts::{CONVERTER, ENIGMA_I, M3, M4, NO_DAY};
+use kd_language::template::push_filled;
+use kd_language::{Language, Wording};
 use kd_tables::Model;
-use std::alloc::{AllocError, Global};
+use std::alloc::AllocError;
 
 /// A file's name, and the file's content. The content is `None` if the file has a fault.
 #[derive(Drop)]
@@ -22,12 +24,13 @@ pub struct ReadFile<'f> {
 }
 
 /// The warnings about machines for which no key sheet has a day. There are no warnings if there is no key sheet.
-pub fn missing_day_warnings(alloc: Global, files: &[ReadFile<'_>]) -> Result<String, AllocError>
-    ensures { IfOk result (λ lines. string_bytes lines ≡ missing_words (map known_of files.now)) }
+pub fn missing_day_warnings(wording: Wording, files: &[ReadFile<'_>]) -> Result<String, AllocError>
+    ensures { IfOk result (λ lines. string_bytes lines
+        ≡ missing_words wording.language (map known_of files.now)) }
 {
-    let mut lines = String::new(alloc);
+    let mut lines = String::new(wording.alloc);
     for file in files {
-        push_missing(&mut lines, files, file)?;
+        push_missing(&mut lines, wording.language, files, file)?;
     }
     Ok(lines)
 }
@@ -35,14 +38,17 @@ pub fn missing_day_warnings(alloc: Global, files: &[ReadFile<'_>]) -> Result<Str
 /// Appends the warnings about `file`, if it is a machine file, and no key sheet of `files` has a day for the machine.
 fn push_missing(
     lines: &mut String,
+    language: Language,
     files: &[ReadFile<'_>],
     file: &ReadFile<'_>,
 ) -> Result<(), AllocError>
-    ensures { OnOk result (string_bytes lines.new
-        ≡ string_bytes lines.old ++ missing_lines (map known_of files.now) (known_of file.now)) }
+    ensures { OnOk result (string_bytes lines.new ≡ string_bytes lines.old
+        ++ missing_lines language (map known_of files.now) (known_of file.now)) }
 {
     match machine_model(file) {
-        Some(model) if !is_served(model, files) => push_no_days(lines, file.name, model, files),
+        Some(model) if !is_served(model, files) => {
+            push_no_days(lines, language, file.name, model, files)
+        }
         Some(_) | None => Ok(()),
     }
 }
@@ -82,17 +88,18 @@ fn serves(model: Model, file: &ReadFile<'_>) -> bool
 #[tactic(auto, using(std::proofs::Common::append_assoc))]
 fn push_no_days(
     lines: &mut String,
+    language: Language,
     name: &str,
     model: Model,
     files: &[ReadFile<'_>],
 ) -> Result<(), AllocError>
-    ensures { OnOk result (string_bytes lines.new
-        ≡ string_bytes lines.old ++ flat_map (no_day_line name.now model) (map known_of files.now)) }
+    ensures { OnOk result (string_bytes lines.new ≡ string_bytes lines.old
+        ++ flat_map (no_day_line language name.now model) (map known_of files.now)) }
 {
     match files {
         [file, rest @ ..] => {
-            push_no_day(lines, name, model, file)?;
-            push_no_days(lines, name, model, rest)
+            push_no_day(lines, language, name, model, file)?;
+            push_no_days(lines, language, name, model, rest)
         }
         [] => Ok(()),
     }
@@ -102,60 +109,49 @@ fn push_no_days(
 /// sheet.
 fn push_no_day(
     lines: &mut String,
+    language: Language,
     name: &str,
     model: Model,
     sheet: &ReadFile<'_>,
 ) -> Result<(), AllocError>
     ensures { OnOk result (string_bytes lines.new
-        ≡ string_bytes lines.old ++ no_day_line name.now model (known_of sheet.now)) }
+        ≡ string_bytes lines.old ++ no_day_line language name.now model (known_of sheet.now)) }
 {
     match &sheet.file {
-        Some(File::Sheet(_)) => push_no_day_words(lines, name, sheet.name, model_name(model)),
+        Some(File::Sheet(_)) => push_no_day_words(
+            lines,
+            language,
+            name,
+            sheet.name,
+            model_after_for(language, model),
+        ),
         Some(File::Machine(_)) | None => Ok(()),
     }
 }
 
 /// Appends a warning that the key sheet `sheet` has no day for the machine in the file `name`. `model` is the machine's
 /// model in words.
-#[tactic(auto, using(std::proofs::Common::append_assoc))]
 fn push_no_day_words(
     lines: &mut String,
+    language: Language,
     name: &str,
     sheet: &str,
     model: &str,
 ) -> Result<(), AllocError>
     ensures { OnOk result (string_bytes lines.new
-        ≡ string_bytes lines.old ++ no_day_words name.now sheet.now model.now) }
+        ≡ string_bytes lines.old ++ no_day_words language name.now sheet.now model.now) }
 {
-    push_no_day_start(lines, name, sheet)?;
-    push_no_day_end(lines, model)
+    push_filled(lines, language.text(NO_DAY), &[name, sheet, model])
 }
 
-/// Appends the start of a warning: the name of the machine file, and the name of the key sheet.
-#[tactic(auto, unfolding(crate::specs::MissingDays::no_day_start))]
-fn push_no_day_start(lines: &mut String, name: &str, sheet: &str) -> Result<(), AllocError>
-    ensures { OnOk result (string_bytes lines.new
-        ≡ string_bytes lines.old ++ no_day_start name.now sheet.now) }
+/// The model after the word `for`.
+fn model_after_for(language: Language, model: Model) -> &'static str
+    ensures { result.now ≡ model_after_for language model }
 {
-    push_three(lines, name, ": warning: ", sheet)
-}
-
-/// Appends the end of the warning that the key sheet has no day for the machine. `model` is the machine's model in
-/// words.
-#[tactic(auto, unfolding(crate::specs::MissingDays::no_day_end))]
-fn push_no_day_end(lines: &mut String, model: &str) -> Result<(), AllocError>
-    ensures { OnOk result (string_bytes lines.new ≡ string_bytes lines.old ++ no_day_end model.now) }
-{
-    push_three(lines, " has no day for ", model, "\n")
-}
-
-/// Appends `first`, `second` and `third`.
-#[tactic(auto, using(std::proofs::Common::append_assoc))]
-fn push_three(lines: &mut String, first: &str, second: &str, third: &str) -> Result<(), AllocError>
-    ensures { OnOk result (string_bytes lines.new
-        ≡ string_bytes lines.old ++ (first.now ++ second.now ++ third.now)) }
-{
-    lines.push_str(first)?;
-    lines.push_str(second)?;
-    lines.push_str(third)
+    match model {
+        Model::EnigmaI => language.text(ENIGMA_I),
+        Model::M3 => language.text(M3),
+        Model::M4 => language.text(M4),
+        Model::M209 => language.text(CONVERTER),
+    }
 }

@@ -18,10 +18,12 @@ use crate::message::order::order_start;
 use crate::message::words::{form_words, is_form, is_message, order_words};
 use crate::outcome::{FoundFault, Outcome};
 use crate::sheet_words::push_sheet;
+use crate::texts::{KEY_SHEET, MACHINE_FILE};
 use crate::warnings::{day_warnings, key_warnings};
+use kd_language::{Language, Wording};
 use kd_sheet::SheetFault;
 use kd_sheet::by_key::parse_table;
-use std::alloc::{AllocError, Global};
+use std::alloc::AllocError;
 use toml::Table;
 
 /// The report on a file.
@@ -37,18 +39,19 @@ pub struct Report {
 }
 
 /// Makes the report on the file called `name`, with the content `bytes`.
-pub fn make_report(alloc: Global, bytes: &[u8], name: &str) -> Result<Report, AllocError>
-    ensures report { IfOk result (λ made. IsReport name.now bytes.now (string_bytes made.text)) }
+pub fn make_report(wording: Wording, bytes: &[u8], name: &str) -> Result<Report, AllocError>
+    ensures report { IfOk result (λ made.
+        IsReport wording.language name.now bytes.now (string_bytes made.text)) }
     ensures found { IfOk result (λ made. made.outcome ≡ file_outcome bytes.now) }
     ensures file { IfOk result (λ made. made.file ≡ result_ok (file_of bytes.now)) }
     ensures message { IfOk result (λ made. made.message ≡ file_message bytes.now) }
 {
-    match parse_table(alloc, bytes) {
-        Ok(document) => document_report(alloc, bytes, name, &document),
+    match parse_table(wording.alloc, bytes) {
+        Ok(document) => document_report(wording, bytes, name, &document),
         Err(SheetFault::NoMemory) => Err(AllocError),
-        Err(_) if is_message(bytes) => message_report(alloc, bytes, name),
+        Err(_) if is_message(bytes) => message_report(wording, bytes, name),
         Err(fault) => Ok(Report {
-            text: plain_refusal(alloc, bytes, name, fault)?,
+            text: plain_refusal(wording, bytes, name, fault)?,
             outcome: Outcome::Faulty(FoundFault::File(fault)),
             file: None,
             message: None,
@@ -57,39 +60,41 @@ pub fn make_report(alloc: Global, bytes: &[u8], name: &str) -> Result<Report, Al
 }
 
 /// Makes the report on the order or form `bytes` in the file called `name`.
-fn message_report(alloc: Global, bytes: &[u8], name: &str) -> Result<Report, AllocError>
-    ensures report { IfOk result (λ made. string_bytes made.text ≡ message_report name.now bytes.now) }
+fn message_report(wording: Wording, bytes: &[u8], name: &str) -> Result<Report, AllocError>
+    ensures report { IfOk result (λ made.
+        string_bytes made.text ≡ message_report wording.language name.now bytes.now) }
     ensures found { IfOk result (λ made. made.outcome ≡ message_outcome bytes.now) }
     ensures file { IfOk result (λ made. made.file ≡ None) }
     ensures message { IfOk result (λ made. made.message ≡ message_of bytes.now) }
 {
     if is_form(bytes) {
         let answer = form_answer(bytes);
-        let message = form_message(alloc, bytes, &answer)?;
-        let text = form_words(alloc, name, bytes, &answer)?;
-        report_with_groups(text, answer_outcome(&answer), message)
+        let message = form_message(wording.alloc, bytes, &answer)?;
+        let text = form_words(wording, name, bytes, &answer)?;
+        report_with_groups(text, wording.language, answer_outcome(&answer), message)
     } else {
         let answer = order_start(bytes);
-        let message = order_message(alloc, bytes, &answer)?;
-        let text = order_words(alloc, name, bytes, &answer)?;
-        report_with_groups(text, answer_outcome(&answer), message)
+        let message = order_message(wording.alloc, bytes, &answer)?;
+        let text = order_words(wording, name, bytes, &answer)?;
+        report_with_groups(text, wording.language, answer_outcome(&answer), message)
     }
 }
 
 /// Makes the report on an order or a form: `text`, and the lines about the groups of `message`.
 fn report_with_groups(
     text: String,
+    language: Language,
     outcome: Outcome,
     message: Option<Message>,
 ) -> Result<Report, AllocError>
     ensures report { IfOk result (λ made.
-        string_bytes made.text ≡ string_bytes text ++ group_lines message) }
+        string_bytes made.text ≡ string_bytes text ++ group_lines language message) }
     ensures found { IfOk result (λ made. made.outcome ≡ outcome) }
     ensures file { IfOk result (λ made. made.file ≡ None) }
     ensures message { IfOk result (λ made. made.message ≡ message) }
 {
     let mut text = text;
-    push_groups(&mut text, &message)?;
+    push_groups(&mut text, language, &message)?;
     Ok(Report {
         text,
         outcome,
@@ -110,13 +115,14 @@ fn answer_outcome<A>(answer: &Result<A, MessageFault>) -> Outcome
 
 /// Makes the report on the file called `name`, whose table is `document`.
 fn document_report(
-    alloc: Global,
+    wording: Wording,
     bytes: &[u8],
     name: &str,
     document: &Table,
 ) -> Result<Report, AllocError>
     ensures report { IfOk result (λ made.
-        IsDocumentReport name.now bytes.now (table_view document.now) (string_bytes made.text)) }
+        IsDocumentReport wording.language name.now bytes.now (table_view document.now)
+        (string_bytes made.text)) }
     ensures found { IfOk result (λ made.
         made.outcome ≡ outcome_of (file_in (table_view document.now))) }
     ensures file { IfOk result (λ made.
@@ -125,13 +131,13 @@ fn document_report(
 {
     match file_in(document) {
         Ok(file) => Ok(Report {
-            text: description(alloc, bytes, name, document, &file)?,
+            text: description(wording, bytes, name, document, &file)?,
             outcome: Outcome::Faultless,
             file: Some(file),
             message: None,
         }),
         Err(fault) => Ok(Report {
-            text: refusal(alloc, bytes, name, document, fault)?,
+            text: refusal(wording, bytes, name, document, fault)?,
             outcome: Outcome::Faulty(FoundFault::File(fault)),
             file: None,
             message: None,
@@ -141,39 +147,45 @@ fn document_report(
 
 /// The words for the content of the file `name`, and then the file's warnings.
 fn description(
-    alloc: Global,
+    wording: Wording,
     bytes: &[u8],
     name: &str,
     document: &Table,
     file: &File,
 ) -> Result<String, AllocError>
     ensures { IfOk result (λ text.
-        Describes name.now bytes.now (table_view document.now) file.now (string_bytes text)) }
+        Describes wording.language name.now bytes.now (table_view document.now) file.now
+        (string_bytes text)) }
 {
-    let mut text = String::new(alloc);
-    push_file(&mut text, name, file)?;
-    let keys = key_warnings(alloc, bytes, name, document)?;
+    let mut text = String::new(wording.alloc);
+    push_file(&mut text, wording.language, name, file)?;
+    let keys = key_warnings(wording, bytes, name, document)?;
     text.push_str(keys.as_str())?;
-    let days = day_warnings(alloc, name, file)?;
+    let days = day_warnings(wording, name, file)?;
     text.push_str(days.as_str())?;
     Ok(text)
 }
 
 /// Appends the words for the content of the file `name`.
 #[tactic(auto, using(std::proofs::Common::append_assoc), unfolding(crate::specs::Report::file_words))]
-fn push_file(text: &mut String, name: &str, file: &File) -> Result<(), AllocError>
+fn push_file(
+    text: &mut String,
+    language: Language,
+    name: &str,
+    file: &File,
+) -> Result<(), AllocError>
     ensures { OnOk result (string_bytes text.new
-        ≡ string_bytes text.old ++ file_words name.now file.now) }
+        ≡ string_bytes text.old ++ file_words language name.now file.now) }
 {
     text.push_str(name)?;
     match file {
         File::Machine(machine) => {
-            text.push_str(": a machine file without a fault\n")?;
-            push_machine(text, machine)
+            text.push_str(language.text(MACHINE_FILE))?;
+            push_machine(text, language, machine)
         }
         File::Sheet(sheet) => {
-            text.push_str(": a key sheet without a fault\n")?;
-            push_sheet(text, sheet)
+            text.push_str(language.text(KEY_SHEET))?;
+            push_sheet(text, language, sheet)
         }
     }
 }

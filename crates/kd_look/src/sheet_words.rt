@@ -4,7 +4,9 @@ ghost use Rattle.std.specs.String.{string_bytes};
 ghost use Rattle.kd_look.specs.SheetWords.{lacks_groups, has_day, day_words, numbered_day_words, sort_words};
 ghost use Rattle.kd_look.specs.SheetWords.{model_words, sheet_words};
 
-use crate::texts::push_number;
+use crate::texts::{DAY, FIRST_DAY, LAST_DAY, WITHOUT_GROUPS};
+use crate::values::push_number;
+use kd_language::Language;
 use kd_sheet::Sheet;
 use kd_state::SheetDay;
 use kd_tables::Model;
@@ -21,42 +23,72 @@ pub enum DaySort {
 
 /// Appends the lines for the days of each model, and for the days without groups.
 #[tactic(auto, using(std::proofs::Common::append_assoc), unfolding(crate::specs::SheetWords::sheet_words))]
-pub fn push_sheet(text: &mut String, sheet: &Sheet) -> Result<(), AllocError>
-    ensures { OnOk result (string_bytes text.new ≡ string_bytes text.old ++ sheet_words sheet.now) }
+pub fn push_sheet(text: &mut String, language: Language, sheet: &Sheet) -> Result<(), AllocError>
+    ensures { OnOk result (string_bytes text.new
+        ≡ string_bytes text.old ++ sheet_words language sheet.now) }
 {
-    push_models(text, sheet, &Model::ALL)?;
-    push_sort(text, sheet, "without groups", DaySort::WithoutGroups)
+    push_models(text, language, sheet, &Model::ALL)?;
+    push_sort(
+        text,
+        language,
+        sheet,
+        language.text(WITHOUT_GROUPS),
+        DaySort::WithoutGroups,
+    )
 }
 
 /// Appends the lines for the days of each of `models`.
 #[tactic(auto, using(std::proofs::Common::append_assoc))]
-fn push_models(text: &mut String, sheet: &Sheet, models: &[Model]) -> Result<(), AllocError>
+fn push_models(
+    text: &mut String,
+    language: Language,
+    sheet: &Sheet,
+    models: &[Model],
+) -> Result<(), AllocError>
     ensures { OnOk result (string_bytes text.new
-        ≡ string_bytes text.old ++ flat_map (model_words sheet.now) models.now) }
+        ≡ string_bytes text.old ++ flat_map (model_words language sheet.now) models.now) }
 {
     match models {
         [model, rest @ ..] => {
-            push_model(text, sheet, *model)?;
-            push_models(text, sheet, rest)
+            push_model(text, language, sheet, *model)?;
+            push_models(text, language, sheet, rest)
         }
         [] => Ok(()),
     }
 }
 
-fn push_model(text: &mut String, sheet: &Sheet, model: Model) -> Result<(), AllocError>
-    ensures { OnOk result (string_bytes text.new ≡ string_bytes text.old ++ model_words sheet.now model) }
+fn push_model(
+    text: &mut String,
+    language: Language,
+    sheet: &Sheet,
+    model: Model,
+) -> Result<(), AllocError>
+    ensures { OnOk result
+        (string_bytes text.new ≡ string_bytes text.old ++ model_words language sheet.now model) }
 {
-    push_sort(text, sheet, model.text().as_str(), DaySort::Of(model))
+    push_sort(
+        text,
+        language,
+        sheet,
+        model.text().as_str(),
+        DaySort::Of(model),
+    )
 }
 
 /// Appends the lines for the days of the sort `sort`. Each line begins with `title`.
 #[tactic(auto, unfolding(crate::specs::SheetWords::sort_words))]
-fn push_sort(text: &mut String, sheet: &Sheet, title: &str, sort: DaySort) -> Result<(), AllocError>
-    ensures { OnOk result
-        (string_bytes text.new ≡ string_bytes text.old ++ sort_words sheet.now title.now sort) }
+fn push_sort(
+    text: &mut String,
+    language: Language,
+    sheet: &Sheet,
+    title: &str,
+    sort: DaySort,
+) -> Result<(), AllocError>
+    ensures { OnOk result (string_bytes text.new
+        ≡ string_bytes text.old ++ sort_words language sheet.now title.now sort) }
 {
     for index in 0..31 {
-        push_day(text, sheet, title, sort, index + 1)?;
+        push_day(text, language, sheet, title, sort, index + 1)?;
     }
     Ok(())
 }
@@ -66,6 +98,7 @@ fn push_sort(text: &mut String, sheet: &Sheet, title: &str, sort: DaySort) -> Re
 #[tactic(auto, unfolding(crate::specs::SheetWords::numbered_day_words))]
 fn push_day(
     text: &mut String,
+    language: Language,
     sheet: &Sheet,
     title: &str,
     sort: DaySort,
@@ -73,16 +106,16 @@ fn push_day(
 ) -> Result<(), AllocError>
     requires { number < 32 }
     ensures { OnOk result (string_bytes text.new
-        ≡ string_bytes text.old ++ numbered_day_words sheet.now title.now sort number) }
+        ≡ string_bytes text.old ++ numbered_day_words language sheet.now title.now sort number) }
 {
     if !has_day(sheet, sort, number) {
         return Ok(());
     }
     let after = has_day(sheet, sort, number + 1);
     if has_day(sheet, sort, number.saturating_sub(1)) {
-        push_last_day(text, title, after, number)
+        push_last_day(text, language, title, after, number)
     } else {
-        push_first_day(text, title, after, number)
+        push_first_day(text, language, title, after, number)
     }
 }
 
@@ -112,9 +145,15 @@ fn lacks_groups(day: &SheetDay) -> bool
 
 /// Appends a line's last day, and ends the line. If the next day also belongs to the line, appends nothing.
 #[tactic(auto, using(std::proofs::Common::append_assoc), unfolding(crate::specs::SheetWords::day_words))]
-fn push_last_day(text: &mut String, title: &str, after: bool, number: u8) -> Result<(), AllocError>
-    ensures { OnOk result
-        (string_bytes text.new ≡ string_bytes text.old ++ day_words title.now true after number) }
+fn push_last_day(
+    text: &mut String,
+    language: Language,
+    title: &str,
+    after: bool,
+    number: u8,
+) -> Result<(), AllocError>
+    ensures { OnOk result (string_bytes text.new
+        ≡ string_bytes text.old ++ day_words language title.now true after number) }
 {
     if after {
         return Ok(());
@@ -125,12 +164,18 @@ fn push_last_day(text: &mut String, title: &str, after: bool, number: u8) -> Res
 
 /// Appends `title` and the first day of a line. If the line has no further day, also ends the line.
 #[tactic(auto, using(std::proofs::Common::append_assoc), unfolding(crate::specs::SheetWords::day_words))]
-fn push_first_day(text: &mut String, title: &str, after: bool, number: u8) -> Result<(), AllocError>
-    ensures { OnOk result
-        (string_bytes text.new ≡ string_bytes text.old ++ day_words title.now false after number) }
+fn push_first_day(
+    text: &mut String,
+    language: Language,
+    title: &str,
+    after: bool,
+    number: u8,
+) -> Result<(), AllocError>
+    ensures { OnOk result (string_bytes text.new
+        ≡ string_bytes text.old ++ day_words language title.now false after number) }
 {
     text.push_str(title)?;
-    text.push_str(if after { ": days " } else { ": day " })?;
+    text.push_str(language.text(if after { FIRST_DAY } else { DAY }))?;
     push_number(text, number)?;
-    text.push_str(if after { " to " } else { "\n" })
+    text.push_str(if after { language.text(LAST_DAY) } else { "\n" })
 }

@@ -1,47 +1,251 @@
-//! Appends numbers and letters to a text in memory.
-ghost use Rattle.std.specs.Prelude.{◌≡◌, ◌++◌, ◌∷◌, [], OnOk, decimal};
-ghost use Rattle.std.specs.String.{string_bytes};
-ghost use Rattle.kd_tables.specs.Text.{letters_text};
-ghost use Rattle.kd_look.specs.Texts.{two_digits};
+//! The fixed texts of reports, in English and in German. In a template, each sign `~` stands for a value.
 
-use itoa::Buffer;
-use kd_tables::Letter;
-use std::alloc::AllocError;
+use kd_language::Text;
 
-/// Appends `number` in decimal.
-pub fn push_number(text: &mut String, number: u8) -> Result<(), AllocError>
-    ensures { OnOk result (string_bytes text.new ≡ string_bytes text.old ++ decimal number) }
-{
-    let mut buffer = Buffer::new();
-    text.push_str(buffer.format(number))
-}
+/// The rest of the first line about a machine file, and about a key sheet. The file's name stands before it.
+pub const MACHINE_FILE: Text = (
+    ": a machine file without a fault\n",
+    ": eine Maschinendatei ohne Fehler\n",
+);
 
-/// Appends `number` with at least two digits.
-#[tactic(auto, using(std::proofs::Common::append_assoc), unfolding(crate::specs::Texts::two_digits))]
-pub fn push_two_digits(text: &mut String, number: u8) -> Result<(), AllocError>
-    ensures { OnOk result (string_bytes text.new ≡ string_bytes text.old ++ two_digits number) }
-{
-    text.push_str(if number < 10 { "0" } else { "" })?;
-    push_number(text, number)
-}
+pub const KEY_SHEET: Text = (
+    ": a key sheet without a fault\n",
+    ": eine Schlüsseltafel ohne Fehler\n",
+);
 
-/// Appends `letter` as a capital letter.
-pub fn push_letter(text: &mut String, letter: Letter) -> Result<(), AllocError>
-    ensures { OnOk result (string_bytes text.new ≡ string_bytes text.old ++ letters_text (letter ∷ [])) }
-{
-    text.push(char::from(letter.byte()))
-}
+/// The words before a machine's model, and before its reflector.
+pub const MODEL: Text = ("model ", "Modell ");
 
-/// Appends `letters` as capital letters.
-#[tactic(auto, using(std::proofs::Common::append_assoc))]
-pub fn push_letters(text: &mut String, letters: &[Letter]) -> Result<(), AllocError>
-    ensures { OnOk result (string_bytes text.new ≡ string_bytes text.old ++ letters_text letters.now) }
-{
-    match letters {
-        [letter, rest @ ..] => {
-            push_letter(text, *letter)?;
-            push_letters(text, rest)
-        }
-        [] => Ok(()),
-    }
-}
+pub const REFLECTOR: Text = ("reflector ", "Umkehrwalze ");
+
+/// The names of the things on a machine that have numbers.
+pub const SLOT: Text = ("slot", "Platz");
+
+pub const CABLE: Text = ("cable", "Kabel");
+
+pub const PIN_WHEEL: Text = ("wheel", "Rad");
+
+pub const BAR: Text = ("bar", "Stange");
+
+/// The words of a slot's line: before the wheel, before its ring, and before its window letter. The next text is for a
+/// slot without a wheel.
+pub const WHEEL: Text = ("wheel ", "Walze ");
+
+pub const RING: Text = (", ring ", ", Ring ");
+
+pub const WINDOW: Text = (", window ", ", Fenster ");
+
+pub const EMPTY: Text = ("empty\n", "leer\n");
+
+/// The end of the line of a cable with one letter.
+pub const FREE_END: Text = (", one end free\n", ", ein Ende frei\n");
+
+/// The words of a pin wheel's line: before the letter that the wheel shows, and before the letters of its pins.
+pub const SHOWN: Text = ("window ", "Fenster ");
+
+pub const PINS: Text = (", effective pins:", ", wirksame Stifte:");
+
+/// The words of a line for days: before a single day, before the first of several days, and before the last of them.
+pub const DAY: Text = (": day ", ": Tag ");
+
+pub const FIRST_DAY: Text = (": days ", ": Tage ");
+
+pub const LAST_DAY: Text = (" to ", " bis ");
+
+/// The title of the lines for days without groups.
+pub const WITHOUT_GROUPS: Text = ("without groups", "ohne Kenngruppen");
+
+/// The words before the number of a fault's line.
+pub const LINE: Text = (", line ", ", Zeile ");
+
+/// The words between a file's name and a warning.
+pub const WARNING: Text = (": warning: ", ": Warnung: ");
+
+/// The rest of the line that warns of a byte order mark. The file's name stands before it.
+pub const MARK: Text = (
+    ": warning: the file begins with a byte order mark, which the desk passes over\n",
+    ": Warnung: die Datei beginnt mit einer Bytereihenfolge-Markierung; desk übergeht sie\n",
+);
+
+/// The words between a file's name and a warning of days. In English, the warning goes on with a plural's `s`.
+pub const DAY_WARNING: Text = (": warning: day", ": Warnung: Tag");
+
+/// A warning of two days, after `DAY_WARNING`. The values are the days' numbers.
+pub const ALIKE: Text = (
+    "s ~ and ~ are alike but for the number",
+    " ~ und Tag ~ sind bis auf die Nummer gleich",
+);
+
+/// The warning that a key sheet has no day for a machine. The values are the name of the machine's file, the name of
+/// the sheet's file, and the model.
+pub const NO_DAY: Text = (
+    "~: warning: ~ has no day for ~\n",
+    "~: Warnung: ~ hat keinen Tag für ~\n",
+);
+
+/// Models after the word `for`. In German, they are in the accusative. The last text is for the two models whose
+/// messages look alike.
+pub const ENIGMA_I: Text = ("an Enigma I", "eine Enigma I");
+
+pub const M3: Text = ("an M3", "eine M3");
+
+pub const M4: Text = ("an M4", "eine M4");
+
+pub const CONVERTER: Text = ("a Converter M-209", "einen Converter M-209");
+
+pub const ENIGMA_I_OR_M3: Text = ("an Enigma I or an M3", "eine Enigma I oder eine M3");
+
+/// The lines about an order, and about a form, in which no fault was found. The values are the file's name and the
+/// model.
+pub const ORDER: Text = (
+    "~: an order for ~, without a fault in its lines, its letters and its number of parts\nnot looked at: whether its keys suit the day\n",
+    "~: ein Auftrag für ~, ohne Fehler in Zeilen, Buchstaben und Zahl der Teile\nnicht geprüft: ob die Schlüssel zum Tag passen\n",
+);
+
+pub const FORM: Text = (
+    "~: a form for ~, without a fault in its headings, its signs and its counts\nnot looked at: whether its groups and indicators suit the day\n",
+    "~: ein Formular für ~, ohne Fehler in Spruchköpfen, Zeichen und Zahlen\nnicht geprüft: ob Kenngruppen und Kennbuchstaben zum Tag passen\n",
+);
+
+/// The words before the number of a message's parts, and before the number of its letters.
+pub const PARTS: Text = ("parts: ", "Teile: ");
+
+pub const LETTERS: Text = ("letters of text: ", "Buchstaben des Textes: ");
+
+/// The words of the line about a part's group: before the part's number, and before the group.
+pub const PART: Text = ("part ", "Teil ");
+
+pub const GROUP: Text = (": group ", ": Kenngruppe ");
+
+/// The words of the line that names a day with a part's group. They stand before the part's number, the day's number
+/// and the sheet's name. `GROUP` stands before the group.
+pub const OF_PART: Text = (": part ", ": Teil ");
+
+pub const OF_DAY: Text = (" is of day ", " ist von Tag ");
+
+pub const IN_SHEET: Text = (" in ", " in ");
+
+/// The words of the warning that no day has a part's group. They stand before the part's number, the sheet's name and
+/// the group.
+pub const PART_WARNING: Text = (": warning: part ", ": Warnung: Teil ");
+
+pub const NO_DAY_IN: Text = (": no day for such a machine in ", ": in ");
+
+pub const HAS_GROUP: Text = (
+    " has the group ",
+    " hat kein Tag für eine solche Maschine die Kenngruppe ",
+);
+
+/// What is wrong with an order or a form. The names are those of `Reason`.
+pub const ORDER_ENDS: Text = (
+    "the order ends before its text; above the text stands the line `TEXT`",
+    "der Auftrag endet vor seinem Text; über dem Text steht die Zeile `TEXT`",
+);
+
+pub const LINE_GOES_ON: Text = ("the line has to end here", "die Zeile muss hier enden");
+
+pub const LINE_START: Text = (
+    "a line of keys begins with `PART `, and above the text stands the line `TEXT`",
+    "eine Schlüsselzeile beginnt mit `PART `, und über dem Text steht die Zeile `TEXT`",
+);
+
+pub const OFF_WHEEL: Text = (
+    "this letter isn't on its pin wheel",
+    "dieser Buchstabe ist auf seinem Rad nicht vorhanden",
+);
+
+pub const TEXT_SIGN: Text = (
+    "a text has only capital letters and spaces",
+    "ein Text hat nur Großbuchstaben und Leerzeichen",
+);
+
+pub const NO_LETTER: Text = ("the text has no letter", "der Text hat keinen Buchstaben");
+
+pub const FEW_KEYS: Text = (
+    "the text needs more parts than there are lines of keys",
+    "der Text braucht mehr Teile, als es Schlüsselzeilen gibt",
+);
+
+pub const MANY_KEYS: Text = (
+    "the text needs fewer parts than there are lines of keys",
+    "der Text braucht weniger Teile, als es Schlüsselzeilen gibt",
+);
+
+pub const HEADING_NUMBER: Text = (
+    "a number belongs here, without a zero in front",
+    "hier gehört eine Zahl hin, ohne Null davor",
+);
+
+pub const HEADING_SLASH: Text = (
+    "a slash belongs here, as in `PART 1/2`",
+    "hier gehört ein Schrägstrich hin, wie in `PART 1/2`",
+);
+
+pub const HEADING_PARTS: Text = (
+    "the part's number is above the number of parts, or there are more than 99",
+    "die Nummer des Teils ist größer als die Zahl der Teile, oder diese ist größer als 99",
+);
+
+pub const HEADING_COUNT: Text = (
+    "no part of this machine has this number of letters",
+    "kein Teil dieser Maschine hat diese Buchstabenzahl",
+);
+
+pub const HEADING_LETTER: Text = (
+    "a capital letter belongs here, of the ground or of the enciphered key",
+    "hier gehört ein Großbuchstabe hin, von der Grundstellung oder vom verschlüsselten Spruchschlüssel",
+);
+
+pub const HEADING_SPACE: Text = ("a space belongs here", "hier gehört ein Leerzeichen hin");
+
+pub const PARTS_MIXED: Text = (
+    "this part stands at the wrong place, or belongs to another form",
+    "dieser Teil steht an der falschen Stelle oder gehört zu einem anderen Formular",
+);
+
+pub const PARTS_MISSING: Text = (
+    "the form has fewer parts than its headings say",
+    "das Formular hat weniger Teile, als seine Spruchköpfe angeben",
+);
+
+pub const BODY_SIGN: Text = (
+    "a body has only capital letters and spaces",
+    "unter einem Spruchkopf stehen nur Großbuchstaben und Leerzeichen",
+);
+
+pub const BODY_COUNT: Text = (
+    "this part has more or fewer letters than its heading says",
+    "dieser Teil hat mehr oder weniger Buchstaben, als sein Spruchkopf angibt",
+);
+
+/// The words for a missing letter, and for a missing space, in a line of keys. Each has an example of a right line, for
+/// three slots, for four slots, or for a Converter.
+pub const LETTER_FOR_THREE: Text = (
+    "a capital letter belongs here, as in `PART AAA AAA QX UGZ`",
+    "hier gehört ein Großbuchstabe hin, wie in `PART AAA AAA QX UGZ`",
+);
+
+pub const LETTER_FOR_FOUR: Text = (
+    "a capital letter belongs here, as in `PART AAAA AAAA QX UGZ`",
+    "hier gehört ein Großbuchstabe hin, wie in `PART AAAA AAAA QX UGZ`",
+);
+
+pub const LETTER_FOR_CONVERTER: Text = (
+    "a capital letter belongs here, as in `PART T ABCDEF`",
+    "hier gehört ein Großbuchstabe hin, wie in `PART T ABCDEF`",
+);
+
+pub const SPACE_FOR_THREE: Text = (
+    "a space belongs here, as in `PART AAA AAA QX UGZ`",
+    "hier gehört ein Leerzeichen hin, wie in `PART AAA AAA QX UGZ`",
+);
+
+pub const SPACE_FOR_FOUR: Text = (
+    "a space belongs here, as in `PART AAAA AAAA QX UGZ`",
+    "hier gehört ein Leerzeichen hin, wie in `PART AAAA AAAA QX UGZ`",
+);
+
+pub const SPACE_FOR_CONVERTER: Text = (
+    "a space belongs here, as in `PART T ABCDEF`",
+    "hier gehört ein Leerzeichen hin, wie in `PART T ABCDEF`",
+);

@@ -4,7 +4,9 @@ ghost use Rattle.std.specs.Prelude.{◌≡◌};
 ghost use Rattle.kd_look.specs.MessageWords.{letter_words, reason_words, space_words};
 
 use super::order_head::KeyLine;
+use crate::texts;
 use kd_form::FormFault;
+use kd_language::Language;
 
 /// A fault of an order or a form that shows without a machine.
 #[derive(Clone, Copy)]
@@ -63,56 +65,52 @@ pub enum Reason {
 
 impl Reason {
     /// What is wrong, in words.
-    pub fn words(self) -> &'static str
-        ensures { result.now ≡ reason_words self }
+    pub fn words(self, language: Language) -> &'static str
+        ensures { result.now ≡ reason_words language self }
     {
         match self {
-            Reason::OrderEnds =>
-                "the order ends before its text; above the text stands the line `TEXT`",
-            Reason::KeyLetter(form) => letter_words(form),
-            Reason::KeySpace(form) => space_words(form),
-            Reason::LineGoesOn => "the line has to end here",
-            Reason::LineStart =>
-                "a line of keys begins with `PART `, and above the text stands the line `TEXT`",
-            Reason::OffWheel => "this letter isn't on its pin wheel",
-            Reason::TextSign => "a text has only capital letters and spaces",
-            Reason::NoLetter => "the text has no letter",
-            Reason::FewKeys => "the text needs more parts than there are lines of keys",
-            Reason::ManyKeys => "the text needs fewer parts than there are lines of keys",
-            Reason::HeadingNumber => "a number belongs here, without a zero in front",
-            Reason::HeadingSlash => "a slash belongs here, as in `PART 1/2`",
-            Reason::HeadingParts =>
-                "the part's number is above the number of parts, or there are more than 99",
-            Reason::HeadingCount => "no part of this machine has this number of letters",
-            Reason::HeadingLetter =>
-                "a capital letter belongs here, of the ground or of the enciphered key",
-            Reason::HeadingSpace => "a space belongs here",
-            Reason::PartsMixed => "this part stands at the wrong place, or belongs to another form",
-            Reason::PartsMissing => "the form has fewer parts than its headings say",
-            Reason::BodySign => "a body has only capital letters and spaces",
-            Reason::BodyCount => "this part has more or fewer letters than its heading says",
+            Reason::OrderEnds => language.text(texts::ORDER_ENDS),
+            Reason::KeyLetter(form) => letter_words(language, form),
+            Reason::KeySpace(form) => space_words(language, form),
+            Reason::LineGoesOn => language.text(texts::LINE_GOES_ON),
+            Reason::LineStart => language.text(texts::LINE_START),
+            Reason::OffWheel => language.text(texts::OFF_WHEEL),
+            Reason::TextSign => language.text(texts::TEXT_SIGN),
+            Reason::NoLetter => language.text(texts::NO_LETTER),
+            Reason::FewKeys => language.text(texts::FEW_KEYS),
+            Reason::ManyKeys => language.text(texts::MANY_KEYS),
+            Reason::HeadingNumber => language.text(texts::HEADING_NUMBER),
+            Reason::HeadingSlash => language.text(texts::HEADING_SLASH),
+            Reason::HeadingParts => language.text(texts::HEADING_PARTS),
+            Reason::HeadingCount => language.text(texts::HEADING_COUNT),
+            Reason::HeadingLetter => language.text(texts::HEADING_LETTER),
+            Reason::HeadingSpace => language.text(texts::HEADING_SPACE),
+            Reason::PartsMixed => language.text(texts::PARTS_MIXED),
+            Reason::PartsMissing => language.text(texts::PARTS_MISSING),
+            Reason::BodySign => language.text(texts::BODY_SIGN),
+            Reason::BodyCount => language.text(texts::BODY_COUNT),
         }
     }
 }
 
 /// The words for a missing letter in a line of keys, with an example of a right line.
-fn letter_words(form: KeyLine) -> &'static str
-    ensures { result.now ≡ letter_words form }
+fn letter_words(language: Language, form: KeyLine) -> &'static str
+    ensures { result.now ≡ letter_words language form }
 {
     match form {
-        KeyLine::ThreeSlots => "a capital letter belongs here, as in `PART AAA AAA QX UGZ`",
-        KeyLine::FourSlots => "a capital letter belongs here, as in `PART AAAA AAAA QX UGZ`",
-        KeyLine::Converter => "a capital letter belongs here, as in `PART T ABCDEF`",
+        KeyLine::ThreeSlots => language.text(texts::LETTER_FOR_THREE),
+        KeyLine::FourSlots => language.text(texts::LETTER_FOR_FOUR),
+        KeyLine::Converter => language.text(texts::LETTER_FOR_CONVERTER),
     }
 }
 
 /// The words for a missing space in a line of keys, with an example of a right line.
-fn space_words(form: KeyLine) -> &'static str
-    ensures { result.now ≡ space_words form }
+fn space_words(language: Language, form: KeyLine) -> &'static str
+    ensures { result.now ≡ space_words language form }
 {
     match form {
-        KeyLine::ThreeSlots => "a space belongs here, as in `PART AAA AAA QX UGZ`",
-        KeyLine::FourSlots => "a space belongs here, as in `PART AAAA AAAA QX UGZ`",
-        KeyLine::Converter => "a space belongs here, as in `PART T ABCDEF`",
+        KeyLine::ThreeSlots => language.text(texts::SPACE_FOR_THREE),
+        KeyLine::FourSlots => language.text(texts::SPACE_FOR_FOUR),
+        KeyLine::Converter => language.text(texts::SPACE_FOR_CONVERTER),
     }
 }

@@ -11,8 +11,10 @@ use super::fault::MessageFault;
 use super::form::heading_follows;
 use super::form_heading::FormHeading;
 use super::order_head::{KeyLine, key_line_of};
-use crate::texts::push_letters;
+use crate::texts::{GROUP, PART};
+use crate::values::push_letters;
 use kd_findings::{place_after, push_titled};
+use kd_language::Language;
 use kd_tables::Letter;
 use std::alloc::{AllocError, Global};
 use std::marker::Model;
@@ -241,26 +243,36 @@ fn nth_letter(text: &[u8], number: usize) -> Option<Letter>
 }
 
 /// Appends a line about each group of `message`.
-pub fn push_groups(words: &mut String, message: &Option<Message>) -> Result<(), AllocError>
-    ensures { OnOk result (string_bytes words.new ≡ string_bytes words.old ++ group_lines message.now) }
+pub fn push_groups(
+    words: &mut String,
+    language: Language,
+    message: &Option<Message>,
+) -> Result<(), AllocError>
+    ensures { OnOk result (string_bytes words.new
+        ≡ string_bytes words.old ++ group_lines language message.now) }
 {
     match message {
-        Some(message) => push_numbered(words, 1, message.groups()),
+        Some(message) => push_numbered(words, language, 1, message.groups()),
         None => Ok(()),
     }
 }
 
 /// Appends a line about each of `groups`. The first group is that of part `part`.
 #[tactic(auto, using(std::proofs::Common::append_assoc))]
-fn push_numbered(words: &mut String, part: usize, groups: &[[Letter; 3]]) -> Result<(), AllocError>
+fn push_numbered(
+    words: &mut String,
+    language: Language,
+    part: usize,
+    groups: &[[Letter; 3]],
+) -> Result<(), AllocError>
     requires { part + length groups.now < 2 ^ 64 }
     ensures { OnOk result (string_bytes words.new
-        ≡ string_bytes words.old ++ numbered_lines part groups.now) }
+        ≡ string_bytes words.old ++ numbered_lines language part groups.now) }
 {
     match groups {
         [group, rest @ ..] => {
-            push_group_line(words, part, *group)?;
-            push_numbered(words, part + 1, rest)
+            push_group_line(words, language, part, *group)?;
+            push_numbered(words, language, part + 1, rest)
         }
         [] => Ok(()),
     }
@@ -268,11 +280,17 @@ fn push_numbered(words: &mut String, part: usize, groups: &[[Letter; 3]]) -> Res
 
 /// Appends the line about the group of part `part`.
 #[tactic(auto, using(std::proofs::Common::append_assoc), unfolding(crate::specs::Groups::group_line))]
-fn push_group_line(words: &mut String, part: usize, group: [Letter; 3]) -> Result<(), AllocError>
-    ensures { OnOk result (string_bytes words.new ≡ string_bytes words.old ++ group_line part group) }
+fn push_group_line(
+    words: &mut String,
+    language: Language,
+    part: usize,
+    group: [Letter; 3],
+) -> Result<(), AllocError>
+    ensures { OnOk result
+        (string_bytes words.new ≡ string_bytes words.old ++ group_line language part group) }
 {
-    push_titled(words, "part ", part)?;
-    words.push_str(": group ")?;
+    push_titled(words, language.text(PART), part)?;
+    words.push_str(language.text(GROUP))?;
     push_letters(words, &group)?;
     words.push_str("\n")
 }

@@ -3,5 +3,5 @@ use Rattle.kd_look.specs.Warnings.{WarnsOfDays}
 use Rattle.kd_look.proofs.alike.push_alike_days.Given as goal
 
 abbrev pub invariant-loop-number : goal.invariant-loop-number
-invariant-loop-number l = WarnsOfDays l.name (string_bytes l.initial.lines)
-    → WarnsOfDays l.name (string_bytes l.lines)
+invariant-loop-number l = WarnsOfDays l.wording.language l.name (string_bytes l.initial.lines)
+    → WarnsOfDays l.wording.language l.name (string_bytes l.lines)

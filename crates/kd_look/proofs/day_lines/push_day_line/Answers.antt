@@ -12,12 +12,12 @@ returns c = record {
         c.first_line.result.now,
         c.first_line.ensures.first,
         record {
-          text = day_line c.args.name.now c.first_line.result.now;
+          text = day_line c.args.language c.args.name.now c.first_line.result.now;
           fits = record { plain = c.first_line.ensures.plain; whole = refl };
           added = added;
         },
       )) c.push_line.ensures;
   warns = IfOk-weaker c.push_line.result _ _
-      (λ _ added before. warns_of_more c.args.name.now c.first_line.result.now (string_bytes c.args.lines.now)
-      (string_bytes c.push_line.new.lines) c.first_line.ensures.plain added before) c.push_line.ensures;
+      (λ _ added before. warns_of_more c.args.language c.args.name.now c.first_line.result.now
+      (string_bytes c.args.lines.now) (string_bytes c.push_line.new.lines) c.first_line.ensures.plain added before) c.push_line.ensures;
 }

@@ -10,6 +10,7 @@ use Rattle.kd_look.proofs.fault_words.fault_lines.Goals as goal
 
 pub returns : goal.returns
 returns c =
+    let l = c.args.wording.language in
     let name = c.args.name.now in
     let bytes = c.args.bytes.now in
     let empty = string_bytes c.new-text.result in
@@ -23,7 +24,7 @@ returns c =
       c.as_slice.ensures.value,
       c.as_slice-2.ensures.value,
     ) in
-    let lines = subst (λ list. AppendsText (AreFaultLines name bytes (faults_of list)) empty text)
+    let lines = subst (λ list. AppendsText (AreFaultLines l name bytes (faults_of list)) empty text)
     c.as_slice-2.ensures.value (c.in_ok-push_findings.ensures bytes of_lines) in
-    AreLinesFor-document name bytes text empty (table_view c.args.document.now) c.args.fault
+    AreLinesFor-document l name bytes text empty (table_view c.args.document.now) c.args.fault
     (faults_of c.in_ok-findings.findings.items) c.requires found.faults found.first c.new-text.ensures.bytes lines

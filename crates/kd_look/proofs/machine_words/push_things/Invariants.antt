@@ -5,4 +5,4 @@ use Rattle.kd_look.proofs.machine_words.push_things.Given as goal
 
 abbrev pub invariant-loop-index : goal.invariant-loop-index
 invariant-loop-index l = string_bytes l.text
-    ≡ string_bytes l.initial.text ++ flat_map (thing_words l.machine l.thing) (range_with_len 1 l.index)
+    ≡ string_bytes l.initial.text ++ flat_map (thing_words l.language l.machine l.thing) (range_with_len 1 l.index)

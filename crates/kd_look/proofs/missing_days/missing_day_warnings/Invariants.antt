@@ -6,4 +6,4 @@ use Rattle.kd_look.proofs.missing_days.missing_day_warnings.Given as goal
 -- the lines on the files so far
 abbrev pub invariant-loop-file : goal.invariant-loop-file
 invariant-loop-file l = string_bytes l.lines
-    ≡ flat_map (missing_lines (map known_of l.files)) (map known_of (take l.file-index l.files))
+    ≡ flat_map (missing_lines l.wording.language (map known_of l.files)) (map known_of (take l.file-index l.files))

@@ -5,5 +5,5 @@ use Rattle.kd_look.proofs.sheet_words.push_sort.Goals as goal
 
 pub loop-index-preserved : goal.loop-index-preserved
 loop-index-preserved c =
-    let more = one_more (numbered_day_words c.args.sheet.now c.args.title.now c.args.sort) 1 c.loop-index.index in
-    grind (arith, more, append_assoc)
+    let words = numbered_day_words c.args.language c.args.sheet.now c.args.title.now c.args.sort in
+    let more = one_more words 1 c.loop-index.index in grind (arith, more, append_assoc)
