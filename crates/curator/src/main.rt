@@ -10,11 +10,19 @@ use std::process::ExitCode;
 
 fn main(rt: HostRuntime) -> ExitCode {
     let mut errors = WriterSink::new(rt.stderr());
-    let status = match words_and_language(&rt) {
-        Ok((words, language)) => run_on_host(&rt, language, words.as_slice(), &mut errors),
-        Err(stop) => end_program(&Err(stop), &[], &mut errors),
+    let status = match language(&rt) {
+        Ok(language) => run_in(&rt, language, &mut errors),
+        Err(stop) => end_program(Language::English, &Err(stop), &[], &mut errors),
     };
     ExitCode::from(status)
+}
+
+/// Runs the program on a computer with the language `language`, and returns the exit status.
+fn run_in<E: Sink>(rt: &HostRuntime, language: Language, errors: &mut E) -> u8 {
+    match words(rt, language) {
+        Ok(words) => run_on_host(rt, language, words.as_slice(), errors),
+        Err(stop) => end_program(language, &Err(stop), &[], errors),
+    }
 }
 
 /// Runs the program on the host's files, folders and standard output, and returns the exit status.
@@ -42,15 +50,7 @@ fn run_on_host<E: Sink>(
     status
 }
 
-/// The command line, and the language in which pages are written.
-fn words_and_language(rt: &HostRuntime) -> Result<(Vec<String>, Language), Stop> {
-    let words = words(rt)?;
-    let language = language(rt)?;
-    Ok((words, language))
-}
-
-/// The language in which pages are written, from the environment variable `LANG`. It is English if `LANG` is missing,
-/// or isn't UTF-8.
+/// The computer's language, from the environment variable `LANG`. It is English if `LANG` is missing, or isn't UTF-8.
 fn language(rt: &HostRuntime) -> Result<Language, Stop> {
     match env::var(rt, "LANG") {
         Ok(locale) => Ok(language_of(locale.as_str())),
@@ -59,11 +59,11 @@ fn language(rt: &HostRuntime) -> Result<Language, Stop> {
     }
 }
 
-/// The command line: the program's own name, then the arguments.
-fn words(rt: &HostRuntime) -> Result<Vec<String>, Stop> {
+/// The command line: the program's own name, then the arguments. If it can't be read, the reason is in `language`.
+fn words(rt: &HostRuntime, language: Language) -> Result<Vec<String>, Stop> {
     let args = match env::args(rt) {
         Ok(args) => args,
-        Err(error) => return Err(Stop::of_words(rt.alloc(), &error)),
+        Err(error) => return Err(Stop::of_words(rt.alloc(), language, &error)),
     };
     match args.collect(rt.alloc()) {
         Ok(words) => Ok(words),

@@ -10,7 +10,7 @@ use Rattle.kd_host.specs.Files.{AskedName}
 use Rattle.kd_new_file.specs.NewFiles.{AddsFile, FilesByName}
 use Rattle.kd_new_file.specs.declared.new_file_fault.NewFileFault.{NewFileFault}
 use Rattle.kd_language.specs.declared.language.Language.{Language}
-use Rattle.kd_curator_command.specs.CommandLine.{IsNoCommandLine, curator_grammar}
+use Rattle.kd_curator_command.specs.CommandLine.{IsNoCommandLine, chosen_language, curator_grammar}
 use Rattle.kd_curator.specs.Ending.{EndsAs, stop_after}
 use Rattle.kd_curator.specs.OutputFile.{Discarded, EndsFile, EndsWithFile, IsRunToFile, IsWhyUnwritten, Published, Unwritten, unwritten_line}
 use Rattle.kd_curator.specs.Program.{AnswersAfter, Carried, CarriesOut, FileUnread, IsRun, NoMemory, OtherWords, Shown}
@@ -86,7 +86,7 @@ module _ (l : Language) (words : List (List ℕ)) (known : Option (List ℕ → 
   }
 
   well : (whole : Bool) → is_whole answer ≡ whole → EndsFile before after name has has_failed whole (Ok tt)
-      → (left : List ℕ) → Runs left → EndsAs names answer (at_last errors told failed) status
+      → (left : List ℕ) → Runs left → EndsAs (chosen_language l words) names answer (at_last errors told failed) status
       → EndsWithFile l words known asked before after name names errors status
   well true whole adds left run ends =
       let none = none_left l words known asked (file left) left answer run.carried whole in
@@ -97,7 +97,7 @@ module _ (l : Language) (words : List (List ℕ)) (known : Option (List ℕ → 
 
   badly : (whole : Bool) → is_whole answer ≡ whole → (fault : NewFileFault)
       → EndsFile before after name has has_failed whole (Err fault) → (left : List ℕ) → Runs left
-      → EndsWithLine (unwritten_line name fault) 1 (at_last errors told failed) status
+      → EndsWithLine (unwritten_line (chosen_language l words) name fault) 1 (at_last errors told failed) status
       → EndsWithFile l words known asked before after name names errors status
   badly true whole fault (same, why) left run ends =
       Unwritten (file left) left answer told failed (run_so left run) fault
@@ -107,11 +107,11 @@ module _ (l : Language) (words : List (List ℕ)) (known : Option (List ℕ → 
       (subst (λ all. IsWhyUnwritten before name all has_failed fault) (sym whole) (bad, device)) same ends
 
   pub ends_well : EndsFile before after name has has_failed (is_whole answer) (Ok tt) → (left : List ℕ) → Runs left
-      → EndsAs names answer (at_last errors told failed) status
+      → EndsAs (chosen_language l words) names answer (at_last errors told failed) status
       → EndsWithFile l words known asked before after name names errors status
   ends_well ended left run ends = well (is_whole answer) refl ended left run ends
 
   pub ends_badly : (fault : NewFileFault) → EndsFile before after name has has_failed (is_whole answer) (Err fault)
-      → (left : List ℕ) → Runs left → EndsWithLine (unwritten_line name fault) 1 (at_last errors told failed) status
+      → (left : List ℕ) → Runs left → EndsWithLine (unwritten_line (chosen_language l words) name fault) 1 (at_last errors told failed) status
       → EndsWithFile l words known asked before after name names errors status
   ends_badly fault ended left run ends = badly (is_whole answer) refl fault ended left run ends

@@ -30,10 +30,10 @@ use Rattle.kd_curator.specs.Sheets.{MakesSheet, Sheet, Faulty, NoMemory as NoShe
 use Rattle.kd_spreadsheet.specs.Options.{OptionTexts}
 use Rattle.kd_language.specs.declared.language.Language.{Language}
 use Rattle.kd_pictures.specs.declared.results.Results.{Results}
-use Rattle.kd_curator_command.specs.CommandLine.{NamedCommand}
+use Rattle.kd_curator_command.specs.CommandLine.{NamedCommand, chosen_language}
 use Rattle.kd_curator_command.specs.declared.command.Command.TheVariants as commands
 use Rattle.kd_curator.specs.RunList.{WritesList, NoList, Settings}
-use Rattle.std.specs.Prelude.{drop, unwrap_or}
+use Rattle.std.specs.Prelude.{drop}
 use Rattle.kd_curator.specs.Program.{WritesMessage}
 use Rattle.kd_message.specs.SendBooklet.{OrderText}
 use Rattle.kd_curator.specs.RunOrders.{WritesOrders, order_texts}
@@ -94,9 +94,8 @@ module _ (one other : Port) (before : one.had ≡ other.had) (after : Keeps one.
 
   task_kept : (l : Language) (task : Task) (name machine sheet : List ℕ) (told : Result (Unit {0}) Refused)
       → DoesTask l task name machine sheet one told → DoesTask l task name machine sheet other told
-  task_kept l (tasks.Page days chosen) name machine sheet told does =
-      on_kept (machine_and_month machine sheet) _ _ told
-      (λ both. pages_kept (unwrap_or chosen l) name both.1 both.0 _ told) does
+  task_kept l (tasks.Page days) name machine sheet told does =
+      on_kept (machine_and_month machine sheet) _ _ told (λ both. pages_kept l name both.1 both.0 _ told) does
   task_kept l (tasks.List day) name machine sheet told does =
       on_kept (machine_and_month machine sheet) _ _ told (λ both. list_kept both.1 both.0 day told) does
 
@@ -176,14 +175,14 @@ module _ (one other : Port) (before : one.had ≡ other.had) (after : Keeps one.
       task_kept l task sheet (text_at texts 0) (text_at texts 1) told does
   command_kept l (commands.Message machine sheet message task) texts told does =
       on_kept (machine_and_month (text_at texts 0) (text_at texts 1)) _ _ told
-      (λ both. message_kept task.direction task.results (unwrap_or task.language l) (day_of both.1 task.day) both.0 (text_at texts 2) told) does
+      (λ both. message_kept task.direction task.results l (day_of both.1 task.day) both.0 (text_at texts 2) told) does
   command_kept l (commands.Orders machine sheet orders task) texts told does =
       on_kept (machine_and_month (text_at texts 0) (text_at texts 1)) _ _ told
-      (λ both. orders_kept task.results (unwrap_or task.language l) (day_of both.1 task.day) both.0
+      (λ both. orders_kept task.results l (day_of both.1 task.day) both.0
       (order_texts orders.items (drop 2 texts)) told) does
-  command_kept l (commands.TypingPage machine chosen) texts told does =
-      on_kept (machine_in (text_at texts 0)) _ _ told (λ m. typing_page_kept (unwrap_or chosen l) m told) does
-  command_kept l (commands.Table sheet form chosen) texts told does =
+  command_kept l (commands.TypingPage machine) texts told does =
+      on_kept (machine_in (text_at texts 0)) _ _ told (λ m. typing_page_kept l m told) does
+  command_kept l (commands.Table sheet form) texts told does =
       on_kept (month_in 0 (text_at texts 0)) _ _ told (λ month. text_kept refused_device _ told) does
   command_kept l (commands.Sheet table options) texts told does = sheet_kept options (text_at texts 0) told does
   command_kept l (commands.Look files) texts told does =
@@ -298,7 +297,7 @@ module _ (l : Language) (words : List (List ℕ)) (known : Option (List ℕ → 
   pub carried_on : CarriesOut l words known asked one [] done → CarriesOut l words known asked other left answer
   carried_on (Carried command says texts many knows asks told) =
       Carried command says texts many knows asks (told_on left done answer ends _ _
-      (λ t. command_kept one other before after l command texts t) told)
+      (λ t. command_kept one other before after (chosen_language l words) command texts t) told)
   carried_on (FileUnread command says fault place why knows asks last is) =
       FileUnread command says fault place why knows asks last (stops_on left done answer ends _ refl is)
   carried_on (Shown text kind among help none told) =

@@ -1,6 +1,8 @@
 -- The file that a refusal is about, and what the refusal says of it.
 -- Test: tests/cases/curator-files.toml
-use Rattle.std.specs.Prelude.{codes, ℕ, List, Option, Some, None}
+use Rattle.std.specs.Prelude.{ℕ, List, Option, Some, None}
+use Rattle.kd_language.specs.declared.language.Language.{Language}
+use Rattle.kd_language.specs.Language.{text_in}
 use Rattle.kd_host.specs.declared.file_fault.FileFault.{FileFault}
 use Rattle.kd_host.specs.declared.file_fault.FileFault.TheVariants as files
 use Rattle.kd_new_file.specs.declared.why_unread.WhyUnread.{WhyUnread}
@@ -9,24 +11,25 @@ use Rattle.kd_curator.specs.declared.blame.Blame.{Blame}
 use Rattle.kd_curator.specs.declared.blame.Remark.{Remark}
 use Rattle.kd_curator.specs.declared.blame.Remark.TheVariants.{KeySheet, MachineFile, MachineForSheet, Named, Order}
 use Rattle.kd_curator.specs.declared.blame.Remark.TheVariants.{SheetForMachine, TooLong, Unread}
+use Rattle.kd_curator.specs.declared.texts.TheConstants as texts
 
 -- the words that say why a file can't be read; the file's name stands after them
-abbrev pub why_words : WhyUnread → List ℕ
-why_words NotThere = codes ": there is no file "
-why_words Folder = codes ": not a file, but the folder "
-why_words NotAllowed = codes ": you may not read "
-why_words Other = codes ": can't read "
+abbrev pub why_words : Language → WhyUnread → List ℕ
+why_words l NotThere = text_in l texts.NOT_THERE
+why_words l Folder = text_in l texts.FOLDER
+why_words l NotAllowed = text_in l texts.NOT_ALLOWED
+why_words l Other = text_in l texts.UNREADABLE
 
 -- the words of a remark; a refusal's text stands before them, and the file's name after them
-abbrev pub remark_words : Remark → List ℕ
-remark_words (Unread why) = why_words why
-remark_words TooLong = codes ": too many bytes in "
-remark_words MachineFile = codes ": in the machine file "
-remark_words SheetForMachine = codes ": a machine file is needed here, not the key sheet "
-remark_words KeySheet = codes ": in the key sheet "
-remark_words MachineForSheet = codes ": a key sheet is needed here, not the machine file "
-remark_words Order = codes ": in the order "
-remark_words Named = codes ": "
+abbrev pub remark_words : Language → Remark → List ℕ
+remark_words l (Unread why) = why_words l why
+remark_words l TooLong = text_in l texts.TOO_LONG
+remark_words l MachineFile = text_in l texts.MACHINE_FILE
+remark_words l SheetForMachine = text_in l texts.SHEET_FOR_MACHINE
+remark_words l KeySheet = text_in l texts.KEY_SHEET
+remark_words l MachineForSheet = text_in l texts.MACHINE_FOR_SHEET
+remark_words l Order = text_in l texts.ORDER
+remark_words l Named = texts.NAMED.now
 
 -- a remark on the file at place `place` among the command's files, counted from 0
 abbrev pub blame_on : ℕ → Remark → Option Blame

@@ -14,8 +14,8 @@ abbrev pub names_of : NamedCommand → List (List ℕ)
 names_of (commands.OnMachine machine sheet task) = machine ∷ sheet ∷ []
 names_of (commands.Message machine sheet message task) = machine ∷ sheet ∷ message ∷ []
 names_of (commands.Orders machine sheet orders task) = machine ∷ sheet ∷ orders.items
-names_of (commands.TypingPage machine language) = machine ∷ []
-names_of (commands.Table sheet form language) = sheet ∷ []
+names_of (commands.TypingPage machine) = machine ∷ []
+names_of (commands.Table sheet form) = sheet ∷ []
 names_of (commands.Sheet table options) = table ∷ []
 names_of (commands.Look files) = files.items
 names_of (commands.EmptySheet model days) = []

@@ -1,7 +1,7 @@
 -- The output file that the option `-o` names: the file is there exactly if the whole output was written.
 -- Code: the command writes to a new file under another name. This file then gets the output file's name, or is removed.
 -- Test: tests/new-files
-use Rattle.std.specs.Prelude.{codes, ◌≡◌, ◌⊎◌, ℕ, Bool, true, false, List, [], ◌∷◌, ◌++◌, Option, Some, None, option_map}
+use Rattle.std.specs.Prelude.{◌≡◌, ◌⊎◌, ℕ, Bool, true, false, List, [], ◌∷◌, ◌++◌, Option, Some, None, option_map}
 use Rattle.std.specs.Prelude.{Result, Ok, Err}
 use Rattle.kd_tables.specs.Ports.{Port}
 use Rattle.kd_tables.specs.Refusals.{refusal_name}
@@ -12,21 +12,25 @@ use Rattle.kd_new_file.specs.NewFiles.{AddsFile, FilesByName, IsWhyNotBegun, IsW
 use Rattle.kd_new_file.specs.declared.new_file_fault.NewFileFault.{NewFileFault}
 use Rattle.kd_new_file.specs.declared.new_file_fault.NewFileFault.TheVariants as new_files
 use Rattle.kd_language.specs.declared.language.Language.{Language}
-use Rattle.kd_curator_command.specs.CommandLine.{IsCommandLineOf, IsNoCommandLine, NamedCommand, output_of}
-use Rattle.kd_curator.specs.Ending.{EndsAs, memory_stop}
+use Rattle.kd_language.specs.Language.{text_in}
+use Rattle.kd_curator_command.specs.CommandLine.{IsCommandLineOf, NamedCommand, chosen_language, output_of}
+use Rattle.kd_curator.specs.Ending.{EndsAs}
 use Rattle.kd_curator.specs.Files.{names_of}
-use Rattle.kd_curator.specs.Program.{HasEnded, IsRun, at_first, at_last, is_whole}
+use Rattle.kd_curator.specs.Program.{HasEnded, IsRun, LacksCommand, at_first, at_last, is_whole}
 use Rattle.kd_curator.specs.declared.stop.Stop.{Stop}
+use Rattle.kd_curator.specs.declared.texts.TheConstants as texts
 
 -- the words that say why there is no new file; the file's name stands after them
-abbrev pub unwritten_words : NewFileFault → List ℕ
-unwritten_words new_files.Taken = codes "refused because there is already a file "
-unwritten_words new_files.Device = codes "refused " ++ (refusal_name refusals.Device ++ codes ": can't write ")
-unwritten_words new_files.NoMemory = codes "refused " ++ (refusal_name refusals.NoMemory ++ codes ": can't write ")
+abbrev pub unwritten_words : Language → NewFileFault → List ℕ
+unwritten_words l new_files.Taken = text_in l texts.REFUSED ++ text_in l texts.TAKEN
+unwritten_words l new_files.Device =
+    text_in l texts.REFUSED ++ (refusal_name refusals.Device ++ text_in l texts.UNWRITTEN)
+unwritten_words l new_files.NoMemory =
+    text_in l texts.REFUSED ++ (refusal_name refusals.NoMemory ++ text_in l texts.UNWRITTEN)
 
--- the line on standard error that says why there is no new file `name`
-abbrev pub unwritten_line : List ℕ → NewFileFault → List ℕ
-unwritten_line name fault = unwritten_words fault ++ (name ++ 10 ∷ [])
+-- the line on standard error that says why there is no new file `name`, in language `l`
+abbrev pub unwritten_line : Language → List ℕ → NewFileFault → List ℕ
+unwritten_line l name fault = unwritten_words l fault ++ (name ++ 10 ∷ [])
 
 -- The command's output went to a new file, which was empty before. `written` is this file before and after the command.
 -- `answer` is the command's answer. The bytes `left` are those that the file didn't take.
@@ -51,34 +55,41 @@ IsWhyUnwritten before name false failed fault = (failed ≡ true) × (fault ≡ 
 -- - `Discarded`: the command stopped before the whole output was written, and no write failed.
 -- - `Unwritten`: a write failed, or the file couldn't get its name, for the reason `fault`.
 --
--- In all cases but `Published`, the files are as before.
+-- In all cases but `Published`, the files are as before. The text on standard error is in the language of the command
+-- line, which is `l` unless the words ask for another language.
 pub data EndsWithFile (l : Language) (words : List (List ℕ)) (known : Option (List ℕ → Option (List ℕ)))
     (asked : List AskedName) (before after : Option FilesByName) (name : List ℕ) (names : List (List ℕ)) (errors : Port)
     (status : ℕ) : Type 0 where
   NotBegun : (fault : NewFileFault) → IsWhyNotBegun before name fault → after ≡ before → asked ≡ []
-      → EndsWithLine (unwritten_line name fault) 1 errors status
+      → EndsWithLine (unwritten_line (chosen_language l words) name fault) 1 errors status
       → EndsWithFile l words known asked before after name names errors status
   Published : (written : Port) (answer : Result (Unit {0}) Stop) (told : Option (List ℕ)) (failed : Bool)
       → IsRunToFile l words known asked before written (at_first errors told failed) [] answer
       → is_whole answer ≡ true → AddsFile before after name written.has
-      → EndsAs names answer (at_last errors told failed) status
+      → EndsAs (chosen_language l words) names answer (at_last errors told failed) status
       → EndsWithFile l words known asked before after name names errors status
   Discarded : (written : Port) (left : List ℕ) (answer : Result (Unit {0}) Stop) (told : Option (List ℕ)) (failed : Bool)
       → IsRunToFile l words known asked before written (at_first errors told failed) left answer
       → is_whole answer ≡ false → written.has_failed ≡ false → after ≡ before
-      → EndsAs names answer (at_last errors told failed) status
+      → EndsAs (chosen_language l words) names answer (at_last errors told failed) status
       → EndsWithFile l words known asked before after name names errors status
   Unwritten : (written : Port) (left : List ℕ) (answer : Result (Unit {0}) Stop) (told : Option (List ℕ)) (failed : Bool)
       → IsRunToFile l words known asked before written (at_first errors told failed) left answer
       → (fault : NewFileFault) → IsWhyUnwritten before name (is_whole answer) written.has_failed fault
-      → after ≡ before → EndsWithLine (unwritten_line name fault) 1 (at_last errors told failed) status
+      → after ≡ before → EndsWithLine (unwritten_line (chosen_language l words) name fault) 1 (at_last errors told failed) status
       → EndsWithFile l words known asked before after name names errors status
 
 -- The output goes to the sink because the command line names no output file or means no command, or because memory ran
 -- out.
 abbrev pub GoesToSink : List (List ℕ) → Result (Unit {0}) Stop → Type 0
-GoesToSink words answer =
-    (output_of words ≡ None) ⊎ (IsNoCommandLine words ⊎ (answer ≡ Err memory_stop))
+GoesToSink words answer = (output_of words ≡ None) ⊎ LacksCommand words answer
+
+-- How the program ends if the output went to the sink.
+abbrev pub EndsAtSink : Language → List (List ℕ) → Option (List ℕ → Option (List ℕ)) → List AskedName → (List ℕ → Port)
+    → Type 0 → Port → ℕ → Type 0
+EndsAtSink l words known asked sink Untouched errors status = HasEnded l words
+    (λ told left answer. GoesToSink words answer × IsRun l words known asked (sink left) Untouched told left answer)
+    errors status
 
 -- How the program ends.
 -- - `ToSink`: the output went to the sink, and no file was made.
@@ -86,8 +97,7 @@ GoesToSink words answer =
 pub data RunsTo (l : Language) (words : List (List ℕ)) (known : Option (List ℕ → Option (List ℕ)))
     (asked : List AskedName) (before after : Option FilesByName) (sink : List ℕ → Port) (Untouched : Type 0)
     (errors : Port) (status : ℕ) : Type 0 where
-  ToSink : HasEnded words (λ told left answer. GoesToSink words answer
-      × IsRun l words known asked (sink left) Untouched told left answer) errors status → after ≡ before
+  ToSink : EndsAtSink l words known asked sink Untouched errors status → after ≡ before
       → RunsTo l words known asked before after sink Untouched errors status
   ToFile : (name : List ℕ) → output_of words ≡ Some name → (command : NamedCommand) → IsCommandLineOf words command
       → Untouched → EndsWithFile l words known asked before after name (names_of command) errors status
@@ -98,6 +108,13 @@ pub data RunsTo (l : Language) (words : List (List ℕ)) (known : Option (List �
 -- There is a command line that means `command`.
 abbrev pub IsMeantBySome : NamedCommand → Type 0
 IsMeantBySome command = (words : List (List ℕ)) × IsCommandLineOf words command
+
+-- The command line `words` means `command`. On a computer with the language `l`, the command line's language is
+-- `its_language`.
+pub record IsMeantIn (l : Language) (words : List (List ℕ)) (its_language : Language) (command : NamedCommand) : Type 0
+  where
+    pub said : IsCommandLineOf words command
+    pub language : its_language ≡ chosen_language l words
 
 -- How a command that wrote `bytes` to a new file changes the files. The first truth value,
 -- `failed`, says whether a write failed. The second says whether the whole output was written. If

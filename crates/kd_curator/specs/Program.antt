@@ -2,7 +2,7 @@
 -- Code: `run_curator` parses the words; `run_command` reads the files, and carries out the command.
 -- Test: tests/cases/curator-pages.toml
 use Rattle.std.specs.Prelude.{◌≡◌, ◌⊎◌, ◌+◌, ◌≤◌, ◌||◌, not, ℕ, Bool, true, false, List, [], ◌∷◌, drop, length, Option, None, IfSome}
-use Rattle.std.specs.Prelude.{Result, Ok, Err, IsTrue, unwrap_or}
+use Rattle.std.specs.Prelude.{Result, Ok, Err, IsTrue}
 use Rattle.std.specs.Io.KnownBytes.{append_known}
 use Rattle.clap.specs.Words.{IsAmong, fault_of}
 use Rattle.clap.specs.declared.error.kind.ErrorKind.{ErrorKind}
@@ -18,7 +18,7 @@ use Rattle.kd_spreadsheet.specs.Options.{OptionTexts}
 use Rattle.kd_state.specs.Machine.{model_of}
 use Rattle.kd_tables.specs.Ports.{Port}
 use Rattle.kd_curator_command.specs.CommandLine.{AsksForHelp, IsCommandLineOf, IsNoCommandLine, NamedCommand}
-use Rattle.kd_curator_command.specs.CommandLine.{curator_grammar}
+use Rattle.kd_curator_command.specs.CommandLine.{chosen_language, curator_grammar}
 use Rattle.kd_curator_command.specs.CommandLine.{is_help}
 use Rattle.kd_curator.specs.Ending.{EndsAs, blame_of, memory_stop, stop_after}
 use Rattle.kd_curator.specs.Files.{contents_of, names_of, text_at}
@@ -49,11 +49,10 @@ use Rattle.kd_curator.specs.declared.stop.Stop.{Stop}
 use Rattle.kd_curator.specs.declared.stop.Stop.TheVariants as stops
 
 -- The task writes its output to `sink`, and its answer is `answer`. `machine` and `sheet` are the bytes of the machine
--- file and the key sheet. `name` is the name of the key sheet's file. Words are in language `l`, unless the task asks
--- for another language.
+-- file and the key sheet. `name` is the name of the key sheet's file. Words are in language `l`.
 abbrev pub DoesTask : Language → Task → List ℕ → List ℕ → List ℕ → Port → Result (Unit {0}) Refused → Type 0
-DoesTask l (tasks.Page days chosen) name machine sheet sink answer = IsAnswerOnSheet machine sheet
-    (λ m month. WritesPages (unwrap_or chosen l) name month m (wanted_days days (model_of m) month) sink answer) answer
+DoesTask l (tasks.Page days) name machine sheet sink answer = IsAnswerOnSheet machine sheet
+    (λ m month. WritesPages l name month m (wanted_days days (model_of m) month) sink answer) answer
 DoesTask l (tasks.List day) name machine sheet sink answer = IsAnswerOnSheet machine sheet
     (λ m month. WritesList month m day sink answer) answer
 
@@ -67,16 +66,14 @@ WritesMessage Receive results l day m form sink answer =
     WritesReceivePage results l day m form sink answer
 
 -- The task writes its output to `sink`, and its answer is `answer`. `machine`, `sheet` and `message` are the bytes of
--- the machine file, the key sheet and the message. Words are in language `l`, unless the task asks for another
--- language.
+-- the machine file, the key sheet and the message. Words are in language `l`.
 abbrev pub WorksMessage : Language → MessageTask → List ℕ → List ℕ → List ℕ → Port → Result (Unit {0}) Refused → Type 0
 WorksMessage l task machine sheet message sink answer = IsAnswerOnSheet machine sheet
-    (λ m month. WritesMessage task.direction task.results (unwrap_or task.language l) (day_of month task.day) m message sink
-    answer)
+    (λ m month. WritesMessage task.direction task.results l (day_of month task.day) m message sink answer)
     answer
 
 -- The command writes its output to `sink`, and its answer is `answer`. `texts` are the bytes of the command's files, in
--- the order of the files. Words are in language `l`, unless the command asks for another language.
+-- the order of the files. Words are in language `l`.
 abbrev pub DoesCommand : Language → NamedCommand → List (List ℕ) → Port → Result (Unit {0}) Refused → Type 0
 DoesCommand l (commands.OnMachine machine sheet task) texts sink answer =
     DoesTask l task sheet (text_at texts 0) (text_at texts 1) sink answer
@@ -84,10 +81,9 @@ DoesCommand l (commands.Message machine sheet message task) texts sink answer =
     WorksMessage l task (text_at texts 0) (text_at texts 1) (text_at texts 2) sink answer
 DoesCommand l (commands.Orders machine sheet orders task) texts sink answer =
     SendsOrders l task (text_at texts 0) (text_at texts 1) (order_texts orders.items (drop 2 texts)) sink answer
-DoesCommand l (commands.TypingPage machine chosen) texts sink answer =
-    IsAnswerOn (machine_in (text_at texts 0)) (λ m. WritesTypingPage (unwrap_or chosen l) m sink answer) answer
-DoesCommand l (commands.Table sheet form chosen) texts sink answer =
-    WritesTables (unwrap_or chosen l) form (text_at texts 0) sink answer
+DoesCommand l (commands.TypingPage machine) texts sink answer =
+    IsAnswerOn (machine_in (text_at texts 0)) (λ m. WritesTypingPage l m sink answer) answer
+DoesCommand l (commands.Table sheet form) texts sink answer = WritesTables l form (text_at texts 0) sink answer
 DoesCommand l (commands.Sheet table options) texts sink answer = MakesSheet options (text_at texts 0) sink answer
 DoesCommand l (commands.Look files) texts sink answer =
     Looks (named_texts files.items texts) sink answer
@@ -141,7 +137,8 @@ is_usage (Err (stops.Usage text)) = true
 is_usage _ = false
 
 -- How a command line is carried out.
--- - `Carried`: the line's command was carried out, with the bytes `texts` of its files.
+-- - `Carried`: the line's command was carried out, with the bytes `texts` of its files. Words are in language `l`,
+--   unless the line asks for another language.
 -- - `FileUnread`: a file of the command couldn't be read. The program asked for no later file, and the answer has a
 --   remark on the unread file.
 -- - `Shown`: the words ask for help or for the version.
@@ -153,7 +150,7 @@ pub data CarriesOut (l : Language) (words : List (List ℕ)) (known : Option (Li
       → length texts ≡ length (names_of command)
       → IfSome known (λ held. AgreesOrNoMemory files.NoMemory (contents_of held (names_of command)) (Ok texts))
       → AreAskedFor (names_of command) [] asked true
-      → IsTold (DoesCommand l command texts sink) left answer
+      → IsTold (DoesCommand (chosen_language l words) command texts sink) left answer
       → CarriesOut l words known asked sink left answer
   FileUnread : (command : NamedCommand) → IsCommandLineOf words command → (fault : FileFault) (place : ℕ)
       (why : WhyUnread)
@@ -227,19 +224,34 @@ abbrev pub AreNamesFor : List (List ℕ) → List (List ℕ) → Result (Unit {0
 AreNamesFor words names answer =
     ((command : NamedCommand) × IsCommandLineOf words command × (names ≡ names_of command)) ⊎ (blame_of answer ≡ None)
 
+-- The words mean no command, or memory ran out before a command was known.
+abbrev pub LacksCommand : List (List ℕ) → Result (Unit {0}) Stop → Type 0
+LacksCommand words answer = IsNoCommandLine words ⊎ (answer ≡ Err memory_stop)
+
+-- `language` is the language of the program's text on standard error, on a computer with the language `l`. Either the
+-- words mean a command, and the language is that of the command line. Or the words mean no command, or memory ran out
+-- before a command was known; then the language is `l`.
+abbrev pub IsLanguageFor : Language → List (List ℕ) → Result (Unit {0}) Stop → Language → Type 0
+IsLanguageFor l words answer language =
+    ((command : NamedCommand) × IsCommandLineOf words command × (language ≡ chosen_language l words))
+    ⊎ (LacksCommand words answer × (language ≡ l))
+
 -- The program's answer satisfies `IsSo`. The program ends with the text and the exit status for this answer. `left` are
 -- the gathered bytes that the sink didn't take. When the answer was known, standard error had taken the bytes `told`,
--- and `failed` says whether standard error had failed. `names` are the names of the command's files.
-pub record HasEnded (words : List (List ℕ)) (IsSo : Port → List ℕ → Result (Unit {0}) Stop → Type 0) (errors : Port)
-    (status : ℕ) : Type 0 where
+-- and `failed` says whether standard error had failed. `names` are the names of the command's files. `language` is the
+-- text's language, on a computer with the language `l`.
+pub record HasEnded (l : Language) (words : List (List ℕ)) (IsSo : Port → List ℕ → Result (Unit {0}) Stop → Type 0)
+    (errors : Port) (status : ℕ) : Type 0 where
   pub left : List ℕ
   pub answer : Result (Unit {0}) Stop
   pub told : Option (List ℕ)
   pub failed : Bool
   pub names : List (List ℕ)
+  pub language : Language
   pub is_so : IsSo (at_first errors told failed) left answer
   pub named : AreNamesFor words names answer
-  pub ends : EndsAs names answer (at_last errors told failed) status
+  pub spoken : IsLanguageFor l words answer language
+  pub ends : EndsAs language names answer (at_last errors told failed) status
 
 -- ---- What inner functions require and tell. No public contract cites these definitions.
 

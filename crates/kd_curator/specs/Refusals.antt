@@ -1,6 +1,6 @@
 -- The reasons why a command is refused, and the texts of refusals.
 -- Test: tests/cases/curator-pages.toml
-use Rattle.std.specs.Prelude.{codes, ℕ, ◌+◌, Bool, true, false, List, Option, Some, None, Result, Ok, Err, if◌then◌else◌}
+use Rattle.std.specs.Prelude.{ℕ, ◌+◌, Bool, true, false, List, Option, Some, None, Result, Ok, Err, if◌then◌else◌}
 use Rattle.kd_tables.specs.declared.refusal.Refusal.TheVariants as refusals
 use Rattle.kd_tables.specs.Refusals.{refusal_name}
 use Rattle.kd_tables.specs.declared.ports.write_fault.WriteFault.{WriteFault}
@@ -21,6 +21,8 @@ use Rattle.kd_lost.specs.declared.form.DamagedFormFault.TheVariants as damages
 use Rattle.kd_message.specs.declared.booklet.OrderFault.{OrderFault}
 use Rattle.kd_spreadsheet.specs.declared.fault.SpreadsheetFault.{SpreadsheetFault}
 use Rattle.kd_spreadsheet.specs.declared.fault.SpreadsheetFault.TheVariants as spreadsheets
+use Rattle.kd_language.specs.declared.language.Language.{Language}
+use Rattle.kd_language.specs.Language.{text_in}
 use Rattle.kd_curator.specs.Blame.{blame_on, unread_blame}
 use Rattle.kd_curator.specs.declared.blame.Blame.{Blame}
 use Rattle.kd_curator.specs.declared.blame.Remark.{Remark}
@@ -28,18 +30,21 @@ use Rattle.kd_curator.specs.declared.blame.Remark.TheVariants.{MachineFile, Name
 use Rattle.kd_curator.specs.declared.fault.PageFault.{PageFault}
 use Rattle.kd_curator.specs.declared.fault.PageFault.TheVariants as faults
 use Rattle.kd_curator.specs.declared.fault.Refused.{Refused}
+use Rattle.kd_curator.specs.declared.texts.TheConstants as texts
 
-abbrev pub page_fault_text : PageFault → List ℕ
-page_fault_text (faults.Unread fault) = file_fault_text fault
-page_fault_text (faults.File fault) = sheet_fault_text fault
-page_fault_text faults.NoSuchDay = refusal_name refusals.NoSuchDay
-page_fault_text faults.OtherModel = refusal_name refusals.OtherModel
-page_fault_text (faults.Message fault) = form_fault_text fault
-page_fault_text faults.FaultyTable = codes "because the table has faults"
-page_fault_text faults.FaultyFile = codes "because a file has faults"
-page_fault_text faults.TooManyParts = codes "because the form has more than 255 parts"
-page_fault_text faults.NotWhole = codes "in part: the form isn't read as one whole message of the day"
-page_fault_text faults.Device = refusal_name refusals.Device
+-- The text of a fault: the refusal's number and name, and then the fault's values, such as a key. If notes or a report
+-- explain the fault, the text has words in language `l` instead.
+abbrev pub page_fault_text : Language → PageFault → List ℕ
+page_fault_text l (faults.Unread fault) = file_fault_text fault
+page_fault_text l (faults.File fault) = sheet_fault_text fault
+page_fault_text l faults.NoSuchDay = refusal_name refusals.NoSuchDay
+page_fault_text l faults.OtherModel = refusal_name refusals.OtherModel
+page_fault_text l (faults.Message fault) = form_fault_text fault
+page_fault_text l faults.FaultyTable = text_in l texts.FAULTY_TABLE
+page_fault_text l faults.FaultyFile = text_in l texts.FAULTY_FILE
+page_fault_text l faults.TooManyParts = text_in l texts.TOO_MANY_PARTS
+page_fault_text l faults.NotWhole = text_in l texts.NOT_WHOLE
+page_fault_text l faults.Device = refusal_name refusals.Device
 
 -- a refusal that names no day, and has no remark on a file
 abbrev pub refused_whole : PageFault → Refused

@@ -1,5 +1,5 @@
 -- What `run_orders` writes, and when `run_orders` refuses.
-use Rattle.std.specs.Prelude.{◌≡◌, ℕ, All, List, [], ◌∷◌, None, Option, Some, Result, Err, unwrap_or}
+use Rattle.std.specs.Prelude.{◌≡◌, ℕ, All, List, [], ◌∷◌, None, Option, Some, Result, Err}
 use Rattle.kd_tables.specs.Ports.{Port}
 use Rattle.kd_state.specs.declared.machine.parts.Parts.{Parts}
 use Rattle.kd_state.specs.SheetDay.{Day}
@@ -37,8 +37,8 @@ order_texts [] texts = []
 order_texts (name ∷ names) [] = []
 
 -- The task writes its output for the orders to `sink`, and its answer is `answer`. `machine` and `sheet` are the bytes
--- of the machine file and of the key sheet. Words are in language `l`, unless the task asks for another language.
+-- of the machine file and of the key sheet. Words are in language `l`.
 abbrev pub SendsOrders : Language → MessageTask → List ℕ → List ℕ → List OrderText → Port → Result (Unit {0}) Refused
     → Type 0
 SendsOrders l task machine sheet orders sink answer = IsAnswerOnSheet machine sheet
-    (λ m month. WritesOrders task.results (unwrap_or task.language l) (day_of month task.day) m orders sink answer) answer
+    (λ m month. WritesOrders task.results l (day_of month task.day) m orders sink answer) answer

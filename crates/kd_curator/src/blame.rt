@@ -2,6 +2,8 @@
 ghost use Rattle.std.specs.Prelude.{◌≡◌};
 ghost use Rattle.kd_curator.specs.Blame.{remark_words, why_words};
 
+use crate::texts;
+use kd_language::Language;
 use kd_new_file::WhyUnread;
 
 /// The file that a refusal is about, and the remark on this file.
@@ -34,29 +36,29 @@ pub enum Remark {
 }
 
 /// The words of a remark. A refusal's text stands before them, and the file's name after them.
-pub(crate) fn remark_words(remark: Remark) -> &'static str
-    ensures { result.now ≡ remark_words remark }
+pub(crate) fn remark_words(language: Language, remark: Remark) -> &'static str
+    ensures { result.now ≡ remark_words language remark }
 {
     match remark {
-        Remark::Unread(why) => why_words(why),
-        Remark::TooLong => ": too many bytes in ",
-        Remark::MachineFile => ": in the machine file ",
-        Remark::SheetForMachine => ": a machine file is needed here, not the key sheet ",
-        Remark::KeySheet => ": in the key sheet ",
-        Remark::MachineForSheet => ": a key sheet is needed here, not the machine file ",
-        Remark::Order => ": in the order ",
-        Remark::Named => ": ",
+        Remark::Unread(why) => why_words(language, why),
+        Remark::TooLong => language.text(texts::TOO_LONG),
+        Remark::MachineFile => language.text(texts::MACHINE_FILE),
+        Remark::SheetForMachine => language.text(texts::SHEET_FOR_MACHINE),
+        Remark::KeySheet => language.text(texts::KEY_SHEET),
+        Remark::MachineForSheet => language.text(texts::MACHINE_FOR_SHEET),
+        Remark::Order => language.text(texts::ORDER),
+        Remark::Named => texts::NAMED,
     }
 }
 
 /// The words that say why a file can't be read. The file's name stands after them.
-fn why_words(why: WhyUnread) -> &'static str
-    ensures { result.now ≡ why_words why }
+fn why_words(language: Language, why: WhyUnread) -> &'static str
+    ensures { result.now ≡ why_words language why }
 {
     match why {
-        WhyUnread::NotThere => ": there is no file ",
-        WhyUnread::Folder => ": not a file, but the folder ",
-        WhyUnread::NotAllowed => ": you may not read ",
-        WhyUnread::Other => ": can't read ",
+        WhyUnread::NotThere => language.text(texts::NOT_THERE),
+        WhyUnread::Folder => language.text(texts::FOLDER),
+        WhyUnread::NotAllowed => language.text(texts::NOT_ALLOWED),
+        WhyUnread::Other => language.text(texts::UNREADABLE),
     }
 }

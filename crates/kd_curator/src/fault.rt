@@ -2,11 +2,14 @@
 ghost use Rattle.std.specs.Prelude.{◌≡◌, ◌≤◌, length};
 ghost use Rattle.kd_curator.specs.Refusals.{day_refusal, order_blame, page_fault_text, refused_among, refused_by};
 ghost use Rattle.kd_curator.specs.Refusals.{refused_form, refused_in, refused_message, refused_order, refused_table};
+ghost use Rattle.kd_language.specs.Language.{in_language};
 
 use crate::blame::{Blame, Remark};
+use crate::texts::{FAULTY_FILE, FAULTY_TABLE, NOT_WHOLE, TOO_MANY_PARTS};
 use kd_booklet::{DayFault, NoPlan};
 use kd_form::FormFault;
 use kd_host::FileFault;
+use kd_language::{Language, Text};
 use kd_lost::DamagedFormFault;
 use kd_message::OrderFault;
 use kd_sheet::SheetFault;
@@ -42,9 +45,9 @@ pub enum PageFault {
 impl PageFault {
     /// The refusal's number and name, and then the fault's values, such as a key, if the fault has values.
     ///
-    /// If notes or a report explain the fault, the text has words instead, without a number.
-    pub fn text(&self) -> RefusalText
-        ensures { result.bytes ≡ page_fault_text self.now }
+    /// If notes or a report explain the fault, the text has words in `language` instead, without a number.
+    pub fn text(&self, language: Language) -> RefusalText
+        ensures { result.bytes ≡ page_fault_text language self.now }
     {
         match self {
             PageFault::Unread(fault) => fault.text(),
@@ -52,24 +55,23 @@ impl PageFault {
             PageFault::NoSuchDay => Refusal::NoSuchDay.text(),
             PageFault::OtherModel => Refusal::OtherModel.text(),
             PageFault::Message(fault) => fault.text(),
-            PageFault::FaultyTable => worded_text("because the table has faults"),
-            PageFault::FaultyFile => worded_text("because a file has faults"),
-            PageFault::TooManyParts => worded_text("because the form has more than 255 parts"),
-            PageFault::NotWhole => {
-                worded_text("in part: the form isn't read as one whole message of the day")
-            }
+            PageFault::FaultyTable => worded_text(language, FAULTY_TABLE),
+            PageFault::FaultyFile => worded_text(language, FAULTY_FILE),
+            PageFault::TooManyParts => worded_text(language, TOO_MANY_PARTS),
+            PageFault::NotWhole => worded_text(language, NOT_WHOLE),
             PageFault::Device => Refusal::Device.text(),
         }
     }
 }
 
-/// The text of a refusal without a number.
-fn worded_text(words: &str) -> RefusalText
-    requires { length words.now ≤ 64 }
-    ensures { result.bytes ≡ words.now }
+/// The text of a refusal without a number: the words in `language`.
+fn worded_text(language: Language, words: Text) -> RefusalText
+    requires english { length words.0.now ≤ 64 }
+    requires german { length words.1.now ≤ 64 }
+    ensures { result.bytes ≡ in_language language words.entry.0.now words.entry.1.now }
 {
     let mut text = RefusalText::new();
-    text.push_str(words);
+    text.push_str(language.text(words));
     text
 }
 

@@ -74,7 +74,7 @@ pub(crate) fn names_of<'n>(command: &NamedCommand<'n>) -> Names<'n>
             orders,
             ..
         } => listed_with(&[*machine, *sheet], orders.as_slice()),
-        Command::TypingPage { machine, .. } => listed(&[*machine]),
+        Command::TypingPage { machine } => listed(&[*machine]),
         Command::Table { sheet, .. } => listed(&[*sheet]),
         Command::Sheet { table, .. } => listed(&[*table]),
         Command::Look { files } => listed(files.as_slice()),

@@ -21,6 +21,7 @@ pub mod run_type;
 mod sheets;
 mod stop;
 mod tables;
+mod texts;
 
 pub use blame::{Blame, Remark};
 pub use fault::{PageFault, Refused};

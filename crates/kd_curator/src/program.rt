@@ -4,14 +4,14 @@ ghost use Rattle.std.specs.Prelude.{Option, None, Some};
 ghost use Rattle.std.specs.Io.KnownBytes.{Keeps, append_known};
 ghost use Rattle.kd_tables.specs.Ports.{port};
 ghost use Rattle.kd_host.specs.Writing.{WritesText};
-ghost use Rattle.kd_curator_command.specs.CommandLine.{HasNoCommand, IsCommandLineOf, unborrowed_command};
+ghost use Rattle.kd_curator_command.specs.CommandLine.{HasNoCommand, IsCommandLineOf, output_of, unborrowed_command};
 ghost use Rattle.kd_language.specs.declared.language.Language.{Language};
 ghost use Rattle.kd_new_file.specs.NewFiles.{AddsFile, FilesByName};
-ghost use Rattle.kd_curator.specs.OutputFile.{EndsFile, EndsWithFile, GoesToSink, IsMeantBySome, RunsTo};
+ghost use Rattle.kd_curator.specs.OutputFile.{EndsAtSink, EndsFile, EndsWithFile, IsMeantBySome, IsMeantIn, RunsTo};
 ghost use Rattle.kd_curator.specs.Ending.{blame_of};
 ghost use Rattle.kd_curator.specs.Files.{names_of, text_at};
 ghost use Rattle.kd_curator.specs.Program.{CarriesOut, DoesCommand, DoesTask, IsRun, port_with_untaken};
-ghost use Rattle.kd_curator.specs.Program.{HasMonth, HasNotes, HasTold};
+ghost use Rattle.kd_curator.specs.Program.{HasMonth, HasNotes, HasTold, LacksCommand};
 ghost use Rattle.kd_curator.specs.Program.{IsAnswerAfterFlush, is_stopped_before_writing, is_stopped_by_device};
 ghost use Rattle.kd_curator.specs.Program.{TellsOfMessage, WorksMessage, is_whole};
 ghost use Rattle.kd_curator.specs.Refusals.{has_written, is_device, refused_device, refused_unread};
@@ -33,9 +33,7 @@ use crate::run_type::run_type;
 use crate::sheets::{make_sheet, write_empty_sheet};
 use crate::stop::{Stop, end_program};
 use crate::tables::run_table;
-use kd_curator_command::{
-    Command, CommandLine, MessageTask, NamedCommand, NoCommand, Task, parse_words,
-};
+use kd_curator_command::{Command, MessageTask, NamedCommand, NoCommand, Task, parse_words};
 use kd_host::{FileFault, Files};
 use kd_look::NamedFile;
 use kd_message::PageOptions;
@@ -45,8 +43,8 @@ use kd_tables::{Direction, Failed, Sink, put_all};
 use std::alloc::Global;
 use std::convert::AsStr;
 
-/// Carries out the command line `words`, which begins with the program's own name. Pages and tables are in `language`,
-/// unless the words ask for another language.
+/// Carries out the command line `words`, which begins with the program's own name. `language` is the computer's
+/// language. Words are in this language, unless the command line asks for another language.
 ///
 /// Returns the exit status and the sink. The status is 0 for success, 2 if the words don't mean a command, and 1 for a
 /// refusal. With status 1 or 2, a text that says why is written to `errors`. If the text is about a file, it ends with
@@ -72,24 +70,24 @@ pub fn run_curator<'n, S: AsStr, F: Files<'n>, N: NewFiles, W: Sink + Drop, E: S
         (port_with_untaken W.taken W.has_failed sink result.1) (result.1 ≡ sink)
         (port E.taken E.has_failed errors.old errors.new) result.0 }
 {
-    match parse_words(alloc, words) {
-        Ok(CommandLine { command, output }) => match output {
-            Some(name) => {
-                let request = Request { language, command };
-                let status = run_to_file(alloc, request, name, files, new_files, errors);
-                (status, sink)
+    match parse_words(alloc, language, words) {
+        Ok(line) => {
+            let request = Request {
+                language: line.language.unwrap_or(language),
+                command: line.command,
+            };
+            match line.output {
+                Some(name) => {
+                    let status = run_to_file(alloc, request, name, files, new_files, errors);
+                    (status, sink)
+                }
+                None => run_to_sink(alloc, request, files, new_files, sink, errors),
             }
-            None => {
-                let names = names_of(&command);
-                let request = Request { language, command };
-                let (answer, sink) = run_gathering(alloc, request, files, new_files, sink, errors);
-                (end_program(&answer, names.as_slice(), errors), sink)
-            }
-        },
+        }
         Err(none) => {
             let mut sink = sink;
             let answer = answer_other_words(none, &mut sink);
-            (end_program(&answer, &[], errors), sink)
+            (end_program(language, &answer, &[], errors), sink)
         }
     }
 }
@@ -97,9 +95,34 @@ pub fn run_curator<'n, S: AsStr, F: Files<'n>, N: NewFiles, W: Sink + Drop, E: S
 /// A command that the command line asks for.
 #[derive(Drop)]
 struct Request<'n> {
-    /// The language of pages and tables, unless the command has its own.
+    /// The language of the command's words.
     language: Language,
     command: NamedCommand<'n>,
+}
+
+/// Carries out `request`, with its output to `sink`.
+fn run_to_sink<'n, F: Files<'n>, N: NewFiles, W: Sink + Drop, E: Sink>(
+    alloc: Global,
+    request: Request<'n>,
+    files: &mut F,
+    folders: &N,
+    sink: W,
+    errors: &mut E,
+) -> (u8, W)
+    requires meant { IsMeantBySome (unborrowed_command request.command) }
+    requires asked { F.asked files.old ≡ [] }
+    ensures { (l : Language) (words : List (List ℕ))
+        → IsMeantIn l words request.entry.language (unborrowed_command request.entry.command)
+        → output_of words ≡ None
+        → EndsAtSink l words (F.known files.old) (F.asked files.new)
+        (port_with_untaken W.taken W.has_failed sink result.1) (result.1 ≡ sink)
+        (port E.taken E.has_failed errors.old errors.new) result.0 }
+{
+    let language = request.language;
+    let names = names_of(&request.command);
+    let (answer, sink) = run_gathering(alloc, request, files, folders, sink, errors);
+    let status = end_program(language, &answer, names.as_slice(), errors);
+    (status, sink)
 }
 
 /// Carries out `request`, with its output in the new file `name`.
@@ -113,22 +136,23 @@ fn run_to_file<'n, F: Files<'n>, N: NewFiles, E: Sink>(
 ) -> u8
     requires meant { IsMeantBySome (unborrowed_command request.command) }
     requires asked { F.asked files.old ≡ [] }
-    ensures { (words : List (List ℕ))
-        → IsCommandLineOf words (unborrowed_command request.entry.command)
-        → EndsWithFile request.entry.language words (F.known files.old) (F.asked files.new)
+    ensures { (l : Language) (words : List (List ℕ))
+        → IsMeantIn l words request.entry.language (unborrowed_command request.entry.command)
+        → EndsWithFile l words (F.known files.old) (F.asked files.new)
         (N.held new_files.old) (N.held new_files.new) name.now
         (names_of (unborrowed_command request.entry.command))
         (port E.taken E.has_failed errors.old errors.new) result }
 {
+    let language = request.language;
     let names = names_of(&request.command);
     let (other, file) = match begin(alloc, new_files, name) {
         Ok(begun) => begun,
-        Err(fault) => return end_unwritten(name, fault, errors),
+        Err(fault) => return end_unwritten(language, name, fault, errors),
     };
     let (answer, file) = run_gathering(alloc, request, files, new_files, file, errors);
     match end_file(&answer, new_files, file, other.as_str(), name) {
-        Ok(()) => end_program(&answer, names.as_slice(), errors),
-        Err(fault) => end_unwritten(name, fault, errors),
+        Ok(()) => end_program(language, &answer, names.as_slice(), errors),
+        Err(fault) => end_unwritten(language, name, fault, errors),
     }
 }
 
@@ -170,9 +194,9 @@ fn run_gathering<'n, F: Files<'n>, N: NewFiles, W: Sink + Drop, E: Sink>(
 ) -> (Result<(), Stop>, W)
     requires meant { IsMeantBySome (unborrowed_command request.command) }
     requires asked { F.asked files.old ≡ [] }
-    ensures { (words : List (List ℕ))
-        → IsCommandLineOf words (unborrowed_command request.entry.command)
-        → (left : List ℕ) × IsRun request.entry.language words (F.known files.old) (F.asked files.new)
+    ensures { (l : Language) (words : List (List ℕ))
+        → IsMeantIn l words request.entry.language (unborrowed_command request.entry.command)
+        → (left : List ℕ) × IsRun l words (F.known files.old) (F.asked files.new)
         (port_with_untaken W.taken W.has_failed sink result.1 left) (result.1 ≡ sink)
         (port E.taken E.has_failed errors.old errors.new) left result.0 }
 {
@@ -193,9 +217,9 @@ fn run_command<'n, F: Files<'n>, N: NewFiles, W: Sink, E: Sink>(
 ) -> Result<(), Stop>
     requires meant { IsMeantBySome (unborrowed_command request.command) }
     requires asked { F.asked files.old ≡ [] }
-    ensures carried { (words : List (List ℕ))
-        → IsCommandLineOf words (unborrowed_command request.entry.command)
-        → CarriesOut request.entry.language words (F.known files.old) (F.asked files.new)
+    ensures carried { (l : Language) (words : List (List ℕ))
+        → IsMeantIn l words request.entry.language (unborrowed_command request.entry.command)
+        → CarriesOut l words (F.known files.old) (F.asked files.new)
         (port W.taken W.has_failed sink.old sink.new) [] result }
     ensures untouched { IsTrue (is_stopped_before_writing result) → sink.new ≡ sink.old }
     ensures failed { W.has_failed sink.new ≡ (W.has_failed sink.old || is_stopped_by_device result) }
@@ -241,7 +265,7 @@ fn answer_other_words<W: Sink>(none: NoCommand, sink: &mut W) -> Result<(), Stop
     ensures carried { (l : Language) (words : List (List ℕ)) (known : Option (List ℕ → Option (List ℕ)))
         → HasNoCommand words none
         → CarriesOut l words known [] (port W.taken W.has_failed sink.old sink.new) [] result }
-    ensures why { (words : List (List ℕ)) → HasNoCommand words none → GoesToSink words result }
+    ensures why { (words : List (List ℕ)) → HasNoCommand words none → LacksCommand words result }
     ensures nothing { blame_of result ≡ None }
     ensures untouched { IsTrue (is_stopped_before_writing result) → sink.new ≡ sink.old }
     ensures failed { W.has_failed sink.new ≡ (W.has_failed sink.old || is_stopped_by_device result) }
@@ -281,19 +305,8 @@ fn carry_out<W: Sink, E: Sink>(
         Command::Orders { orders, task, .. } => {
             send_orders(alloc, language, task, orders.as_slice(), contents, sink)
         }
-        Command::TypingPage {
-            language: chosen,
-            ..
-        } => {
-            let language = chosen.unwrap_or(language);
-            run_type(alloc, language, text_at(contents, 0), sink)
-        }
-        Command::Table {
-            form,
-            language: chosen,
-            ..
-        } => {
-            let language = chosen.unwrap_or(language);
+        Command::TypingPage { .. } => run_type(alloc, language, text_at(contents, 0), sink),
+        Command::Table { form, .. } => {
             run_table(alloc, language, form, text_at(contents, 0), sink)
         }
         Command::Sheet { options, .. } => {
@@ -323,11 +336,7 @@ fn do_task<W: Sink>(
     let machine = text_at(contents, 0);
     let bytes = text_at(contents, 1);
     match task {
-        Task::Page {
-            days,
-            language: chosen,
-        } => {
-            let language = chosen.unwrap_or(language);
+        Task::Page { days } => {
             let sheet = NamedFile { name, bytes };
             run_page(alloc, language, machine, sheet, days, sink)
         }
@@ -352,7 +361,7 @@ fn work_message<W: Sink, E: Sink>(
     ensures told { TellsOfMessage task.direction (port E.taken E.has_failed errors.old errors.new) }
 {
     let options = PageOptions {
-        language: task.language.unwrap_or(language),
+        language,
         results: task.results,
     };
     let files = DayFiles {

@@ -92,7 +92,7 @@ pub(crate) fn send_orders<W: Sink>(
     let mut orders = ArrayVec::new();
     push_orders(&mut orders, names, &contents[2..]);
     let options = PageOptions {
-        language: task.language.unwrap_or(language),
+        language,
         results: task.results,
     };
     let files = DayFiles {

@@ -11,8 +11,10 @@ use crate::blame::remark_words;
 use crate::error_line::{end_named, end_refused};
 use crate::fault::{PageFault, Refused};
 use crate::files::name_at;
+use crate::texts::{DAY, DAY_END, NOT_UTF8, REFUSED};
 use arrayvec::ArrayString;
 use kd_host::{FileFault, end_with_line};
+use kd_language::Language;
 use kd_tables::{Sink, push_number};
 use std::alloc::Global;
 use std::io;
@@ -31,30 +33,40 @@ pub enum Stop {
 
 /// Writes the text for `answer` to `errors`, if `answer` has a `Stop`. Returns the exit status.
 ///
-/// If a refusal is about a file, its line ends with the file's name. `names` are the names of the command's files. The
-/// exit status is the same even if the text can't be written.
-pub fn end_program<E: Sink>(answer: &Result<(), Stop>, names: &[&str], errors: &mut E) -> u8
-    ensures { EndsAs (unborrowed_names names.now) answer.now
+/// A refusal's line is in `language`. If the refusal is about a file, the line ends with the file's name. `names` are
+/// the names of the command's files. The exit status is the same even if the text can't be written.
+pub fn end_program<E: Sink>(
+    language: Language,
+    answer: &Result<(), Stop>,
+    names: &[&str],
+    errors: &mut E,
+) -> u8
+    ensures { EndsAs language (unborrowed_names names.now) answer.now
         (port E.taken E.has_failed errors.old errors.new) result }
 {
     match answer {
         Ok(()) => end_with_line("", 0, errors),
         Err(Stop::Usage(text)) => end_with_line(text.as_str(), 2, errors),
-        Err(Stop::Refused(refused)) => end_with_refusal(*refused, names, errors),
+        Err(Stop::Refused(refused)) => end_with_refusal(language, *refused, names, errors),
     }
 }
 
 /// Writes the line for a refusal to `errors`. Returns the exit status 1.
 #[tactic(auto, unfolding(crate::specs::Ending::refusal_line))]
-fn end_with_refusal<E: Sink>(refused: Refused, names: &[&str], errors: &mut E) -> u8
-    ensures { EndsWithLine (refusal_line (unborrowed_names names.now) refused) 1
+fn end_with_refusal<E: Sink>(
+    language: Language,
+    refused: Refused,
+    names: &[&str],
+    errors: &mut E,
+) -> u8
+    ensures { EndsWithLine (refusal_line language (unborrowed_names names.now) refused) 1
         (port E.taken E.has_failed errors.old errors.new) result }
 {
-    let text = refusal_text(refused);
+    let text = refusal_text(language, refused);
     match refused.blame {
         None => end_named(text.as_str(), "", errors),
         Some(blame) => {
-            let words = remark_words(blame.remark);
+            let words = remark_words(language, blame.remark);
             end_refused(text.as_str(), words, name_at(names, blame.place), errors)
         }
     }
@@ -62,26 +74,26 @@ fn end_with_refusal<E: Sink>(refused: Refused, names: &[&str], errors: &mut E) -
 
 /// The text of a refusal, without the remark on a file.
 #[tactic(auto, using(std::proofs::Common::append_assoc))]
-fn refusal_text(refused: Refused) -> DayText
-    ensures { result.bytes ≡ refusal_text refused }
+fn refusal_text(language: Language, refused: Refused) -> DayText
+    ensures { result.bytes ≡ refusal_text language refused }
 {
     let mut text = DayText::new();
-    push_day(&mut text, refused.day);
-    text.push_str("refused ");
-    text.push_str(refused.fault.text().as_str());
+    push_day(&mut text, language, refused.day);
+    text.push_str(language.text(REFUSED));
+    text.push_str(refused.fault.text(language).as_str());
     text
 }
 
 /// Appends the words for the day, if there is one.
-fn push_day(text: &mut DayText, day: Option<u8>)
+fn push_day(text: &mut DayText, language: Language, day: Option<u8>)
     requires { array_string_len text.old ≤ 1 }
-    ensures bytes { text.new.bytes ≡ text.old.bytes ++ day_prefix day }
+    ensures bytes { text.new.bytes ≡ text.old.bytes ++ day_prefix language day }
     ensures len { array_string_len text.new ≤ array_string_len text.old + 9 }
 {
     if let Some(day) = day {
-        text.push_str("day ");
+        text.push_str(language.text(DAY));
         push_number(text, day);
-        text.push_str(": ");
+        text.push_str(DAY_END);
     }
 }
 
@@ -109,11 +121,12 @@ impl Stop {
         }
     }
 
-    /// Why the program stops if it can't read the command line: memory ran out, or a word isn't UTF-8.
-    pub fn of_words(alloc: Global, error: &io::Error) -> Stop
-        ensures { IsWordsStop (error_kind error.now) result }
+    /// Why the program stops if it can't read the command line: memory ran out, or a word isn't UTF-8. The text is in
+    /// `language`.
+    pub fn of_words(alloc: Global, language: Language, error: &io::Error) -> Stop
+        ensures { IsWordsStop language (error_kind error.now) result }
     {
-        let text = String::from_str(alloc, "error: a word of the command line isn't UTF-8\n");
+        let text = String::from_str(alloc, language.text(NOT_UTF8));
         match (error.kind(), text) {
             (io::ErrorKind::OutOfMemory, _) | (_, Err(_)) => Stop::from(FileFault::NoMemory),
             (_, Ok(text)) => Stop::Usage(text),

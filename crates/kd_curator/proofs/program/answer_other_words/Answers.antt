@@ -12,7 +12,7 @@ returns-in-Asked-clause-carried g c = λ l words known none.
 
 pub returns-in-Asked-clause-why : goal.returns-in-Asked-clause-why
 returns-in-Asked-clause-why g c = λ words none.
-    let asked = rw c.in-Asked.is at none in inr (inl (no_line_among words asked.0 asked.1))
+    let asked = rw c.in-Asked.is at none in inl (no_line_among words asked.0 asked.1)
 
 pub returns-in-Asked-clause-untouched : goal.returns-in-Asked-clause-untouched
 returns-in-Asked-clause-untouched g c =
@@ -27,10 +27,10 @@ returns-in-Usage-clause-carried g c = λ l words known none.
 
 pub returns-in-Usage-clause-why : goal.returns-in-Usage-clause-why
 returns-in-Usage-clause-why g c = λ words none.
-    let other = rw c.in-Usage.is at none in inr (inl other.0)
+    let other = rw c.in-Usage.is at none in inl other.0
 
 pub returns-in-NoMemory-clause-carried : goal.returns-in-NoMemory-clause-carried
 returns-in-NoMemory-clause-carried g c = λ l words known none. NoMemory refl (ap Err c.from.ensures)
 
 pub returns-in-NoMemory-clause-why : goal.returns-in-NoMemory-clause-why
-returns-in-NoMemory-clause-why g c = λ words none. inr (inr (ap Err c.from.ensures))
+returns-in-NoMemory-clause-why g c = λ words none. inr (ap Err c.from.ensures)

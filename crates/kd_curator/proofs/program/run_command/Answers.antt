@@ -13,7 +13,7 @@ carry_out-answer-requires-clause-month g c = months_so _ _ c.requires.meant.1
 pub returns-in-Err-clause-carried : goal.returns-in-Err-clause-carried
 returns-in-Err-clause-carried g c =
     let named = ap unborrowed_names c.as_slice.ensures.value ∙ c.names_of-names.ensures in
-    λ words says. FileUnread (unborrowed_command c.args.request.command) says c.in-Err.fault c.len.result
+    λ l words meant. FileUnread (unborrowed_command c.args.request.command) meant.said c.in-Err.fault c.len.result
     c.refused_unread-refused.ensures.0
     (reads_all _ _ _ _ _ c.new-contents.ensures named c.in-Err.ensures.read)
     (rw (c.requires.asked, named) at c.in-Err.ensures.asked)
@@ -30,11 +30,11 @@ returns-clause-carried g c =
     let fresh = ap length c.new-contents.ensures in
     let mapped = length-map c.as_slice.result.now (λ (n : Bor (List ℕ)). n.now) in
     let all = ap length named in
-    λ words says. Carried (unborrowed_command c.args.request.command) says _
+    λ l words meant. Carried (unborrowed_command c.args.request.command) meant.said _
     (omega (arith, given, c.in_default.ensures.many, fresh, mapped, all))
     (rw c.as_slice-2.ensures.value (reads_all _ _ _ _ _ c.new-contents.ensures named c.in_default.ensures.read))
     (rw (c.requires.asked, named) at c.in_default.ensures.asked)
-    (told_so _ _ _ c.carry_out-answer.ensures.does c.of_answer.ensures)
+    (told_so _ _ _ (rw meant.language at c.carry_out-answer.ensures.does) c.of_answer.ensures)
 
 pub returns-clause-untouched : goal.returns-clause-untouched
 returns-clause-untouched g c =

@@ -1,3 +1,4 @@
+use Rattle.std.specs.Prelude.{unwrap_or}
 use Rattle.std.proofs.Common.{[], ap, inl, inr, map, option_map, refl, sym, ◌∙◌, Bor, List, ℕ}
 use Rattle.kd_curator_command.specs.CommandLine.{unborrowed_names}
 use Rattle.kd_curator.specs.OutputFile.{ToFile, ToSink}
@@ -10,25 +11,18 @@ pub returns-in-Some : goal.returns-in-Some
 returns-in-Some g c =
     let words = map g.S.AsStr.text c.args.words.now in
     let named = ap (option_map (λ (name : Bor (List ℕ)). name.now)) c.in-Some.is in
+    let spoken = ap (λ asked. unwrap_or asked c.args.language) c.in-Ok.ensures.language in
     ToFile c.in-Some.name.now (sym c.in-Ok.ensures.output ∙ named) _ c.in-Ok.ensures.said refl
-    (c.run_to_file-status.ensures words c.in-Ok.ensures.said)
+    (c.run_to_file-status.ensures c.args.language words
+    (record { said = c.in-Ok.ensures.said; language = spoken }))
 
 pub returns-in-None : goal.returns-in-None
 returns-in-None g c =
     let words = map g.S.AsStr.text c.args.words.now in
     let none = ap (option_map (λ (name : Bor (List ℕ)). name.now)) c.in-None.is in
-    let run = c.run_gathering-answer.ensures words c.in-Ok.ensures.said in
-    let between = c.run_gathering-answer.new.errors in
-    ToSink (record {
-      left = run.0;
-      answer = c.run_gathering-answer.result.0;
-      told = g.E.Sink.taken between;
-      failed = g.E.Sink.has_failed between;
-      names = unborrowed_names c.as_slice.result.now;
-      is_so = (inl (sym c.in-Ok.ensures.output ∙ none), run.1);
-      named = inl (_, c.in-Ok.ensures.said, ap unborrowed_names c.as_slice.ensures.value ∙ c.names_of-names.ensures);
-      ends = c.end_program.ensures;
-    }) refl
+    let spoken = ap (λ asked. unwrap_or asked c.args.language) c.in-Ok.ensures.language in
+    ToSink (c.run_to_sink.ensures c.args.language words (record { said = c.in-Ok.ensures.said; language = spoken })
+    (sym c.in-Ok.ensures.output ∙ none)) refl
 
 pub returns-in-Err : goal.returns-in-Err
 returns-in-Err g c =
@@ -43,8 +37,9 @@ returns-in-Err g c =
       told = g.E.Sink.taken c.args.errors.now;
       failed = g.E.Sink.has_failed c.args.errors.now;
       names = [];
+      language = c.args.language;
       is_so = (
-        other.why words c.in-Err.ensures.none,
+        inr (other.why words c.in-Err.ensures.none),
         record {
           carried = other_carried c.args.language words (g.F.Files.known c.args.files.now) (g.F.Files.asked c.args.files.now)
               (taken c.args.sink) (taken new) (has_failed c.args.sink) (has_failed new) c.answer_other_words-answer.result
@@ -55,5 +50,6 @@ returns-in-Err g c =
         },
       );
       named = inr other.nothing;
+      spoken = inr (other.why words c.in-Err.ensures.none, refl);
       ends = c.end_program-in-Err.ensures;
     }) refl
