@@ -75,5 +75,5 @@ pub const UNWRITTEN: Text = (": can't write ", ": nicht zu schreiben: ");
 /// The line if the words of the command line can't be read as text.
 pub const NOT_UTF8: Text = (
     "error: a word of the command line isn't UTF-8\n",
-    "Fehler: ein Wort der Befehlszeile ist nicht UTF-8\n",
+    "Fehler: ein Wort der Befehlszeile ist kein UTF-8\n",
 );
