@@ -1,4 +1,5 @@
-//! Describes machine files, key sheets, orders and forms in words, or names their faults. The words are English or German.
+//! Describes machine files, key sheets, orders and forms in words, or names their faults. The words are English or
+//! German.
 #![tactic(auto)]
 
 mod alike;
