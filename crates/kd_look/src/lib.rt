@@ -1,5 +1,4 @@
-//! Describes machine files, key sheets, orders and forms in words, or names their faults. The words are English or
-//! German.
+//! Describes machine files, key sheets, orders and forms in English or German words, or names their faults.
 #![tactic(auto)]
 
 mod alike;
