@@ -1,20 +1,25 @@
 -- Notes that are written, and lines that make up a note.
-use Rattle.std.proofs.Common.{◌≡◌, ◌∙◌, ◌&&◌, ◌||◌, ◌+◌, ◌<◌, ◌++◌, ◌∷◌, ℕ, Bool, true, false, List, [], ap, codes, length, Option, Some, Result, Ok, Err, is_err, refl, sym, subst, arith, append_assoc}
+use Rattle.std.proofs.Common.{◌≡◌, ◌∙◌, ◌&&◌, ◌||◌, ◌+◌, ◌<◌, ◌++◌, ◌∷◌, ℕ, Bool, true, false, List, [], ap, length, Option, Some, Result, Ok, Err, is_err, refl, sym, subst, arith, append_assoc}
 use Rattle.std.proofs.lemmas.Grind.{common_steps}
 use Rattle.std.proofs.lemmas.List.{append-nil}
 use Rattle.std.specs.Prelude.{flat_map}
-use Rattle.std.specs.List.{list_all}
+use Rattle.std.specs.List.{after_first, before_first, list_all}
 use Rattle.kd_state.specs.SheetDay.{Day}
+use Rattle.kd_language.specs.Language.{text_in}
+use Rattle.kd_language.specs.Template.{is_gap}
+unfoldable use Rattle.kd_language.specs.Template.{filled}
+use Rattle.kd_language.specs.declared.language.Language.{Language}
 use Rattle.kd_tables.specs.Writing.{Writes}
 use Rattle.kd_spreadsheet.specs.Cells.{day_in, has_columns, is_faulty, row_cells, row_model}
 use Rattle.kd_spreadsheet.specs.Columns.{cell_at, columns_of}
 use Rattle.kd_spreadsheet.specs.Items.{is_blank}
 use Rattle.kd_spreadsheet.specs.Options.{OptionTexts}
-use Rattle.kd_spreadsheet.specs.Notes.{NextCell, NoCells, TellsCells, TellsPlacedRow, TellsText, cell_place, line_at, shown, unread_line, unread_note, unread_words, HasRowsNote, OfRows, TellsRow, TellsTable, row_place}
+use Rattle.kd_spreadsheet.specs.Notes.{NextCell, NoCells, TellsCells, TellsPlacedRow, TellsText, cell_place, line_at, unread_line, unread_note, unread_words, HasRowsNote, OfRows, TellsRow, TellsTable, row_place}
 use Rattle.kd_spreadsheet.specs.NearNames.{is_misnamed}
 use Rattle.kd_spreadsheet.specs.Row.{IsDayOfRow, IsNoDay, is_column_read, row_values}
 use Rattle.kd_spreadsheet.specs.declared.cell.Cell.{Cell}
 use Rattle.kd_spreadsheet.specs.declared.columns.Columns.{Columns}
+use Rattle.kd_spreadsheet.specs.declared.texts.TheConstants.{FIRST_ROW}
 
 -- a text, or a prefix of it, was written
 pub tells_whole : {T E : Type 0} (a b : Option (List ℕ)) (before after : Bool) (text : List ℕ) (answer : Result T E)
@@ -98,12 +103,13 @@ module _ (options : OptionTexts) (columns : Columns) (head : List (List ℕ)) (p
     some = λ none has. some_line of_cells words n1 n2 is_due second some (due none has);
   }
 
-  pub row_told : (number : ℕ) (n0 n1 n2 : List ℕ) → place ≡ row_place number (day_in (cell_at columns.day row))
-      → ((missing : List (List ℕ)) × (n1 ≡ n0 ++ flat_map (line_at (codes "row 1: ")) missing))
+  pub row_told : (l : Language) (number : ℕ) (n0 n1 n2 : List ℕ)
+      → place ≡ row_place l number (day_in (cell_at columns.day row))
+      → ((missing : List (List ℕ)) × (n1 ≡ n0 ++ flat_map (line_at (text_in l FIRST_ROW)) missing))
       → TellsPlacedRow options columns head place row n1 n2
-      → (more : List ℕ) × (n2 ≡ n0 ++ more) × TellsRow options columns head number row more
-  row_told number n0 n1 n2 same (missing, first) told =
-      let of_missing = flat_map (line_at (codes "row 1: ")) missing in
+      → (more : List ℕ) × (n2 ≡ n0 ++ more) × TellsRow l options columns head number row more
+  row_told l number n0 n1 n2 same (missing, first) told =
+      let of_missing = flat_map (line_at (text_in l FIRST_ROW)) missing in
       let of_row = flat_map (line_at place) told.words in
       let P : List ℕ → Type 0 = λ p.
       TellsCells options columns head p row (row_cells (row_model options columns row)) told.of_cells in (
@@ -135,26 +141,34 @@ pub all_more : {A : Type 0} (p : A → Bool) (xs : List A) (x : A) → list_all 
 all_more p [] x = and_true (p x)
 all_more p (y ∷ xs) x = ap (λ b. p y && b) (all_more p xs x) ∙ and_assoc (p y) (list_all p xs) (p x)
 
+-- a template with one value
+pub one_value : (template value : List ℕ)
+    → filled template (value ∷ []) ≡ before_first is_gap template ++ (value ++ after_first is_gap template)
+unfolding filled
+one_value template value = append_assoc (before_first is_gap template) value (after_first is_gap template)
+
 -- the line on a column that isn't read
-pub unread_is : (head : List (List ℕ)) (place : ℕ) → is_blank (cell_at (Some place) head) ≡ false
+pub unread_is : (l : Language) (head : List (List ℕ)) (place : ℕ) → is_blank (cell_at (Some place) head) ≡ false
     → is_column_read (columns_of head) place ≡ false
-    → unread_line head place ≡ codes "column " ++ (shown (cell_at (Some place) head) ++ unread_words)
-unread_is head place filled unread = rw (filled, unread) refl
+    → unread_line l head place ≡ unread_words l (cell_at (Some place) head)
+unread_is l head place named unread = rw (named, unread) refl
 
 -- ---- the note on a table
 
-pub of_text : (options : OptionTexts) (table text old new : List ℕ) → old ≡ [] → new ≡ old ++ text
-    → TellsTable options table text → TellsTable options table new
-of_text options table text old new none is told = rw (is, none) told
+pub of_text : (l : Language) (options : OptionTexts) (table text old new : List ℕ) → old ≡ [] → new ≡ old ++ text
+    → TellsTable l options table text → TellsTable l options table new
+of_text l options table text old new none is told = rw (is, none) told
 
-pub of_rows : (options : OptionTexts) (table : List ℕ) (head : List (List ℕ)) (old middle new : List ℕ) → old ≡ []
-    → ((missing : List (List ℕ)) × (middle ≡ old ++ (unread_note head ++ flat_map (line_at (codes "row 1: ")) missing))
+pub of_rows : (l : Language) (options : OptionTexts) (table : List ℕ) (head : List (List ℕ)) (old middle new : List ℕ)
+    → old ≡ []
+    → ((missing : List (List ℕ))
+    × (middle ≡ old ++ (unread_note l head ++ flat_map (line_at (text_in l FIRST_ROW)) missing))
     × (is_misnamed (columns_of head) head ≡ true → 0 < length missing))
-    → HasRowsNote options (columns_of head) head table middle new → TellsTable options table new
-of_rows options table head old middle new none (missing, first, named) has =
-    let of_missing = flat_map (line_at (codes "row 1: ")) missing in
+    → HasRowsNote l options (columns_of head) head table middle new → TellsTable l options table new
+of_rows l options table head old middle new none (missing, first, named) has =
+    let of_missing = flat_map (line_at (text_in l FIRST_ROW)) missing in
     let of_end = flat_map (line_at []) has.words in
-    let is : new ≡ unread_note head ++ (of_missing ++ (has.text ++ of_end)) =
-    has.appended ∙ ap (λ t. t ++ (has.text ++ of_end)) (first ∙ ap (λ t. t ++ (unread_note head ++ of_missing)) none)
-    ∙ append_assoc (unread_note head) of_missing (has.text ++ of_end) in
+    let is : new ≡ unread_note l head ++ (of_missing ++ (has.text ++ of_end)) =
+    has.appended ∙ ap (λ t. t ++ (has.text ++ of_end)) (first ∙ ap (λ t. t ++ (unread_note l head ++ of_missing)) none)
+    ∙ append_assoc (unread_note l head) of_missing (has.text ++ of_end) in
     rw is (OfRows head has.rows missing has.text has.words has.are has.told has.empty named)

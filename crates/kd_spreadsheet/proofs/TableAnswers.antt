@@ -1,5 +1,6 @@
 -- What the rows of a table make of the table.
 use Rattle.std.proofs.Common.{◌≡◌, ◌∙◌, ◌⊎◌, inl, inr, Err, Result, ℕ, true, false, List, [], ◌∷◌, ◌++◌, Ok, append_assoc, sym, subst, arith}
+use Rattle.kd_language.specs.declared.language.Language.{Language}
 use Rattle.kd_tables.specs.declared.ports.write_fault.WriteFault.{WriteFault}
 use Rattle.kd_tables.specs.declared.ports.write_fault.WriteFault.TheVariants.{Unwritten}
 use Rattle.kd_state.specs.SheetDay.{Day, IsLegalDay, day_number}
@@ -18,10 +19,10 @@ use Rattle.kd_spreadsheet.specs.Options.{OptionTexts}
 
 module _ (options : OptionTexts) (table : List ℕ) where
   -- what the rows mean, the table means
-  pub taken_of_rows : (head : List (List ℕ)) (rows : List (List (List ℕ))) (days : List Day) (note : List ℕ)
-      → is_well_quoted table ≡ true → AreRows table (head ∷ rows) → IsTakenOfRows options head rows days note
-      → IsTaken options table days note
-  taken_of_rows head rows days note quoted are is = record {
+  pub taken_of_rows : (l : Language) (head : List (List ℕ)) (rows : List (List (List ℕ))) (days : List Day)
+      (note : List ℕ) → is_well_quoted table ≡ true → AreRows table (head ∷ rows)
+      → IsTakenOfRows l options head rows days note → IsTaken l options table days note
+  taken_of_rows l head rows days note quoted are is = record {
     means = record {
       quoted = quoted;
       head = head;

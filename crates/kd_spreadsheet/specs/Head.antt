@@ -1,17 +1,20 @@
 -- `Head`: the options, the columns and the first row of a table, for the notes on its rows. `PlacedRow`: a row with the
 -- words for its place. No public contract cites these definitions.
 use Rattle.std.specs.Prelude.{ℕ, List}
+use Rattle.kd_language.specs.declared.language.Language.{Language}
 use Rattle.kd_spreadsheet.specs.declared.columns.Columns.{Columns}
 use Rattle.kd_spreadsheet.specs.Options.{OptionTexts}
 
--- The options, the columns, and the table's first row, which has the columns' names.
+-- The notes' language, the options, the columns, and the table's first row, which has the columns' names.
 pub record Head : Type 0 where
+  pub language : Language
   pub options : OptionTexts
   pub columns : Columns
   pub names : List (List ℕ)
 
-abbrev pub head_of : OptionTexts → Columns → List (List ℕ) → Head
-head_of options columns names = record { options = options; columns = columns; names = names }
+abbrev pub head_of : Language → OptionTexts → Columns → List (List ℕ) → Head
+head_of language options columns names =
+    record { language = language; options = options; columns = columns; names = names }
 
 -- A row: its cells, and the words for its place. Each line about the row begins with these words.
 pub record PlacedRow : Type 0 where

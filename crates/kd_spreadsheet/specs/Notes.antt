@@ -7,6 +7,9 @@ use Rattle.std.specs.Prelude.{◌≡◌, ◌<◌, ◌+◌, ◌==◌, ◌&&◌, �
 use Rattle.std.specs.Io.KnownBytes.{Appends}
 use Rattle.std.specs.List.{list_all, range_with_len}
 use Rattle.std.specs.Option.{option_map_or}
+use Rattle.kd_language.specs.Language.{text_in}
+use Rattle.kd_language.specs.Template.{filled}
+use Rattle.kd_language.specs.declared.language.Language.{Language}
 use Rattle.kd_tables.specs.Ports.{Port}
 use Rattle.kd_state.specs.SheetDay.{Day}
 use Rattle.kd_slips.specs.Counts.{counts_of, few_lines}
@@ -22,6 +25,7 @@ use Rattle.kd_spreadsheet.specs.Table.{AreDaysOfRows, AreRows, TableMeans}
 use Rattle.kd_spreadsheet.specs.declared.cell.Cell.{Cell}
 use Rattle.kd_spreadsheet.specs.declared.cell.Cell.TheVariants as cells
 use Rattle.kd_spreadsheet.specs.declared.columns.Columns.{Columns}
+use Rattle.kd_spreadsheet.specs.declared.texts.TheConstants as texts
 
 -- ---- The port of the notes.
 
@@ -55,22 +59,23 @@ line_at place words = place ++ words ++ 10 ∷ []
 
 -- ---- Columns that aren't read.
 
-abbrev pub unread_words : List ℕ
-unread_words = codes ": this column isn't read\n"
+-- the line about an unread column; `name` is the column's name
+abbrev pub unread_words : Language → List ℕ → List ℕ
+unread_words l name = filled (text_in l texts.UNREAD_COLUMN) (shown name ∷ [])
 
 -- the note on the column at `place`; empty if the column has no name, or is read
-abbrev pub unread_line : List (List ℕ) → ℕ → List ℕ
-unread_line head place =
+abbrev pub unread_line : Language → List (List ℕ) → ℕ → List ℕ
+unread_line l head place =
     if is_blank (cell_at (Some place) head) || is_column_read (columns_of head) place then []
-    else codes "column " ++ shown (cell_at (Some place) head) ++ unread_words
+    else unread_words l (cell_at (Some place) head)
 
 -- the notes on a table's unread columns, among the `count` columns from `place` on; `head` is the table's first row
-unfoldable pub unread_from : List (List ℕ) → ℕ → ℕ → List ℕ
-unread_from head place count = flat_map (unread_line head) (range_with_len place count)
+unfoldable pub unread_from : Language → List (List ℕ) → ℕ → ℕ → List ℕ
+unread_from l head place count = flat_map (unread_line l head) (range_with_len place count)
 
 -- the notes on a table's unread columns, among the first 64; `head` is the table's first row
-abbrev pub unread_note : List (List ℕ) → List ℕ
-unread_note head = unread_from head 0 64
+abbrev pub unread_note : Language → List (List ℕ) → List ℕ
+unread_note l head = unread_from l head 0 64
 
 -- The table has the first row `head`.
 abbrev pub HasHead : List ℕ → List (List ℕ) → Type 0
@@ -81,31 +86,28 @@ HasHead table head = (rows : List (List (List ℕ))) × AreRows table (head ∷ 
 -- The note on a table that isn't refused, with the first row `head` and the days `days`. This note has the notes on
 -- unread columns. It also has a warning about each day that has fewer pairs, or fewer groups, than another day of its
 -- model.
-unfoldable pub taken_note : List (List ℕ) → List Day → List ℕ
-taken_note head days = unread_note head ++ few_lines (codes "warning: ") (map counts_of days)
+unfoldable pub taken_note : Language → List (List ℕ) → List Day → List ℕ
+taken_note l head days = unread_note l head ++ few_lines l (text_in l texts.WARNING) (map counts_of days)
 
 -- `table` means the days `days`, and `note` is the note on `table`.
-pub record IsTaken (options : OptionTexts) (table : List ℕ) (days : List Day) (note : List ℕ) : Type 0 where
+pub record IsTaken (l : Language) (options : OptionTexts) (table : List ℕ) (days : List Day) (note : List ℕ)
+    : Type 0 where
   pub means : TableMeans options table days
   pub head : List (List ℕ)
   pub has : HasHead table head
-  pub is : note ≡ taken_note head days
+  pub is : note ≡ taken_note l head days
 
 -- The table means a list of days, and the note on the table was written.
-abbrev pub TellsTaken : OptionTexts → List ℕ → Port → Type 0
-TellsTaken options table notes =
-    (days : List Day) × (note : List ℕ) × IsTaken options table days note × TellsText notes note
+abbrev pub TellsTaken : Language → OptionTexts → List ℕ → Port → Type 0
+TellsTaken l options table notes =
+    (days : List Day) × (note : List ℕ) × IsTaken l options table days note × TellsText notes note
 
 -- ---- Faults.
 
--- a row's number as text and, if the row's day is known, the day as text
-abbrev pub row_number : ℕ → Option ℕ → List ℕ
-row_number number None = decimal number ++ codes ", "
-row_number number (Some day) = (decimal number ++ codes " (day ") ++ (decimal day ++ codes "), ")
-
 -- the words for a row's place: the row's number and, if the row's day is known, this day
-abbrev pub row_place : ℕ → Option ℕ → List ℕ
-row_place number day = codes "row " ++ row_number number day
+abbrev pub row_place : Language → ℕ → Option ℕ → List ℕ
+row_place l number None = filled (text_in l texts.ROW) (decimal number ∷ [])
+row_place l number (Some day) = filled (text_in l texts.ROW_AND_DAY) (decimal number ∷ decimal day ∷ [])
 
 -- the name of the option that replaces a blank cell, such as `--model`; empty if the cell has no option
 abbrev pub option_name : Cell → List ℕ
@@ -138,38 +140,38 @@ pub data TellsCells (options : OptionTexts) (columns : Columns) (head : List (Li
 -- The notes on a row: first on columns that the table lacks, then on the row's cells, then on the row as a whole.
 -- Suppose that the row isn't a day, and the table has each column that the row needs. Then there is at least one note
 -- on the row or on its cells.
-pub record TellsRow (options : OptionTexts) (columns : Columns) (head : List (List ℕ)) (number : ℕ)
+pub record TellsRow (l : Language) (options : OptionTexts) (columns : Columns) (head : List (List ℕ)) (number : ℕ)
     (row : List (List ℕ)) (note : List ℕ) : Type 0 where
   pub missing : List (List ℕ)
   pub of_cells : List ℕ
   pub of_row : List ℕ
   pub words : List (List ℕ)
-  pub joined : note ≡ flat_map (line_at (codes "row 1: ")) missing ++ (of_cells ++ of_row)
-  pub cells : TellsCells options columns head (row_place number (day_in (cell_at columns.day row))) row
+  pub joined : note ≡ flat_map (line_at (text_in l texts.FIRST_ROW)) missing ++ (of_cells ++ of_row)
+  pub cells : TellsCells options columns head (row_place l number (day_in (cell_at columns.day row))) row
       (row_cells (row_model options columns row)) of_cells
-  pub whole : of_row ≡ flat_map (line_at (row_place number (day_in (cell_at columns.day row)))) words
+  pub whole : of_row ≡ flat_map (line_at (row_place l number (day_in (cell_at columns.day row)))) words
   pub some : IsNoDay (row_values options columns row) → has_columns options columns row ≡ true
       → 0 < length of_cells + length words
 
 -- The notes on the rows under the first row `head`, in the order of the rows. `numbers` are the rows' numbers. Blank
 -- rows have no notes.
-pub data TellsRows (options : OptionTexts) (columns : Columns) (head : List (List ℕ)) (numbers : List ℕ)
+pub data TellsRows (l : Language) (options : OptionTexts) (columns : Columns) (head : List (List ℕ)) (numbers : List ℕ)
     : List (List (List ℕ)) → List ℕ → Type 0 where
-  NoneTold : TellsRows options columns head numbers [] []
+  NoneTold : TellsRows l options columns head numbers [] []
   BlankTold : (rows : List (List (List ℕ))) (note : List ℕ) (row : List (List ℕ))
-      → TellsRows options columns head numbers rows note → is_blank_row columns row ≡ true
-      → TellsRows options columns head numbers (rows ++ row ∷ []) note
+      → TellsRows l options columns head numbers rows note → is_blank_row columns row ≡ true
+      → TellsRows l options columns head numbers (rows ++ row ∷ []) note
   RowTold : (rows : List (List (List ℕ))) (note : List ℕ) (row : List (List ℕ)) (number : ℕ) (more : List ℕ)
-      → TellsRows options columns head numbers rows note → is_blank_row columns row ≡ false
+      → TellsRows l options columns head numbers rows note → is_blank_row columns row ≡ false
       → IfSome (slice_get numbers (length rows)) (λ due. number ≡ due)
-      → TellsRow options columns head number row more
-      → TellsRows options columns head numbers (rows ++ row ∷ []) (note ++ more)
+      → TellsRow l options columns head number row more
+      → TellsRows l options columns head numbers (rows ++ row ∷ []) (note ++ more)
 
-abbrev pub quotes_note : List ℕ
-quotes_note = codes "a quote isn't closed, or something follows the closing quote of a cell\n"
+abbrev pub quotes_note : Language → List ℕ
+quotes_note l = line_at [] (text_in l texts.OPEN_QUOTE)
 
-abbrev pub nothing_note : List ℕ
-nothing_note = codes "the table has no row with a day\n"
+abbrev pub nothing_note : Language → List ℕ
+nothing_note l = line_at [] (text_in l texts.NO_ROW)
 
 -- The notes on a refused table:
 -- - If the table's quotes are wrong, a single line.
@@ -177,20 +179,20 @@ nothing_note = codes "the table has no row with a day\n"
 -- - Otherwise, the notes on unread columns, on misnamed or missing columns, and on each row. If a column is misnamed,
 --   there is at least one line about columns. If all rows under the first row are blank, there is at least one line
 --   about the whole table.
-pub data TellsTable (options : OptionTexts) (table : List ℕ) : List ℕ → Type 0 where
-  OfQuotes : is_well_quoted table ≡ false → TellsTable options table quotes_note
-  OfNothing : AreRows table [] → TellsTable options table nothing_note
+pub data TellsTable (l : Language) (options : OptionTexts) (table : List ℕ) : List ℕ → Type 0 where
+  OfQuotes : is_well_quoted table ≡ false → TellsTable l options table (quotes_note l)
+  OfNothing : AreRows table [] → TellsTable l options table (nothing_note l)
   OfRows : (head : List (List ℕ)) (rows : List (List (List ℕ))) (missing : List (List ℕ)) (note : List ℕ)
       (words : List (List ℕ)) → AreRows table (head ∷ rows)
-      → TellsRows options (columns_of head) head (drop 1 (row_numbers table)) rows note
+      → TellsRows l options (columns_of head) head (drop 1 (row_numbers table)) rows note
       → (list_all (is_blank_row (columns_of head)) rows ≡ true → 0 < length words)
       → (is_misnamed (columns_of head) head ≡ true → 0 < length missing)
-      → TellsTable options table
-      (unread_note head ++ (flat_map (line_at (codes "row 1: ")) missing ++ (note ++ flat_map (line_at []) words)))
+      → TellsTable l options table (unread_note l head
+      ++ (flat_map (line_at (text_in l texts.FIRST_ROW)) missing ++ (note ++ flat_map (line_at []) words)))
 
 -- The notes on a refused table were written.
-abbrev pub TellsRefused : OptionTexts → List ℕ → Port → Type 0
-TellsRefused options table notes = (text : List ℕ) × TellsTable options table text × TellsText notes text
+abbrev pub TellsRefused : Language → OptionTexts → List ℕ → Port → Type 0
+TellsRefused l options table notes = (text : List ℕ) × TellsTable l options table text × TellsText notes text
 
 -- ---- Reading row by row. No public contract cites these definitions.
 
@@ -207,21 +209,21 @@ pub record TellsPlacedRow (options : OptionTexts) (columns : Columns) (head : Li
 
 -- `new` is `old`, followed by the notes on the rows under the first row `head`. If all these rows are blank, a line
 -- about the whole table follows.
-pub record HasRowsNote (options : OptionTexts) (columns : Columns) (head : List (List ℕ)) (table old new : List ℕ)
-    : Type 0 where
+pub record HasRowsNote (l : Language) (options : OptionTexts) (columns : Columns) (head : List (List ℕ))
+    (table old new : List ℕ) : Type 0 where
   pub rows : List (List (List ℕ))
   pub text : List ℕ
   pub words : List (List ℕ)
   pub are : AreRows table (head ∷ rows)
   pub appended : new ≡ old ++ (text ++ flat_map (line_at []) words)
-  pub told : TellsRows options columns head (drop 1 (row_numbers table)) rows text
+  pub told : TellsRows l options columns head (drop 1 (row_numbers table)) rows text
   pub empty : list_all (is_blank_row columns) rows ≡ true → 0 < length words
 
 -- `rows` are the rows under the first row. They have the days `days`, and there is at least one day. No column is
 -- misnamed, and `note` is the note on the table.
-pub record IsTakenOfRows (options : OptionTexts) (head : List (List ℕ)) (rows : List (List (List ℕ))) (days : List Day)
-    (note : List ℕ) : Type 0 where
+pub record IsTakenOfRows (l : Language) (options : OptionTexts) (head : List (List ℕ)) (rows : List (List (List ℕ)))
+    (days : List Day) (note : List ℕ) : Type 0 where
   pub named : is_misnamed (columns_of head) head ≡ false
   pub described : AreDaysOfRows options (columns_of head) rows days
   pub some : 0 < length days
-  pub is : note ≡ taken_note head days
+  pub is : note ≡ taken_note l head days

@@ -19,6 +19,7 @@ mod row;
 mod sheet;
 mod sheet_writer;
 mod table_body;
+mod texts;
 
 pub use empty_month::write_empty_month;
 pub use fault::SpreadsheetFault;

@@ -1,14 +1,16 @@
 //! Writes notes on the faults of a table.
 //!
 //! It is proved which rows and cells have notes. The words of the notes are only tested.
-ghost use Rattle.std.specs.Prelude.{◌≡◌, ◌<◌, ◌&&◌, ◌++◌, ◌∷◌, [], true, codes, flat_map, length, map, slice_get, ℕ, List, IfOk, IfSome};
+ghost use Rattle.std.specs.Prelude.{◌≡◌, ◌<◌, ◌&&◌, ◌++◌, ◌∷◌, [], true, flat_map, length, map, slice_get, ℕ, List, IfOk, IfSome};
 ghost use Rattle.csv.specs.Records.{fields_of};
+ghost use Rattle.kd_language.specs.Language.{text_in};
 ghost use Rattle.kd_tables.specs.Ports.{port};
 ghost use Rattle.kd_spreadsheet.specs.Notes.{line_at, unread_note, HasRowsNote, Tells, TellsRows, TellsTable, TellsText};
 ghost use Rattle.kd_spreadsheet.specs.NearNames.{is_misnamed};
 ghost use Rattle.kd_spreadsheet.specs.Options.{texts_of};
 ghost use Rattle.kd_spreadsheet.specs.Row.{is_blank_row};
 ghost use Rattle.kd_spreadsheet.specs.Table.{AreRows};
+ghost use Rattle.kd_spreadsheet.specs.declared.texts.TheConstants.{FIRST_ROW as FIRST_ROW_TEXT};
 
 mod cell_words;
 mod found;
@@ -28,15 +30,17 @@ use crate::options::TableOptions;
 use crate::quotes::{is_well_quoted, separator_of, strip_bom};
 use crate::records::read_records;
 use crate::row::is_blank_row;
+use crate::texts::{FIRST_ROW, MISNAMED, NO_ROW, OPEN_QUOTE};
 use csv::ByteRecord;
 use found::Found;
 use head::Head;
 use head_words::head_words;
+use kd_language::Wording;
 use kd_tables::{Sink, put_all};
 use note::{push_bytes, push_due_words, push_line};
 use row_note::push_row;
 use row_numbers::RowNumbers;
-use std::alloc::{AllocError, Global};
+use std::alloc::AllocError;
 pub use taken::taken_note;
 use unread::unread_note;
 use words::Words;
@@ -51,61 +55,57 @@ pub fn put_note<N: Sink>(notes: &mut N, note: &[u8])
 
 /// The notes on a refused table: on its quotes, its unread columns, its missing columns, and its rows.
 pub fn refused_note(
-    alloc: Global,
+    wording: Wording,
     table: &[u8],
     options: &TableOptions<&[u8]>,
 ) -> Result<Vec<u8>, AllocError>
-    ensures { IfOk result (λ note. TellsTable (texts_of options.now) table.now note.items) }
+    ensures { IfOk result (λ note. TellsTable wording.language (texts_of options.now)
+        table.now note.items) }
 {
-    let mut note = Vec::new(alloc);
+    let mut note = Vec::new(wording.alloc);
     if !is_well_quoted(table) {
-        push_line(&mut note, b"", OPEN_QUOTE)?;
+        push_line(&mut note, b"", wording.language.text(OPEN_QUOTE).as_bytes())?;
         return Ok(note);
     }
-    push_table(&mut note, alloc, table, options)?;
+    push_table(&mut note, wording, table, options)?;
     Ok(note)
 }
-
-/// The note on a table whose quotes are wrong.
-const OPEN_QUOTE: &[u8] = b"a quote isn't closed, or something follows the closing quote of a cell";
 
 /// Appends the notes on a refused table whose quotes are right.
 fn push_table(
     note: &mut Vec<u8>,
-    alloc: Global,
+    wording: Wording,
     table: &[u8],
     options: &TableOptions<&[u8]>,
 ) -> Result<(), AllocError>
     requires { note.old.items ≡ [] }
-    ensures { IfOk result (λ _. TellsTable (texts_of options.now) table.now note.new.items) }
+    ensures { IfOk result (λ _. TellsTable wording.language (texts_of options.now)
+        table.now note.new.items) }
 {
-    let records = read_records(alloc, table)?;
+    let records = read_records(wording.alloc, table)?;
     let [names, rows @ ..] = records.as_slice() else {
-        return push_line(note, b"", NO_DAY.as_bytes());
+        return push_line(note, b"", wording.language.text(NO_ROW).as_bytes());
     };
     let columns = Columns::of_head(names);
-    let head = Head::new(alloc, options, &columns, names);
+    let head = Head::new(wording, options, &columns, names);
     push_head(note, &head)?;
     push_rows(note, table, &head, rows)
 }
 
-/// The note on a table without rows, or with only blank rows under the first row.
-const NO_DAY: &str = "the table has no row with a day";
-
 /// Appends the notes on unread columns, on misnamed columns, and on missing columns that every table needs.
 fn push_head(note: &mut Vec<u8>, head: &Head<'_>) -> Result<(), AllocError>
     ensures { IfOk result (λ _. (missing : List (List ℕ)) × (note.new.items ≡ note.old.items
-        ++ (unread_note head.now.names ++ flat_map (line_at (codes "row 1: ")) missing))
+        ++ (unread_note head.now.language head.now.names
+        ++ flat_map (line_at (text_in head.now.language FIRST_ROW_TEXT)) missing))
         × (is_misnamed head.now.columns head.now.names ≡ true → 0 < length missing)) }
 {
-    let unread = unread_note(head.alloc(), head.names())?;
+    let unread = unread_note(head.wording(), head.names())?;
     push_bytes(note, unread.as_slice())?;
     let is_due = is_misnamed(head.columns(), head.names());
-    push_due_words(note, b"row 1: ", &head_words(head), is_due, MISNAMED)
+    let place = head.language().text(FIRST_ROW).as_bytes();
+    let otherwise = head.language().text(MISNAMED);
+    push_due_words(note, place, &head_words(head), is_due, otherwise)
 }
-
-/// The note on a table with a misnamed column, if no other line says what is wrong with the columns.
-const MISNAMED: &str = "the name of a column is nearly that of another, which isn't there";
 
 fn push_rows(
     note: &mut Vec<u8>,
@@ -114,8 +114,8 @@ fn push_rows(
     rows: &[ByteRecord],
 ) -> Result<(), AllocError>
     requires { AreRows table.now (head.now.names ∷ map fields_of rows.now) }
-    ensures { IfOk result (λ _. HasRowsNote head.now.options head.now.columns head.now.names
-        table.now note.old.items note.new.items) }
+    ensures { IfOk result (λ _. HasRowsNote head.now.language head.now.options head.now.columns
+        head.now.names table.now note.old.items note.new.items) }
 {
     let mut numbers = RowNumbers::new(separator_of(table), strip_bom(table));
     numbers.next_row();
@@ -126,7 +126,14 @@ fn push_rows(
         push_body_row(note, &mut found, head, number, row)?;
         blank = is_still_blank(blank, head, row);
     }
-    push_due_words(note, b"", &Words::new(), blank, NO_DAY)
+    let language = head.language();
+    push_due_words(
+        note,
+        b"",
+        &Words::new(language),
+        blank,
+        language.text(NO_ROW),
+    )
 }
 
 /// Appends the notes on a row under the first row. A blank row has no notes.
@@ -140,9 +147,10 @@ fn push_body_row(
     ensures { IfOk result (λ _. (more : List ℕ) × (note.new.items ≡ note.old.items ++ more)
         × ((numbers : List ℕ) (rows : List (List (List ℕ))) (text : List ℕ)
         → IfSome (slice_get numbers (length rows)) (λ due. number ≡ due)
-        → TellsRows head.now.options head.now.columns head.now.names numbers rows text
-        → TellsRows head.now.options head.now.columns head.now.names numbers
-        (rows ++ fields_of row.now ∷ []) (text ++ more))) }
+        → TellsRows head.now.language head.now.options head.now.columns head.now.names
+        numbers rows text
+        → TellsRows head.now.language head.now.options head.now.columns head.now.names
+        numbers (rows ++ fields_of row.now ∷ []) (text ++ more))) }
 {
     if is_blank_row(head.columns(), row) {
         return Ok(());

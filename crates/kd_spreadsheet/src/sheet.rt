@@ -21,9 +21,9 @@ use crate::records::read_records;
 use crate::sheet_writer::write_sheet;
 use crate::table_body::{TableBody, read_body};
 use csv::ByteRecord;
+use kd_language::Wording;
 use kd_state::SheetDay;
 use kd_tables::{Sink, WriteFault};
-use std::alloc::Global;
 
 /// The days that a table means, and the note on the table.
 #[derive(Drop)]
@@ -34,13 +34,13 @@ struct Taken {
 
 /// Reads the rows of a table as days. `names` is the first row, and `rows` are the rows under it.
 fn take_rows(
-    alloc: Global,
+    wording: Wording,
     options: &TableOptions<&[u8]>,
     names: &ByteRecord,
     rows: &[ByteRecord],
 ) -> Result<Taken, SpreadsheetFault>
-    ensures taken { IfOk result (λ taken. IsTakenOfRows (texts_of options.now) (fields_of names.now)
-        (map fields_of rows.now) taken.days.items taken.note.items) }
+    ensures taken { IfOk result (λ taken. IsTakenOfRows wording.language (texts_of options.now)
+        (fields_of names.now) (map fields_of rows.now) taken.days.items taken.note.items) }
     ensures refused { result ≡ Err faults.Refused
         → AreRefusedRows (texts_of options.now) (fields_of names.now) (map fields_of rows.now) }
 {
@@ -48,13 +48,13 @@ fn take_rows(
     if is_misnamed(&columns, names) {
         return Err(SpreadsheetFault::Refused);
     }
-    let Ok(TableBody { days, refused }) = read_body(alloc, options, &columns, rows) else {
+    let Ok(TableBody { days, refused }) = read_body(wording.alloc, options, &columns, rows) else {
         return Err(SpreadsheetFault::NoMemory);
     };
     if refused || days.is_empty() {
         return Err(SpreadsheetFault::Refused);
     }
-    match taken_note(alloc, names, days.as_slice()) {
+    match taken_note(wording, names, days.as_slice()) {
         Ok(note) => Ok(Taken { days, note }),
         Err(_) => Err(SpreadsheetFault::NoMemory),
     }
@@ -62,22 +62,22 @@ fn take_rows(
 
 /// Reads a table as the days of a key sheet.
 fn take_table(
-    alloc: Global,
+    wording: Wording,
     table: &[u8],
     options: &TableOptions<&[u8]>,
 ) -> Result<Taken, SpreadsheetFault>
-    ensures taken { IfOk result (λ taken. IsTaken (texts_of options.now) table.now
-        taken.days.items taken.note.items) }
+    ensures taken { IfOk result (λ taken. IsTaken wording.language (texts_of options.now)
+        table.now taken.days.items taken.note.items) }
     ensures refused { result ≡ Err faults.Refused → IsRefusedTable (texts_of options.now) table.now }
 {
     if !is_well_quoted(table) {
         return Err(SpreadsheetFault::Refused);
     }
-    let Ok(records) = read_records(alloc, table) else {
+    let Ok(records) = read_records(wording.alloc, table) else {
         return Err(SpreadsheetFault::NoMemory);
     };
     match records.as_slice() {
-        [names, rows @ ..] => take_rows(alloc, options, names, rows),
+        [names, rows @ ..] => take_rows(wording, options, names, rows),
         [] => Err(SpreadsheetFault::Refused),
     }
 }
@@ -86,7 +86,7 @@ fn take_table(
 /// notes.
 fn tell_refused<N: Sink>(
     fault: SpreadsheetFault,
-    alloc: Global,
+    wording: Wording,
     table: &[u8],
     options: &TableOptions<&[u8]>,
     notes: &mut N,
@@ -94,10 +94,11 @@ fn tell_refused<N: Sink>(
     ensures told { Tells (port N.taken N.has_failed notes.old notes.new) }
     ensures fault { (result ≡ fault) ⊎ (result ≡ faults.NoMemory) }
     ensures explained { result ≡ faults.Refused
-        → TellsRefused (texts_of options.now) table.now (port N.taken N.has_failed notes.old notes.new) }
+        → TellsRefused wording.language (texts_of options.now) table.now
+        (port N.taken N.has_failed notes.old notes.new) }
 {
     if let SpreadsheetFault::Refused = fault {
-        match refused_note(alloc, table, options) {
+        match refused_note(wording, table, options) {
             Ok(note) => put_note(notes, note.as_slice()),
             Err(_) => return SpreadsheetFault::NoMemory,
         }
@@ -106,12 +107,13 @@ fn tell_refused<N: Sink>(
 }
 
 /// Writes the key sheet with the days of `table`. If the table isn't refused, `notes` gets a line for each unread
-/// column. It also gets a warning for each day that has fewer pairs or groups than another day of its model.
+/// column. It also gets a warning for each day that has fewer pairs or groups than another day of its model. The lines
+/// are in the language of `wording`.
 ///
 /// On `Refused`, the table is refused, and `notes` gets lines about the table's faults. On `NoMemory`, lines may be
 /// missing in `notes`.
 pub fn run_sheet<W: Sink, N: Sink>(
-    alloc: Global,
+    wording: Wording,
     table: &[u8],
     options: &TableOptions<&[u8]>,
     sink: &mut W,
@@ -129,15 +131,17 @@ pub fn run_sheet<W: Sink, N: Sink>(
     ensures told { Tells (port N.taken N.has_failed notes.old notes.new) }
     ensures noted { result ≢ Err (WriteFault.Unwritten faults.Refused)
         → result ≢ Err (WriteFault.Unwritten faults.NoMemory)
-        → TellsTaken (texts_of options.now) table.now (port N.taken N.has_failed notes.old notes.new) }
+        → TellsTaken wording.language (texts_of options.now) table.now
+        (port N.taken N.has_failed notes.old notes.new) }
     ensures explained { result ≡ Err (WriteFault.Unwritten faults.Refused)
-        → TellsRefused (texts_of options.now) table.now (port N.taken N.has_failed notes.old notes.new) }
+        → TellsRefused wording.language (texts_of options.now) table.now
+        (port N.taken N.has_failed notes.old notes.new) }
     ensures failed { W.has_failed sink.new ≡ (W.has_failed sink.old || is_device result) }
 {
-    let Taken { days, note } = match take_table(alloc, table, options) {
+    let Taken { days, note } = match take_table(wording, table, options) {
         Ok(taken) => taken,
         Err(fault) => {
-            let told = tell_refused(fault, alloc, table, options, notes);
+            let told = tell_refused(fault, wording, table, options, notes);
             return Err(WriteFault::Unwritten(told));
         }
     };

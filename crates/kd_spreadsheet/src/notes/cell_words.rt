@@ -1,22 +1,22 @@
 //! The words that say what is wrong with the text of a cell.
 use super::letter_words::{off_wheel_words, pair_words, pins_words};
-use super::words::Words;
+use super::words::{Value, Words};
 use crate::cell::{Cell, day_in, slots, windows};
 use crate::items::{CELL_LIMIT, FromWord, is_blank, push_item_text, values_in};
 use crate::names::{model_named, reflector_named};
-use arrayvec::{ArrayString, ArrayVec};
+use crate::texts::{
+    BAR_COUNT, CountText, IS_NO_BAR, IS_NO_DAY, IS_NO_GROUP, IS_NO_WHEEL, LETTER_COUNT, NEVER_LEFT,
+    NO_LETTER_OR_NUMBER, NO_MODEL, NO_REFLECTOR, NOT_IN_BOX, NOTHING, ONLY_LEFT, TOO_LONG,
+    TOO_MANY_GROUPS, WHEEL_COUNT, WHEEL_TWICE,
+};
+use arrayvec::ArrayVec;
+use kd_language::{Language, Text};
 use kd_slips::{box_words, model_name};
 use kd_tables::{Letter, Model, Reading, Wheel, allowed, in_box, split_words};
 
-/// The words for a blank cell.
-const NOTHING: &str = "nothing is there";
-
-/// The words for a cell with too many bytes or words.
-pub const TOO_LONG: &str = "the cell is too long";
-
-/// Says what is wrong with the text of `cell`, in a row of `model`.
-pub fn cell_words(cell: Cell, model: Option<Model>, text: &[u8]) -> Words {
-    let mut words = Words::new();
+/// Says in `language` what is wrong with the text of `cell`, in a row of `model`.
+pub fn cell_words(language: Language, cell: Cell, model: Option<Model>, text: &[u8]) -> Words {
+    let mut words = Words::new(language);
     let lines = &mut words;
     match cell {
         Cell::Day => day_words(lines, text),
@@ -39,19 +39,18 @@ pub fn cell_words(cell: Cell, model: Option<Model>, text: &[u8]) -> Words {
     words
 }
 
-/// Writes a line for each word of `text` that can't be read as a value: the word, then `what`, for example " isn't a
-/// wheel". If `text` is blank or too long, says so.
-pub fn item_words<T: FromWord + Copy>(lines: &mut Words, text: &[u8], what: &str) {
+/// Writes the line `what` for each word of `text` that can't be read as a value. The template `what` has one value: the
+/// word. If `text` is blank or too long, says so.
+pub fn item_words<T: FromWord + Copy>(lines: &mut Words, text: &[u8], what: Text) {
     if is_blank(text) {
-        lines.tell(NOTHING);
+        lines.tell(NOTHING, &[]);
     } else if !has_told_words::<T>(lines, text, what) {
-        lines.tell(TOO_LONG);
+        lines.tell(TOO_LONG, &[]);
     }
 }
 
-/// Writes a line for each word of `text` that can't be read as a value: the word, then `what`. Returns false if `text`
-/// is too long.
-fn has_told_words<T: FromWord + Copy>(lines: &mut Words, text: &[u8], what: &str) -> bool {
+/// Writes the line `what` for each word of `text` that can't be read as a value. Returns false if `text` is too long.
+fn has_told_words<T: FromWord + Copy>(lines: &mut Words, text: &[u8], what: Text) -> bool {
     if text.len() > CELL_LIMIT {
         return false;
     }
@@ -66,41 +65,38 @@ fn has_told_words<T: FromWord + Copy>(lines: &mut Words, text: &[u8], what: &str
     }
 }
 
-/// Writes a line for each word in `words` that can't be read as a value: the word, then `what`.
-fn tell_words<T: FromWord + Copy>(lines: &mut Words, words: &[&[u8]], what: &str) {
+/// Writes the line `what` for each word in `words` that can't be read as a value.
+fn tell_words<T: FromWord + Copy>(lines: &mut Words, words: &[&[u8]], what: Text) {
     for word in words {
         if !word.is_empty() && T::read_word(word).is_none() {
-            lines.tell_item("", word, what);
+            lines.tell(what, &[Value::Cell(word)]);
         }
     }
 }
 
-/// Says that there are `found` things in place of `count` things. `one` is the name of one thing, `many` the name of
-/// several things.
-fn count_words(lines: &mut Words, found: usize, count: usize, one: &str, many: &str) {
-    lines.begin();
-    lines.add_number(found as u64);
-    lines.add(if found == 1 { one } else { many });
-    lines.add(if found == 1 { " is" } else { " are" });
-    lines.add(" there, in place of ");
-    lines.add_number(count as u64);
-    lines.end();
+/// Says that there are `found` things in place of `count` things.
+fn count_words(lines: &mut Words, found: usize, count: usize, text: CountText) {
+    let text = if found == 1 { text.0 } else { text.1 };
+    lines.tell(
+        text,
+        &[Value::Number(found as u64), Value::Number(count as u64)],
+    );
 }
 
 /// Says that `text` is blank, or isn't a day from 1 to 31. Says nothing if `text` is a day.
 pub fn day_words(lines: &mut Words, text: &[u8]) {
     if is_blank(text) {
-        lines.tell(NOTHING);
+        lines.tell(NOTHING, &[]);
     } else if day_in(text).is_none() {
-        lines.tell_item("", text, " isn't a day from 1 to 31");
+        lines.tell(IS_NO_DAY, &[Value::Cell(text)]);
     }
 }
 
 fn model_words(lines: &mut Words, text: &[u8]) {
     if is_blank(text) {
-        lines.tell(NOTHING);
+        lines.tell(NOTHING, &[]);
     } else if model_named(text).is_none() {
-        lines.tell_item("there is no model ", text, "");
+        lines.tell(NO_MODEL, &[Value::Cell(text)]);
     }
 }
 
@@ -109,13 +105,13 @@ fn reflector_words(lines: &mut Words, model: Option<Model>, text: &[u8]) {
         return;
     };
     if is_blank(text) {
-        lines.tell(NOTHING);
+        lines.tell(NOTHING, &[]);
     } else if reflector_named(model, text).is_none() {
-        lines.begin();
-        lines.add(model.text().as_str());
-        lines.add(" has no reflector ");
-        lines.add_cell(text);
-        lines.end();
+        let name = model.text();
+        lines.tell(
+            NO_REFLECTOR,
+            &[Value::Text(name.as_str()), Value::Cell(text)],
+        );
     }
 }
 
@@ -123,18 +119,10 @@ fn reflector_words(lines: &mut Words, model: Option<Model>, text: &[u8]) {
 fn letter_words(lines: &mut Words, text: &[u8], count: usize) {
     match values_in::<Letter>(text) {
         Some(letters) if letters.len() == count => {}
-        Some(letters) if !letters.is_empty() => count_words(
-            lines,
-            letters.len(),
-            count,
-            " letter or number",
-            " letters or numbers",
-        ),
-        _ => item_words::<Letter>(
-            lines,
-            text,
-            " is neither a letter nor a number from 1 to 26",
-        ),
+        Some(letters) if !letters.is_empty() => {
+            count_words(lines, letters.len(), count, LETTER_COUNT);
+        }
+        _ => item_words::<Letter>(lines, text, NO_LETTER_OR_NUMBER),
     }
 }
 
@@ -163,13 +151,13 @@ fn wheel_words(lines: &mut Words, model: Option<Model>, text: &[u8]) {
         Some(wheels) if !wheels.is_empty() => {
             let is_whole = wheels.len() == count;
             if !is_whole {
-                count_words(lines, wheels.len(), count, " wheel", " wheels");
+                count_words(lines, wheels.len(), count, WHEEL_COUNT);
             }
             if let Some(model) = model {
                 seat_words(lines, wheels.as_slice(), model, is_whole);
             }
         }
-        _ => item_words::<Option<Wheel>>(lines, text, " isn't a wheel"),
+        _ => item_words::<Option<Wheel>>(lines, text, IS_NO_WHEEL),
     }
 }
 
@@ -185,7 +173,7 @@ fn seat_words(lines: &mut Words, wheels: &[Option<Wheel>], model: Model, is_whol
             };
             one_seat_words(lines, wheel, model, slot);
             if wheels[..index].contains(&Some(wheel)) {
-                one_wheel_words(lines, wheel, " is there twice");
+                one_wheel_words(lines, WHEEL_TWICE, wheel);
             }
         }
     }
@@ -194,50 +182,52 @@ fn seat_words(lines: &mut Words, wheels: &[Option<Wheel>], model: Model, is_whol
 /// Says that `wheel` isn't in the model's box, or can't be in slot `slot`. If the slot isn't known, `slot` is 0.
 fn one_seat_words(lines: &mut Words, wheel: Wheel, model: Model, slot: u8) {
     if !in_box(model, wheel) {
-        one_wheel_words(lines, wheel, no_box_rule(model).as_str());
+        no_box_words(lines, wheel, model);
     } else if slot != 0 && !allowed(model, slot, wheel) {
-        one_wheel_words(lines, wheel, seat_rule(wheel));
+        one_wheel_words(lines, seat_rule(wheel), wheel);
     }
 }
 
-fn one_wheel_words(lines: &mut Words, wheel: Wheel, words: &str) {
-    lines.tell_item("wheel ", wheel.text().as_str().as_bytes(), words);
+/// Writes the line `what`, a template with one value: the wheel.
+fn one_wheel_words(lines: &mut Words, what: Text, wheel: Wheel) {
+    let name = wheel.text();
+    lines.tell(what, &[Value::Text(name.as_str())]);
 }
 
-/// The words for a wheel that isn't in the model's box.
-fn no_box_rule(model: Model) -> ArrayString<96> {
-    let mut words = ArrayString::new();
-    words.push_str(" isn't in the box of ");
-    words.push_str(model_name(model));
-    words.push_str(", which has ");
-    words.push_str(box_words(model));
-    words
+/// Says that `wheel` isn't in the model's box.
+fn no_box_words(lines: &mut Words, wheel: Wheel, model: Model) {
+    let name = wheel.text();
+    let language = lines.language();
+    lines.tell(
+        NOT_IN_BOX,
+        &[
+            Value::Text(name.as_str()),
+            Value::Text(model_name(language, model)),
+            Value::Text(box_words(language, model)),
+        ],
+    );
 }
 
 /// The words for a wheel that can't be in its slot of an M4.
-fn seat_rule(wheel: Wheel) -> &'static str {
+fn seat_rule(wheel: Wheel) -> Text {
     match wheel {
-        Wheel::Beta | Wheel::Gamma => " can only be at the left",
-        _ => " can't be at the left, where Beta or Gamma has to be",
+        Wheel::Beta | Wheel::Gamma => ONLY_LEFT,
+        _ => NEVER_LEFT,
     }
 }
 
 fn group_words(lines: &mut Words, text: &[u8]) {
     match values_in::<[Letter; 3]>(text) {
-        Some(groups) if groups.len() > 4 => lines.tell("more than 4 groups are there"),
+        Some(groups) if groups.len() > 4 => lines.tell(TOO_MANY_GROUPS, &[]),
         Some(_) => {}
-        None => item_words::<[Letter; 3]>(lines, text, " isn't a group of three letters"),
+        None => item_words::<[Letter; 3]>(lines, text, IS_NO_GROUP),
     }
 }
 
 fn bar_words(lines: &mut Words, text: &[u8]) {
     match values_in::<Reading>(text) {
         Some(rows) if rows.len() == 27 => {}
-        Some(rows) if !rows.is_empty() => count_words(lines, rows.len(), 27, " bar", " bars"),
-        _ => item_words::<Reading>(
-            lines,
-            text,
-            " isn't two different numbers from 0 to 6 with a hyphen between",
-        ),
+        Some(rows) if !rows.is_empty() => count_words(lines, rows.len(), 27, BAR_COUNT),
+        _ => item_words::<Reading>(lines, text, IS_NO_BAR),
     }
 }

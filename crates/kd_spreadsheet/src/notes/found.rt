@@ -2,9 +2,10 @@
 use super::cell_words::day_words;
 use super::head::Head;
 use super::head_words::missing_of_model;
-use super::words::Words;
+use super::words::{Value, Words};
 use crate::cell::{day_in, row_model};
-use crate::columns::{Columns, cell_at};
+use crate::columns::cell_at;
+use crate::texts::SAME_DAY;
 use arrayvec::ArrayVec;
 use csv::ByteRecord;
 use kd_tables::Model;
@@ -34,17 +35,18 @@ impl Found {
                 let _ = self.models.try_push(Some(model));
                 missing_of_model(head, model)
             }
-            _ => Words::new(),
+            _ => Words::new(head.language()),
         }
     }
 
     /// Says that the day of row `number` can't be read, or that an earlier row has this day.
-    pub fn day_words(&mut self, columns: &Columns, row: &ByteRecord, number: u64) -> Words {
-        let mut lines = Words::new();
-        if columns.day.is_none() {
+    pub fn day_words(&mut self, head: &Head<'_>, row: &ByteRecord, number: u64) -> Words {
+        let mut lines = Words::new(head.language());
+        let column = head.columns().day;
+        if column.is_none() {
             return lines;
         }
-        let cell = cell_at(row, columns.day);
+        let cell = cell_at(row, column);
         let Some(day) = day_in(cell) else {
             day_words(&mut lines, cell);
             return lines;
@@ -53,11 +55,7 @@ impl Found {
             if *earlier == 0 {
                 *earlier = number;
             } else {
-                lines.begin();
-                lines.add("row ");
-                lines.add_number(*earlier);
-                lines.add(" has this day, too");
-                lines.end();
+                lines.tell(SAME_DAY, &[Value::Number(*earlier)]);
             }
         }
         lines

@@ -2,13 +2,13 @@
 use crate::columns::Columns;
 use crate::options::TableOptions;
 use csv::ByteRecord;
-use std::alloc::Global;
+use kd_language::{Language, Wording};
 
 /// The options, the columns and the first row of a table, for the notes on each row. The first row has the columns'
-/// names.
+/// names. Also the language of the notes, and the memory for them.
 #[derive(Drop)]
 pub struct Head<'a> {
-    alloc: Global,
+    wording: Wording,
     options: &'a TableOptions<&'a [u8]>,
     columns: &'a Columns,
     names: &'a ByteRecord,
@@ -22,6 +22,7 @@ impl<'a> std::marker::Model for Head<'a> {
     ghost Value = { Head };
 
     ghost view = { λ head. record {
+      language = head.wording.language;
       options = texts_of head.options.now;
       columns = head.columns.now;
       names = fields_of head.names.now;
@@ -36,24 +37,34 @@ impl<'a> Head<'a> {
 
     /// The head of a table whose first row is `names`.
     pub fn new(
-        alloc: Global,
+        wording: Wording,
         options: &'a TableOptions<&'a [u8]>,
         columns: &'a Columns,
         names: &'a ByteRecord,
     ) -> Self
-        ensures { result ≡ head_of (texts_of options.now) columns.now (fields_of names.now) }
+        ensures { result ≡ head_of wording.language (texts_of options.now)
+            columns.now (fields_of names.now) }
     {
         Head {
-            alloc,
+            wording,
             options,
             columns,
             names,
         }
     }
 
-    /// The allocator for notes.
-    pub fn alloc(&self) -> Global {
-        self.alloc
+    /// The language of the notes, and the memory for them.
+    pub fn wording(&self) -> Wording
+        ensures { result.language ≡ self.now.language }
+    {
+        self.wording
+    }
+
+    /// The language of the notes.
+    pub fn language(&self) -> Language
+        ensures { result ≡ self.now.language }
+    {
+        self.wording.language
     }
 
     pub fn options(&self) -> &'a TableOptions<&'a [u8]>

@@ -2,12 +2,14 @@
 //! names.
 use super::head::Head;
 use super::note::option_name;
-use super::words::Words;
+use super::words::{Value, Words};
 use crate::cell::{Cell, cells_of, column_of, has_text, is_optional};
 use crate::columns::{Columns, cell_at, english_name, german_name, short_name};
 use crate::names::is_named;
 use crate::near_names::{ALL_CELLS, is_near_name, near_column};
 use crate::row::places_of;
+use crate::texts::{IS_UTF16, MEANT, NO_COLUMN, NO_COLUMN_OR_OPTION, NO_NAMES, SAYS_SEPARATOR};
+use kd_language::Text;
 use kd_tables::Model;
 
 /// The columns that every table needs, unless an option replaces them.
@@ -25,14 +27,14 @@ static OFTEN_NAMED: [Cell; 5] = [
 /// Names the misnamed columns, and the missing columns that every table needs. If the first row has no column names,
 /// not even misnamed ones, says why it has none.
 pub fn head_words(head: &Head<'_>) -> Words {
-    let mut lines = Words::new();
+    let mut lines = Words::new(head.language());
     for cell in &ALL_CELLS {
         tell_near(&mut lines, head, *cell);
     }
     if !names_none(head.columns()) {
         tell_missing(&mut lines, head, &NEEDED);
     } else if lines.is_empty() {
-        lines.tell(nameless_words(cell_at(head.names(), Some(0))));
+        lines.tell(nameless_words(cell_at(head.names(), Some(0))), &[]);
     }
     lines
 }
@@ -40,7 +42,7 @@ pub fn head_words(head: &Head<'_>) -> Words {
 /// Names the columns that a day of `model` needs, but this table lacks. If the first row has no column names, says
 /// nothing.
 pub fn missing_of_model(head: &Head<'_>, model: Model) -> Words {
-    let mut lines = Words::new();
+    let mut lines = Words::new(head.language());
     if !names_none(head.columns()) {
         tell_missing(&mut lines, head, cells_of(model));
     }
@@ -54,13 +56,10 @@ fn tell_near(lines: &mut Words, head: &Head<'_>, cell: Cell) {
         && let Some(column) = near_column(head.columns(), head.names(), cell)
     {
         let name = cell_at(head.names(), Some(column));
-        lines.begin();
-        lines.add("did you mean ");
-        lines.add(meant_name(cell, name));
-        lines.add(" by ");
-        lines.add_cell(name);
-        lines.add("? If not, give this column another name");
-        lines.end();
+        lines.tell(
+            MEANT,
+            &[Value::Text(meant_name(cell, name)), Value::Cell(name)],
+        );
     }
 }
 
@@ -79,14 +78,14 @@ fn are_missing(columns: &[Option<usize>]) -> bool {
 }
 
 /// The reason why the first row, which begins with `cell`, has no column names.
-fn nameless_words(cell: &[u8]) -> &'static str {
+fn nameless_words(cell: &[u8]) -> Text {
     if is_utf16(cell) {
-        return "this table is in UTF-16: save it as CSV in UTF-8";
+        return IS_UTF16;
     }
     if says_separator(cell) {
-        return "this row says what separates the cells: remove it, so that the names are first";
+        return SAYS_SEPARATOR;
     }
-    "this row doesn't have the names of the columns, such as day (in German Tag)"
+    NO_NAMES
 }
 
 /// Whether `cell`, the first cell of a table, begins with the byte order mark of UTF-16.
@@ -128,18 +127,13 @@ fn tell_missing(lines: &mut Words, head: &Head<'_>, cells: &[Cell]) {
 
 /// Says that the table lacks the column of `cell`.
 fn missing_column(lines: &mut Words, head: &Head<'_>, cell: Cell) {
+    let name = Value::Text(name_of(head, cell));
     let option = option_name(cell);
-    lines.begin();
     if option.is_empty() {
-        lines.add("there is no column ");
-        lines.add(name_of(head, cell));
+        lines.tell(NO_COLUMN, &[name]);
     } else {
-        lines.add("there is neither a column ");
-        lines.add(name_of(head, cell));
-        lines.add(" nor an option ");
-        lines.add(option);
+        lines.tell(NO_COLUMN_OR_OPTION, &[name, Value::Text(option)]);
     }
-    lines.end();
 }
 
 /// The name of the column of `cell`, in the language in which the table's columns are named.

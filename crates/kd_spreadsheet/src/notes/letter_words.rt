@@ -1,18 +1,20 @@
 //! The words that say what is wrong with the letters of pins and pairs.
-use super::cell_words::{TOO_LONG, item_words};
-use super::words::Words;
+use super::cell_words::item_words;
+use super::words::{Value, Words};
 use crate::items::{joined, values_in};
+use crate::texts::{
+    IN_TWO_PAIRS, IS_NO_LETTER, IS_NO_PAIR, LETTER_TWICE, OFF_WHEEL, PAIRED_WITH_ITSELF, TOO_LONG,
+};
 use kd_tables::{Letter, place_on_wheel};
 
 /// Says that `letter` isn't on a Converter's wheel `wheel`. Says nothing if `letter` is on the wheel.
 pub fn off_wheel_words(lines: &mut Words, wheel: u8, letter: Letter) {
     if place_on_wheel(wheel, letter).is_none() {
-        lines.begin();
-        lines.add("wheel ");
-        lines.add_number(u64::from(wheel));
-        lines.add(" has no ");
-        lines.add_cell(&[letter.byte()]);
-        lines.end();
+        let byte = [letter.byte()];
+        lines.tell(
+            OFF_WHEEL,
+            &[Value::Number(u64::from(wheel)), Value::Cell(&byte)],
+        );
     }
 }
 
@@ -20,7 +22,7 @@ pub fn off_wheel_words(lines: &mut Words, wheel: u8, letter: Letter) {
 pub fn pins_words(lines: &mut Words, text: &[u8], wheel: u8) {
     match joined(text) {
         Some(letters) => pin_letters_words(lines, letters.as_slice(), wheel),
-        None => lines.tell(TOO_LONG),
+        None => lines.tell(TOO_LONG, &[]),
     }
 }
 
@@ -29,7 +31,7 @@ fn pin_letters_words(lines: &mut Words, letters: &[u8], wheel: u8) {
     for (index, byte) in letters.iter().enumerate() {
         pin_letter_words(lines, *byte, wheel);
         if letters[..index].contains(byte) {
-            lines.tell_item("the letter ", &[*byte], " is there twice");
+            lines.tell(LETTER_TWICE, &[Value::Cell(&[*byte])]);
         }
     }
 }
@@ -39,7 +41,7 @@ fn pin_letters_words(lines: &mut Words, letters: &[u8], wheel: u8) {
 fn pin_letter_words(lines: &mut Words, byte: u8, wheel: u8) {
     match Letter::from_byte(byte) {
         Some(letter) => off_wheel_words(lines, wheel, letter),
-        None => lines.tell_item("", &[byte], " isn't a letter"),
+        None => lines.tell(IS_NO_LETTER, &[Value::Cell(&[byte])]),
     }
 }
 
@@ -47,7 +49,7 @@ fn pin_letter_words(lines: &mut Words, byte: u8, wheel: u8) {
 pub fn pair_words(lines: &mut Words, text: &[u8]) {
     match values_in::<(Letter, Letter)>(text) {
         Some(pairs) => twice_words(lines, pairs.as_slice()),
-        None => item_words::<(Letter, Letter)>(lines, text, " isn't a pair of letters"),
+        None => item_words::<(Letter, Letter)>(lines, text, IS_NO_PAIR),
     }
 }
 
@@ -56,7 +58,7 @@ fn twice_words(lines: &mut Words, pairs: &[(Letter, Letter)]) {
     for (index, pair) in pairs.iter().enumerate() {
         let pair = *pair;
         if pair.0 == pair.1 {
-            lines.tell_item("the letter ", &[pair.0.byte()], " is paired with itself");
+            lines.tell(PAIRED_WITH_ITSELF, &[Value::Cell(&[pair.0.byte()])]);
         }
         for other in &pairs[..index] {
             shared_words(lines, *other, pair);
@@ -77,12 +79,8 @@ fn shared_words(lines: &mut Words, other: (Letter, Letter), pair: (Letter, Lette
 
 /// Says that `letter` is in the pairs `one` and `two`.
 fn shared_letter_words(lines: &mut Words, letter: u8, one: &[u8], two: &[u8]) {
-    lines.begin();
-    lines.add("the letter ");
-    lines.add_cell(&[letter]);
-    lines.add(" is in ");
-    lines.add_cell(one);
-    lines.add(" and in ");
-    lines.add_cell(two);
-    lines.end();
+    lines.tell(
+        IN_TWO_PAIRS,
+        &[Value::Cell(&[letter]), Value::Cell(one), Value::Cell(two)],
+    );
 }

@@ -1,15 +1,18 @@
 //! Appends lines to notes. Each line begins with the place that the line is about.
-ghost use Rattle.std.specs.Prelude.{◌≡◌, ◌++◌, ◌∷◌, ◌<◌, [], codes, decimal, ℕ, List, true, flat_map, length, map, IfOk};
+ghost use Rattle.std.specs.Prelude.{◌≡◌, ◌++◌, ◌<◌, ℕ, List, true, flat_map, length, map, IfOk};
 ghost use Rattle.std.specs.List.{slice_split};
-ghost use Rattle.kd_spreadsheet.specs.Notes.{cell_name, cell_place, line_at, option_name, row_number, row_place, shown, shown_byte};
+ghost use Rattle.std.specs.String.{string_bytes};
+ghost use Rattle.kd_spreadsheet.specs.Notes.{cell_name, cell_place, line_at, option_name, row_place, shown, shown_byte};
 
 use super::head::Head;
 use super::words::{Words, shown_byte};
 use crate::cell::{Cell, column_of};
 use crate::columns::cell_at;
+use crate::texts::{ROW, ROW_AND_DAY};
 use itoa::Buffer;
+use kd_language::Wording;
 use kd_tables::split_once;
-use std::alloc::{AllocError, Global};
+use std::alloc::AllocError;
 
 /// Appends the lines of `words`, with `place` before each line. If there are no words, appends nothing.
 pub fn push_words(note: &mut Vec<u8>, place: &[u8], words: &Words) -> Result<(), AllocError>
@@ -68,13 +71,15 @@ pub fn push_line(note: &mut Vec<u8>, place: &[u8], words: &[u8]) -> Result<(), A
 }
 
 /// The words for a row's place: the row's number and, if the row's day is known, this day.
-pub fn row_place(alloc: Global, number: u64, day: Option<u8>) -> Result<Vec<u8>, AllocError>
-    ensures { IfOk result (λ place. place.items ≡ row_place number day) }
+pub fn row_place(wording: Wording, number: u64, day: Option<u8>) -> Result<String, AllocError>
+    ensures { IfOk result (λ place. string_bytes place ≡ row_place wording.language number day) }
 {
-    let mut place = Vec::new(alloc);
-    push_bytes(&mut place, b"row ")?;
-    push_row_number(&mut place, number, day)?;
-    Ok(place)
+    let mut buffer = Buffer::new();
+    let row = buffer.format(number);
+    match day {
+        Some(day) => wording.fill(ROW_AND_DAY, &[row, Buffer::new().format(day)]),
+        None => wording.fill(ROW, &[row]),
+    }
 }
 
 /// The words for the place of `cell`: the words `row` for the row's place, and then the name of the cell's column.
@@ -82,7 +87,7 @@ pub fn cell_place(head: &Head<'_>, row: &[u8], cell: Cell) -> Result<Vec<u8>, Al
     ensures { IfOk result (λ place. place.items
         ≡ cell_place head.now.columns head.now.names row.now cell) }
 {
-    let mut place = Vec::new(head.alloc());
+    let mut place = Vec::new(head.wording().alloc);
     push_bytes(&mut place, row)?;
     push_cell_name(&mut place, head, cell)?;
     push_bytes(&mut place, b": ")?;
@@ -120,27 +125,6 @@ pub fn option_name(cell: Cell) -> &'static str
         Cell::Window => "--window",
         _ => "",
     }
-}
-
-/// Appends a row's number and, if the row's day is known, the day.
-fn push_row_number(place: &mut Vec<u8>, number: u64, day: Option<u8>) -> Result<(), AllocError>
-    ensures { IfOk result (λ _. place.new.items ≡ place.old.items ++ row_number number day) }
-{
-    match day {
-        Some(day) => {
-            push_number(place, number, b" (day ")?;
-            push_number(place, u64::from(day), b"), ")
-        }
-        None => push_number(place, number, b", "),
-    }
-}
-
-/// Appends `number`, then `after`.
-fn push_number(note: &mut Vec<u8>, number: u64, after: &[u8]) -> Result<(), AllocError>
-    ensures { IfOk result (λ _. note.new.items ≡ note.old.items ++ (decimal number ++ after.now)) }
-{
-    push_bytes(note, Buffer::new().format(number).as_bytes())?;
-    push_bytes(note, after)
 }
 
 /// Appends the name that the table has for the column of `cell`. If the table lacks the column, appends the name of the

@@ -1,6 +1,7 @@
 //! The notes on a row.
 ghost use Rattle.std.specs.Prelude.{◌≡◌, ◌++◌, ◌<◌, [], ℕ, List, true, flat_map, length, IfOk};
 ghost use Rattle.std.specs.Option.{option_map_or};
+ghost use Rattle.std.specs.String.{string_bytes};
 ghost use Rattle.csv.specs.Records.{fields_of};
 ghost use Rattle.kd_spreadsheet.specs.Cells.{cells_of, day_in, has_columns, is_faulty, row_cells, row_model};
 ghost use Rattle.kd_spreadsheet.specs.Columns.{cell_at};
@@ -11,11 +12,12 @@ use super::cell_words::cell_words;
 use super::found::Found;
 use super::head::{Head, PlacedRow};
 use super::note::{cell_place, push_due_words, push_words, row_place};
-use super::words::Words;
+use super::words::{Value, Words};
 use crate::cell::{Cell, day_in, has_columns, has_text, is_read, known_cells, row_model, text_of};
 use crate::columns::cell_at;
 use crate::items::is_blank;
 use crate::row::row_day;
+use crate::texts::{BEYOND, FIRST_ROW, ROW_ENDS, ROW_IS_NO_DAY, UNREADABLE};
 use csv::ByteRecord;
 use std::alloc::AllocError;
 
@@ -28,23 +30,23 @@ pub fn push_row(
     row: &ByteRecord,
 ) -> Result<(), AllocError>
     ensures { IfOk result (λ _. (more : List ℕ) × (note.new.items ≡ note.old.items ++ more)
-        × TellsRow head.now.options head.now.columns head.now.names number
+        × TellsRow head.now.language head.now.options head.now.columns head.now.names number
         (fields_of row.now) more) }
 {
     let place = place_of_row(head, number, row)?;
     let missing = found.missing(head, row);
-    let day_words = found.day_words(head.columns(), row, number);
-    push_words(note, b"row 1: ", &missing)?;
-    push_placed_row(note, head, place.as_slice(), row, &day_words)
+    let day_words = found.day_words(head, row, number);
+    push_words(note, head.language().text(FIRST_ROW).as_bytes(), &missing)?;
+    push_placed_row(note, head, place.as_str().as_bytes(), row, &day_words)
 }
 
 /// The words for a row's place: the row's number and, if the row's day is known, this day.
-fn place_of_row(head: &Head<'_>, number: u64, row: &ByteRecord) -> Result<Vec<u8>, AllocError>
-    ensures { IfOk result (λ place. place.items
-        ≡ row_place number (day_in (cell_at head.now.columns.day (fields_of row.now)))) }
+fn place_of_row(head: &Head<'_>, number: u64, row: &ByteRecord) -> Result<String, AllocError>
+    ensures { IfOk result (λ place. string_bytes place ≡ row_place head.now.language number
+        (day_in (cell_at head.now.columns.day (fields_of row.now)))) }
 {
     let day = day_in(cell_at(row, head.columns().day));
-    row_place(head.alloc(), number, day)
+    row_place(head.wording(), number, day)
 }
 
 /// Appends the notes on a row's cells, and on the row as a whole.
@@ -66,7 +68,7 @@ fn push_placed_row(
         place,
         &end_words(head, row),
         is_due,
-        "this row isn't a day",
+        head.language().text(ROW_IS_NO_DAY),
     )
 }
 
@@ -111,7 +113,8 @@ fn push_cell(
 {
     let place = cell_place(head, row.place(), cell)?;
     let is_due = is_faulty(head, row, cell);
-    push_due_words(note, place.as_slice(), words, is_due, "this can't be read")
+    let otherwise = head.language().text(UNREADABLE);
+    push_due_words(note, place.as_slice(), words, is_due, otherwise)
 }
 
 /// Whether the text of `cell` can't be read. False unless the table has the column of `cell`, or the option of `cell`
@@ -133,10 +136,11 @@ fn words_of(head: &Head<'_>, row: &PlacedRow<'_>, cell: Cell) -> Words {
     let options = head.options();
     let columns = head.columns();
     if !has_text(options, columns, cell) {
-        return Words::new();
+        return Words::new(head.language());
     }
     let model = row_model(options, columns, row.cells());
-    cell_words(cell, model, text_of(options, columns, row.cells(), cell))
+    let text = text_of(options, columns, row.cells(), cell);
+    cell_words(head.language(), cell, model, text)
 }
 
 fn push_cells(
@@ -177,16 +181,16 @@ fn is_untold(head: &Head<'_>, row: &ByteRecord, start: usize, end: usize) -> boo
 
 /// Says before which column a row ends, or which texts stand beyond the last column.
 fn end_words(head: &Head<'_>, row: &ByteRecord) -> Words {
-    let mut lines = Words::new();
+    let mut lines = Words::new(head.language());
     let count = head.columns().count;
     if row.len() < count {
         let name = cell_at(head.names(), Some(row.len()));
-        lines.tell_item("", name, ": the row ends before this column");
+        lines.tell(ROW_ENDS, &[Value::Cell(name)]);
     }
     for column in count..row.len() {
         let cell = cell_at(row, Some(column));
         if !is_blank(cell) {
-            lines.tell_item("beyond the last column: ", cell, " is there");
+            lines.tell(BEYOND, &[Value::Cell(cell)]);
         }
     }
     lines

@@ -8,7 +8,7 @@ use Rattle.kd_spreadsheet.proofs.notes.push_rows.Given as goal
 
 abbrev pub invariant-loop-row : goal.invariant-loop-row
 invariant-loop-row l = (text : List ℕ) × (l.note.items ≡ l.fn.note.items ++ text)
-    × TellsRows l.head.options l.head.columns l.head.names (drop 1 (row_numbers l.table))
+    × TellsRows l.head.language l.head.options l.head.columns l.head.names (drop 1 (row_numbers l.table))
     (map fields_of (take l.row-index l.rows)) text
     × (l.blank ≡ list_all (is_blank_row l.head.columns) (map fields_of (take l.row-index l.rows)))
     × IsCounted l.numbers × (numbers_left l.numbers ≡ drop (l.row-index + 1) (row_numbers l.table))

@@ -10,12 +10,13 @@ use Rattle.kd_spreadsheet.proofs.notes.push_table.Goals as goal
 
 pub returns-in_default : goal.returns-in_default
 returns-in_default c =
+    let l = c.args.wording.language in
     let table = c.args.table.now in
     let none = no_row c.in_ok-records.records.items (rw c.as_slice.ensures.value at c.in_default.len_below) in
     let are = subst (AreRows table) none c.in_ok-records.ensures in
-    IfOk-weaker c.push_line.result _ _ (λ done told. of_text (texts_of c.args.options.now) table nothing_note
+    IfOk-weaker c.push_line.result _ _ (λ done told. of_text l (texts_of c.args.options.now) table (nothing_note l)
     c.args.note.now.items _ c.requires told (OfNothing are))
-    (rw c.as_bytes.ensures.value at c.push_line.ensures)
+    (rw (c.as_bytes.ensures.value, c.text.ensures) at c.push_line.ensures)
 
 pub push_rows-requires : goal.push_rows-requires
 push_rows-requires c =
@@ -28,6 +29,6 @@ pub returns : goal.returns
 returns c =
     let rows = rw (c.new-head.ensures, c.of_head-columns.ensures) at c.push_rows.ensures in
     let pushed = rw (c.new-head.ensures, c.of_head-columns.ensures) at c.in_ok-push_head.ensures in
-    IfOk-weaker c.push_rows.result _ _ (λ done has. of_rows (texts_of c.args.options.now) c.args.table.now
-    (fields_of c.names-item.result) _ _ _ c.requires pushed has)
+    IfOk-weaker c.push_rows.result _ _ (λ done has. of_rows c.args.wording.language (texts_of c.args.options.now)
+    c.args.table.now (fields_of c.names-item.result) _ _ _ c.requires pushed has)
     rows

@@ -9,5 +9,6 @@ use Rattle.kd_spreadsheet.proofs.notes.refused_note.Goals as goal
 pub returns-then-not-is_well_quoted : goal.returns-then-not-is_well_quoted
 returns-then-not-is_well_quoted c =
     let wrong : is_well_quoted c.args.table.now ≡ false = grind (arith, common_steps) in
-    of_text (texts_of c.args.options.now) c.args.table.now quotes_note c.new-note.result.items _ c.new-note.ensures.items
-    c.in_ok-push_line.ensures (OfQuotes wrong)
+    of_text c.args.wording.language (texts_of c.args.options.now) c.args.table.now
+    (quotes_note c.args.wording.language) c.new-note.result.items _ c.new-note.ensures.items
+    (rw (c.as_bytes.ensures.value, c.text.ensures) at c.in_ok-push_line.ensures) (OfQuotes wrong)
