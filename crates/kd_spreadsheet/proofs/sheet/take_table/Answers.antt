@@ -22,5 +22,6 @@ returns-in-len1-up-clause-taken c =
     let are = rw (sym c.as_slice.ensures.value) at c.in-Ok.ensures in
     let quoted : is_well_quoted c.args.table.now ≡ true = grind (arith, common_steps) in
     IfOk-weaker c.take_rows.result _ _ (λ taken is.
-    taken_of_rows (texts_of c.args.options.now) c.args.table.now c.args.wording.language (fields_of c.names-item.result) _ taken.days.items
-    taken.note.items quoted (subst (AreRows c.args.table.now) first are) is) c.take_rows.ensures.taken
+    taken_of_rows (texts_of c.args.options.now) c.args.table.now c.args.wording.language
+    (fields_of c.names-item.result) _ taken.days.items taken.note.items quoted
+    (subst (AreRows c.args.table.now) first are) is) c.take_rows.ensures.taken
