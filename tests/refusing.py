@@ -15,6 +15,12 @@ from shared import TOP, add, judge, run, write
 LONGEST, MEMORY = 1048576, 52000
 
 
+def is_german(words, locale):
+    """Whether the words of a command line ask for German or, where they ask for no language, the locale does."""
+    asked = re.search(r" --in[ =](\w+)", words)
+    return (asked[1] if asked else locale).startswith("de")
+
+
 class Trial:
     """A built program, and a folder with the files of examples/, where the script then works."""
 
@@ -37,6 +43,8 @@ class Trial:
         """Runs the program with each of its calls refused in turn. Words of the environment are those of shim.c."""
         what = f"{self.name} {' '.join(map(str, words))}"
         environment = {**os.environ, "CASE": what[:300], "LD_PRELOAD": self.shim, **environment}
+        if self.name == "curator" and is_german(what, environment.get("LANG", "")):
+            environment["REFUSED"] = "abgelehnt: "
         with open(write(f"{self.room}/in", given), "rb") as file:
             words = [program or self.path, *words]
             done = subprocess.run(words, stdin=file, stdout=subprocess.PIPE, env=environment, check=False)
@@ -61,6 +69,7 @@ class Trial:
                     how = {"KEEPS": "letters"} if case.words[:1] == ["type"] else {}
                     how |= {"KEEPS": case.values["keeps"]} if "keeps" in case.values else {}
                     how |= {"MEMORY_ALONE": "1"} if case.refusing == "memory" else {}
+                    how |= {"LANG": case.values["locale"]} if "locale" in case.values else {}
                     self.refuse_each(*case.words, given=case.values.get("in", b""), **how)
                     os.chdir(files)
                     tried.add((*case.words[:1], case.values.get("status", 0)))

@@ -34,6 +34,8 @@ DAYS = [
     ("m209-largest-card", "tests/machines/m209-all-else.toml", "tests/machines/m209-all-else-sheet.toml", "31", 2),
 ]
 _counts = {True: 0, False: 0}
+# Programs and scripts are in English here, unless a comparison asks for German.
+os.environ["LANG"] = "C.UTF-8"
 
 
 # ---- Command lines and counts.

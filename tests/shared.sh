@@ -1,6 +1,9 @@
 # What the shell scripts of this folder share, which read this file: their counts, and the folder `work` for their files, which is
 # removed when they end. They end by `end`.
 passed=0 failed=0 page=
+# Programs and scripts are in English here, unless a comparison asks for German.
+LANG=C.UTF-8
+export LANG
 
 # end: says the counts, and ends the script, with status 1 if a comparison has failed.
 end() {

@@ -5,14 +5,15 @@
    on, or with one byte moved at a time. What the program writes is kept here, and judged when the child has ended.
 
    The first run has nothing refused: what it writes and answers is the command's own answer. Then holds of each run:
-   - memory refused: `refused 26 NoMemory`, perhaps behind lines of the own text on standard error, and nothing written; or
-     the command's own answer;
+   - memory refused: `refused 26 NoMemory`, in English or in German, perhaps behind lines of the own text on standard error,
+     and nothing written; or the command's own answer;
    - an open refused: `refused 6 Device`, perhaps with words that end in a file's name, and nothing written;
    - a read refused: `refused 6 Device`, likewise, and as much of the own answer as KEEPS allows: `letters` is the letters that
      standard input had given before, else it is a list of lengths;
    - a write refused: `refused 6 Device`, and exactly the bytes of the own answer that were taken before;
    - the line on standard error refused: the same status and the same answer;
    - one byte at a time: the command's own answer.
+   Where REFUSED is set, a refusal begins with its text, in place of `refused `.
    Where MEMORY_ALONE is set, requests for memory are refused, and nothing else is.
    With the words of CASE before it, each run that isn't so is told on a line; the last line is how many were, and weren't.
 */
@@ -131,8 +132,18 @@ static int answers(const struct run *r, int status, const char *line, size_t len
         && memcmp(r->err_bytes, line, length) == 0;
 }
 
-static int refuses(const struct run *r, const char *line)
+/* The line of a refusal, or its start: `text` behind the word that refusals begin with. */
+static const char *refusal(const char *text)
 {
+    static char line[100];
+    const char *word = getenv("REFUSED");
+    snprintf(line, sizeof line, "%s%s", word ? word : "refused ", text);
+    return line;
+}
+
+static int refuses(const struct run *r, const char *text)
+{
+    const char *line = refusal(text);
     return answers(r, 1, line, strlen(line));
 }
 
@@ -141,8 +152,9 @@ static char **words;
 /* Whether the run was refused with `6 Device`. If the line says more, it ends with a word of the command line. */
 static int blames_file(const struct run *r)
 {
-    const char *device = "refused 6 Device: ";
-    if (refuses(r, "refused 6 Device\n")) return 1;
+    const char *device;
+    if (refuses(r, "6 Device\n")) return 1;
+    device = refusal("6 Device: ");
     if (!WIFEXITED(r->status) || WEXITSTATUS(r->status) != 1 || r->err < strlen(device) + 2
         || memcmp(r->err_bytes, device, strlen(device)) != 0
         || (char *)memchr(r->err_bytes, '\n', r->err) != r->err_bytes + r->err - 1) return 0;
@@ -154,10 +166,9 @@ static int blames_file(const struct run *r)
     return 0;
 }
 
-/* Whether the run was refused for want of memory, perhaps after some lines of the own text on standard error. */
-static int lacks_memory(const struct run *r)
+/* Whether the run was refused for want of memory with `line`, perhaps after some lines of the own text on standard error. */
+static int lacks_memory(const struct run *r, const char *line)
 {
-    const char *line = "refused 26 NoMemory\n";
     size_t length = strlen(line), told = r->err < length ? 0 : r->err - length;
     return WIFEXITED(r->status) && WEXITSTATUS(r->status) == 1 && r->out == 0 && r->err == told + length
         && memcmp(r->err_bytes + told, line, length) == 0 && told <= own->err
@@ -224,12 +235,12 @@ static int stops(const struct run *r)
 
 static int is_right(const struct run *r)
 {
-    const char *device = "refused 6 Device\n";
     switch (r->kind) {
-    case MEMORY: return is_own(r) || lacks_memory(r);
+    /* If memory ends before the command line is read, the refusal is in the computer's language, not in that of `--in`. */
+    case MEMORY: return is_own(r) || lacks_memory(r, "refused 26 NoMemory\n") || lacks_memory(r, "abgelehnt: 26 NoMemory\n");
     case OPEN: return blames_file(r) && r->out == 0;
     case READ: return blames_file(r) && is_prefix(r) && keeps(r);
-    case WRITE: return refuses_behind_notes(r, device) && is_prefix(r) && stops(r);
+    case WRITE: return refuses_behind_notes(r, refusal("6 Device\n")) && is_prefix(r) && stops(r);
     case ERROR_LINE:
         return is_own_out(r) && (lacks_notes(r) ||
             (answers(r, WEXITSTATUS(own->status), own->err_bytes, r->err) && r->err < own->err));

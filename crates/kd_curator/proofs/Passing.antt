@@ -112,21 +112,21 @@ module _ (one other : Port) (before : one.had ≡ other.had) (after : Keeps one.
   writes_kept text (Err made) writes =
       let front = writes.front in record { whole = tt; front = (front.0, front.1, appends_kept _ front.2) }
 
-  report_kept : (files : List NamedText) (told : Result Outcome (WriteFault AllocError)) → IsLookAnswer files one told
-      → IsLookAnswer files other told
-  report_kept files told (inl writes) = inl (record {
+  report_kept : (l : Language) (files : List NamedText) (told : Result Outcome (WriteFault AllocError))
+      → IsLookAnswer l files one told → IsLookAnswer l files other told
+  report_kept l files told (inl writes) = inl (record {
     text = writes.text;
     made = writes.made;
     written = writes_kept writes.text told writes.written;
     answered = writes.answered;
     device = writes.device;
   })
-  report_kept files told (inr lacks) = inr lacks
+  report_kept l files told (inr lacks) = inr lacks
 
-  look_kept : (files : List NamedText) (told : Result (Unit {0}) Refused) → Looks files one told
-      → Looks files other told
-  look_kept files told looks =
-      record { told = looks.told; looks = report_kept files looks.told looks.looks; answers = looks.answers }
+  look_kept : (l : Language) (files : List NamedText) (told : Result (Unit {0}) Refused) → Looks l files one told
+      → Looks l files other told
+  look_kept l files told looks =
+      record { told = looks.told; looks = report_kept l files looks.told looks.looks; answers = looks.answers }
 
   send_kept : (results : Results) (l : Language) (day : Option Day) (m : Parts) (order : List ℕ)
       (told : Result (Unit {0}) Refused) → WritesSendPage results l day m order one told
@@ -186,7 +186,7 @@ module _ (one other : Port) (before : one.had ≡ other.had) (after : Keeps one.
       on_kept (month_in 0 (text_at texts 0)) _ _ told (λ month. text_kept refused_device _ told) does
   command_kept l (commands.Sheet table options) texts told does = sheet_kept options (text_at texts 0) told does
   command_kept l (commands.Look files) texts told does =
-      look_kept (named_texts files.items texts) told does
+      look_kept l (named_texts files.items texts) told does
   command_kept l (commands.EmptySheet model days) texts told does = text_kept refused_device _ told does
 
 -- ---- the program's answer

@@ -78,7 +78,8 @@ IsWordsText l (stops.Usage text) = string_bytes text ≡ text_in l texts.NOT_UTF
 IsWordsText l _ = ⊥
 
 -- Why the program stops if it can't read the words of the command line. The kind of the error says whether memory ran
--- out, or a word isn't UTF-8. If a word isn't UTF-8, memory may still run out for the message, which is in language `l`.
+-- out, or a word isn't UTF-8. If a word isn't UTF-8, memory may still run out for the message. The message is in
+-- language `l`.
 abbrev pub IsWordsStop : Language → ErrorKind → Stop → Type 0
 IsWordsStop l OutOfMemory stop = stop ≡ memory_stop
 IsWordsStop l _ stop = (stop ≡ memory_stop) ⊎ IsWordsText l stop

@@ -5,6 +5,7 @@ use Rattle.std.specs.declared.alloc.AllocError.{AllocError}
 use Rattle.kd_tables.specs.Ports.{Port}
 use Rattle.kd_tables.specs.declared.ports.write_fault.WriteFault.{WriteFault}
 use Rattle.kd_tables.specs.declared.ports.write_fault.WriteFault.TheVariants.{Device, Unwritten}
+use Rattle.kd_language.specs.declared.language.Language.{Language}
 use Rattle.kd_look.specs.Look.{IsLookAnswer, NamedText}
 use Rattle.kd_look.specs.declared.outcome.Outcome.{Outcome}
 use Rattle.kd_look.specs.declared.outcome.Outcome.TheVariants.{Faultless, Faulty}
@@ -26,9 +27,9 @@ look_answer (Ok (Faulty fault)) = Err (refused_whole FaultyFile)
 look_answer (Err (Unwritten fault)) = Err refused_memory
 look_answer (Err Device) = Err refused_device
 
--- A report on the files was written, or memory ran out. If the sink failed, only a prefix of the report was written. If
+-- A report on the files was written in language `l`, or memory ran out. If the sink failed, only a prefix of the report was written. If
 -- a file has a fault, the command is refused after the report.
-pub record Looks (files : List NamedText) (sink : Port) (answer : Result (Unit {0}) Refused) : Type 0 where
+pub record Looks (l : Language) (files : List NamedText) (sink : Port) (answer : Result (Unit {0}) Refused) : Type 0 where
   pub told : Result Outcome (WriteFault AllocError)
-  pub looks : IsLookAnswer files sink told
+  pub looks : IsLookAnswer l files sink told
   pub answers : answer ≡ look_answer told

@@ -85,8 +85,7 @@ DoesCommand l (commands.TypingPage machine) texts sink answer =
     IsAnswerOn (machine_in (text_at texts 0)) (λ m. WritesTypingPage l m sink answer) answer
 DoesCommand l (commands.Table sheet form) texts sink answer = WritesTables l form (text_at texts 0) sink answer
 DoesCommand l (commands.Sheet table options) texts sink answer = MakesSheet options (text_at texts 0) sink answer
-DoesCommand l (commands.Look files) texts sink answer =
-    Looks (named_texts files.items texts) sink answer
+DoesCommand l (commands.Look files) texts sink answer = Looks l (named_texts files.items texts) sink answer
 DoesCommand l (commands.EmptySheet model days) texts sink answer =
     WritesText refused_device (empty_month_text model days) sink answer
 

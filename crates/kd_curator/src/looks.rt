@@ -9,43 +9,45 @@ ghost use Rattle.kd_curator.specs.Refusals.{has_written, is_device};
 
 use crate::fault::{PageFault, Refused};
 use crate::files::FileBytes;
+use kd_language::Wording;
 use kd_look::{NamedFile, Outcome, look_at};
 use kd_sheet::SheetFault;
 use kd_tables::{Sink, WriteFault};
-use std::alloc::{AllocError, Global};
+use std::alloc::AllocError;
 
 /// Describes the files `names`, whose bytes are `contents`, in words, or names their faults.
 pub(crate) fn look_at_files<W: Sink>(
-    alloc: Global,
+    wording: Wording,
     names: &[&str],
     contents: &[FileBytes],
     sink: &mut W,
 ) -> Result<(), Refused>
-    ensures looks { Looks (named_texts (unborrowed_names names.now) contents.now)
+    ensures looks { Looks wording.language (named_texts (unborrowed_names names.now) contents.now)
         (port W.taken W.has_failed sink.old sink.new) result }
     ensures untouched { IsErr result → has_written result ≡ false → sink.new ≡ sink.old }
     ensures failed { W.has_failed sink.new ≡ (W.has_failed sink.old || is_device result) }
 {
-    answer_of(look_at_all(alloc, names, contents, sink))
+    answer_of(look_at_all(wording, names, contents, sink))
 }
 
 /// Does what `look_at_files` does, but returns the result of `look_at`.
 fn look_at_all<W: Sink>(
-    alloc: Global,
+    wording: Wording,
     names: &[&str],
     contents: &[FileBytes],
     sink: &mut W,
 ) -> Result<Outcome, WriteFault<AllocError>>
-    ensures looks { IsLookAnswer (named_texts (unborrowed_names names.now) contents.now)
+    ensures looks { IsLookAnswer wording.language
+        (named_texts (unborrowed_names names.now) contents.now)
         (port W.taken W.has_failed sink.old sink.new) result }
     ensures untouched { IsErr result → is_write_device result ≡ false → sink.new ≡ sink.old }
     ensures failed { W.has_failed sink.new ≡ (W.has_failed sink.old || is_write_device result) }
 {
-    let mut files = Vec::new(alloc);
+    let mut files = Vec::new(wording.alloc);
     if let Err(fault) = push_files(&mut files, names, contents) {
         return Err(WriteFault::Unwritten(fault));
     }
-    look_at(alloc, files.as_slice(), sink)
+    look_at(wording, files.as_slice(), sink)
 }
 
 /// Appends to `files` a file for each of `names`, with the file's bytes from `contents`.

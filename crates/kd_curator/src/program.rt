@@ -35,6 +35,7 @@ use crate::stop::{Stop, end_program};
 use crate::tables::run_table;
 use kd_curator_command::{Command, MessageTask, NamedCommand, NoCommand, Task, parse_words};
 use kd_host::{FileFault, Files};
+use kd_language::Wording;
 use kd_look::NamedFile;
 use kd_message::PageOptions;
 use kd_new_file::{NewFileFault, NewFiles, begin, publish};
@@ -310,9 +311,13 @@ fn carry_out<W: Sink, E: Sink>(
             run_table(alloc, language, form, text_at(contents, 0), sink)
         }
         Command::Sheet { options, .. } => {
-            make_sheet(alloc, text_at(contents, 0), &options, sink, errors)
+            let wording = Wording { alloc, language };
+            make_sheet(wording, text_at(contents, 0), &options, sink, errors)
         }
-        Command::Look { files } => look_at_files(alloc, files.as_slice(), contents, sink),
+        Command::Look { files } => {
+            let wording = Wording { alloc, language };
+            look_at_files(wording, files.as_slice(), contents, sink)
+        }
         Command::EmptySheet { model, days } => write_empty_sheet(model, days, sink),
     }
 }

@@ -9,13 +9,13 @@ ghost use Rattle.kd_curator.specs.Refusals.{is_device, refused_device};
 ghost use Rattle.kd_curator.specs.Sheets.{MakesSheet};
 
 use crate::fault::Refused;
+use kd_language::Wording;
 use kd_spreadsheet::{TableOptions, run_sheet, write_empty_month};
 use kd_tables::{Model, Sink};
-use std::alloc::Global;
 
-/// Writes the key sheet with the days of `table`. Writes notes on the table to `errors`.
+/// Writes the key sheet with the days of `table`. Writes notes on the table to `errors`, in the language of `wording`.
 pub(crate) fn make_sheet<W: Sink, E: Sink>(
-    alloc: Global,
+    wording: Wording,
     table: &[u8],
     options: &TableOptions<&str>,
     sink: &mut W,
@@ -32,7 +32,7 @@ pub(crate) fn make_sheet<W: Sink, E: Sink>(
         reflector: options.reflector.as_bytes(),
         window: options.window.as_bytes(),
     };
-    match run_sheet(alloc, table, &options, sink, errors) {
+    match run_sheet(wording, table, &options, sink, errors) {
         Ok(()) => Ok(()),
         Err(fault) => Err(Refused::of_sheet(fault)),
     }

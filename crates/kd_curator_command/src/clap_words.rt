@@ -8,7 +8,7 @@ use std::alloc::{AllocError, Global};
 const SENTENCES: [Text; 21] = [
     (
         "the following required arguments were not provided:\n",
-        "diese Argumente fehlen:\n",
+        "es fehlt:\n",
     ),
     ("unrecognized subcommand ", "unbekannter Befehl "),
     (
@@ -41,7 +41,7 @@ const SENTENCES: [Text; 21] = [
     ),
     (
         "\n  tip: subcommand '~' exists; to use it, remove the '--' before it\n",
-        "\n  Tipp: '~' ist ein Befehl; für ihn das '--' davor weglassen\n",
+        "\n  Tipp: '~' ist ein Befehl; das '--' davor weglassen\n",
     ),
     (
         "\n  tip: to pass '~' as a value, use ",

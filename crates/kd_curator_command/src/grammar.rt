@@ -97,7 +97,7 @@ static COMMANDS: [CommandWords; 8] = [
         name: "page",
         about: (
             "Writes an HTML page of each day, from the machine as the day before left it",
-            "Schreibt für jeden Tag eine HTML-Seite, ab der Maschine, wie der Tag davor sie ließ",
+            "Schreibt für jeden Tag eine HTML-Seite, ausgehend von der Maschine, wie sie nach dem Tag davor steht",
         ),
         arguments: &[
             MACHINE,
@@ -149,7 +149,7 @@ static COMMANDS: [CommandWords; 8] = [
         name: "receive",
         about: (
             "Writes an HTML page that says, row by row, how to decipher a form by hand, and its text",
-            "Schreibt eine HTML-Seite, die Zeile für Zeile sagt, wie man ein Formular von Hand entschlüsselt, mit Text",
+            "Schreibt eine HTML-Seite mit Klartext, die Zeile für Zeile sagt, wie man ein Formular von Hand entschlüsselt",
         ),
         arguments: &[
             MACHINE,
@@ -280,7 +280,7 @@ static COMMANDS: [CommandWords; 8] = [
 /// What help says about the program.
 const PROGRAM: Text = (
     "Writes pages to hang beside a cipher machine: what to set for a day, with pictures",
-    "Schreibt Seiten, die neben einer Chiffriermaschine hängen: was für einen Tag einzustellen ist, mit Bildern",
+    "Schreibt Seiten zum Aufhängen neben einer Chiffriermaschine: was für einen Tag einzustellen ist, mit Bildern",
 );
 
 /// The grammar of the command line. Its help is in the wording's language.

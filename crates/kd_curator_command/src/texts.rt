@@ -4,8 +4,8 @@ use kd_language::Text;
 
 /// The error of `sheet --empty` for a wrong number of days, a wrong model or a needless option.
 pub(crate) const NO_MONTH: Text = (
-    "--empty needs Enigma I, M3, M4 or M-209, then a number of days from 1 to 31, and no other option but -o",
-    "--empty braucht Enigma I, M3, M4 oder M-209, dann die Zahl der Tage von 1 bis 31, und keine andere Option als -o",
+    "--empty needs Enigma I, M3, M4 or M-209, then a number of days from 1 to 31, and no other option but -o and --in",
+    "zu --empty gehört Enigma I, M3, M4 oder M-209, dann die Zahl der Tage (1 bis 31), und sonst höchstens -o und --in",
 );
 
 /// The error for an argument DAY that isn't the number of a day.

@@ -31,7 +31,7 @@ pub const WRITE_ENTRIES: Text = (
 /// it.
 pub const CABLE_ORDER: Text = (
     "the desk writes the cable `~` as `~`\n",
-    "desk schreibt das Kabel `~` als `~`\n",
+    "desk schreibt die Schnur `~` als `~`\n",
 );
 
 pub const REFUSED: Text = ("the desk refuses the value", "desk lehnt den Wert ab");
@@ -49,7 +49,7 @@ pub const ENTRY_NEEDED: Text = (
 
 pub const UNKNOWN_FILE: Text = (
     "it can't be told whether this is a key sheet or a machine file: a key sheet has `[[day]]` above the lines of each day, a machine file has `version` and `model`",
-    "ob dies eine Schlüsseltafel oder eine Maschinendatei ist, ist nicht zu erkennen: eine Schlüsseltafel hat `[[day]]` über den Zeilen jedes Tages, eine Maschinendatei hat `version` und `model`",
+    "es ist nicht zu erkennen, ob dies eine Schlüsseltafel oder eine Maschinendatei ist: eine Schlüsseltafel hat `[[day]]` über den Zeilen jedes Tages, eine Maschinendatei hat `version` und `model`",
 );
 
 pub const NEW_VERSION_NEEDED: Text = (
@@ -77,7 +77,7 @@ pub const KEY_TWICE: Text = (
 
 pub const CURLY_QUOTE: Text = (
     "write straight quotes `\"`, and plain characters",
-    "gerade Anführungszeichen `\"` und einfache Zeichen schreiben",
+    "gerade Anführungszeichen `\"` schreiben, und keine Sonderzeichen",
 );
 
 pub const QUOTE_MISSING: Text = (

@@ -21,7 +21,7 @@ pub const REFLECTOR: Text = ("reflector ", "Umkehrwalze ");
 /// The names of the things on a machine that have numbers.
 pub const SLOT: Text = ("slot", "Platz");
 
-pub const CABLE: Text = ("cable", "Kabel");
+pub const CABLE: Text = ("cable", "Schnur");
 
 pub const PIN_WHEEL: Text = ("wheel", "Rad");
 
@@ -104,7 +104,7 @@ pub const ORDER: Text = (
 
 pub const FORM: Text = (
     "~: a form for ~, without a fault in its headings, its signs and its counts\nnot looked at: whether its groups and indicators suit the day\n",
-    "~: ein Formular für ~, ohne Fehler in Spruchköpfen, Zeichen und Zahlen\nnicht geprüft: ob Kenngruppen und Kennbuchstaben zum Tag passen\n",
+    "~: ein Formular für ~, ohne Fehler in Spruchköpfen, Zeichen und Buchstabenzahlen\nnicht geprüft: ob Kenngruppen und Kennbuchstaben zum Tag passen\n",
 );
 
 /// The words before the number of a message's parts, and before the number of its letters.
@@ -121,7 +121,7 @@ pub const GROUP: Text = (": group ", ": Kenngruppe ");
 /// and the sheet's name. `GROUP` stands before the group.
 pub const OF_PART: Text = (": part ", ": Teil ");
 
-pub const OF_DAY: Text = (" is of day ", " ist von Tag ");
+pub const OF_DAY: Text = (" is of day ", " gehört zu Tag ");
 
 pub const IN_SHEET: Text = (" in ", " in ");
 
@@ -193,7 +193,7 @@ pub const HEADING_COUNT: Text = (
 
 pub const HEADING_LETTER: Text = (
     "a capital letter belongs here, of the ground or of the enciphered key",
-    "hier gehört ein Großbuchstabe hin, von der Grundstellung oder vom verschlüsselten Spruchschlüssel",
+    "hier gehört ein Großbuchstabe der Grundstellung oder des verschlüsselten Spruchschlüssels hin",
 );
 
 pub const HEADING_SPACE: Text = ("a space belongs here", "hier gehört ein Leerzeichen hin");

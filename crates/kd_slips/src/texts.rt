@@ -68,7 +68,7 @@ pub const BAR_COUNT: Text = (
 
 pub const CABLE_COUNT: Text = (
     "~ there, and there are at most ~ cables",
-    "Zahl der Kabel: ~, höchstens ~",
+    "Zahl der Schnüre: ~, höchstens ~",
 );
 
 pub const GROUP_COUNT: Text = (
@@ -117,7 +117,7 @@ pub const FOR_EACH_WHEEL: Text = (", one for each wheel", ", einer für jedes Ra
 
 pub const FOR_EACH_END: Text = (
     ", one for each end of a cable",
-    ", einer für jedes Kabelende",
+    ", einer für jedes Schnurende",
 );
 
 pub const FOR_A_GROUP: Text = (" for a group", " für eine Kenngruppe");
@@ -244,7 +244,7 @@ pub const LETTER_TWICE: Text = (
 /// The values are the text of a cable, and its length.
 pub const MANY_ENDS: Text = (
     "~ has ~ letters, and a cable has two ends",
-    "~ hat ~ Buchstaben, und ein Kabel hat zwei Enden",
+    "~ hat ~ Buchstaben, und eine Schnur hat zwei Enden",
 );
 
 /// A day has fewer pairs, or fewer groups, than another day. The values are the day, its pairs or groups in words, the
