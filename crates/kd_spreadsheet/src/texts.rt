@@ -31,11 +31,7 @@ pub const UNREAD_COLUMN: Text = (
 /// The words for a table whose quotes are wrong.
 pub const OPEN_QUOTE: Text = (
     "a quote isn't closed, or something follows the closing quote of a cell",
-<<<<<<< HEAD
-    "ein Anführungszeichen wird nicht geschlossen, oder nach dem schließenden Anführungszeichen einer Zelle folgt noch etwas",
-=======
     "einer Zelle fehlt das schließende Anführungszeichen, oder dahinter folgt noch etwas",
->>>>>>> f8a8a570dbab5fdd51489417509abe2566ec1ae3
 );
 
 /// The words for a table without rows, or with only blank rows under the first row.
