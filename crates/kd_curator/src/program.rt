@@ -296,6 +296,7 @@ fn carry_out<W: Sink, E: Sink>(
     ensures told { HasTold (unborrowed_command command.entry)
         (port E.taken E.has_failed errors.old errors.new) }
 {
+    let wording = Wording { alloc, language };
     match command {
         Command::OnMachine { task, sheet, .. } => {
             do_task(alloc, language, task, sheet, contents, sink)
@@ -311,13 +312,9 @@ fn carry_out<W: Sink, E: Sink>(
             run_table(alloc, language, form, text_at(contents, 0), sink)
         }
         Command::Sheet { options, .. } => {
-            let wording = Wording { alloc, language };
             make_sheet(wording, text_at(contents, 0), &options, sink, errors)
         }
-        Command::Look { files } => {
-            let wording = Wording { alloc, language };
-            look_at_files(wording, files.as_slice(), contents, sink)
-        }
+        Command::Look { files } => look_at_files(wording, files.as_slice(), contents, sink),
         Command::EmptySheet { model, days } => write_empty_sheet(model, days, sink),
     }
 }
