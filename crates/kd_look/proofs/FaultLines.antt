@@ -68,7 +68,8 @@ file_fault-is document fault is =
 -- the lines of all faults of a document are the lines for the document
 pub AreLinesFor-document : (l : Language) (name bytes text empty : List ℕ) (document : Members)
     (fault : SheetFault) (found : List (KeyPlace × SheetFault)) → file_in document ≡ Err fault
-    → AreFaults document found → first_fault found ≡ file_fault document → empty ≡ [] → AppendsText (AreFaultLines l name bytes found) empty text
+    → AreFaults document found → first_fault found ≡ file_fault document → empty ≡ []
+    → AppendsText (AreFaultLines l name bytes found) empty text
     → AreLinesFor l name bytes document fault text
 AreLinesFor-document l name bytes text empty document fault found is are first none lines =
     let whole : lines.text ≡ text = sym (lines.added ∙ ap (λ front. front ++ lines.text) none) in

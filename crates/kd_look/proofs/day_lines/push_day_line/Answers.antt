@@ -19,5 +19,6 @@ returns c = record {
       )) c.push_line.ensures;
   warns = IfOk-weaker c.push_line.result _ _
       (λ _ added before. warns_of_more c.args.language c.args.name.now c.first_line.result.now
-      (string_bytes c.args.lines.now) (string_bytes c.push_line.new.lines) c.first_line.ensures.plain added before) c.push_line.ensures;
+      (string_bytes c.args.lines.now) (string_bytes c.push_line.new.lines) c.first_line.ensures.plain added before)
+      c.push_line.ensures;
 }
