@@ -11,7 +11,7 @@ pub returns-in-Some : goal.returns-in-Some
 returns-in-Some g c =
     let words = map g.S.AsStr.text c.args.words.now in
     let named = ap (option_map (λ (name : Bor (List ℕ)). name.now)) c.in-Some.is in
-    let spoken = ap (λ asked. unwrap_or asked c.args.language) c.in-Ok.ensures.language in
+    let spoken = c.unwrap_or.ensures ∙ ap (λ asked. unwrap_or asked c.args.language) c.in-Ok.ensures.language in
     ToFile c.in-Some.name.now (sym c.in-Ok.ensures.output ∙ named) _ c.in-Ok.ensures.said refl
     (c.run_to_file-status.ensures c.args.language words
     (record { said = c.in-Ok.ensures.said; language = spoken }))
@@ -20,7 +20,7 @@ pub returns-in-None : goal.returns-in-None
 returns-in-None g c =
     let words = map g.S.AsStr.text c.args.words.now in
     let none = ap (option_map (λ (name : Bor (List ℕ)). name.now)) c.in-None.is in
-    let spoken = ap (λ asked. unwrap_or asked c.args.language) c.in-Ok.ensures.language in
+    let spoken = c.unwrap_or.ensures ∙ ap (λ asked. unwrap_or asked c.args.language) c.in-Ok.ensures.language in
     ToSink (c.run_to_sink.ensures c.args.language words (record { said = c.in-Ok.ensures.said; language = spoken })
     (sym c.in-Ok.ensures.output ∙ none)) refl
 
@@ -51,5 +51,5 @@ returns-in-Err g c =
       );
       named = inr other.nothing;
       spoken = inr (other.why words c.in-Err.ensures.none, refl);
-      ends = c.end_program-in-Err.ensures;
+      ends = c.end_program.ensures;
     }) refl
