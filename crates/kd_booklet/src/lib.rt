@@ -13,5 +13,4 @@ mod stages;
 pub use chain::{DayPlans, day_of_model, plan_days};
 pub use day_plan::{DayPlan, plan_day};
 pub use fault::{DayFault, NoPlan};
-pub use kd_page::Language;
 pub use pages::write_pages;

@@ -12,7 +12,8 @@ ghost use Rattle.kd_booklet.specs.Booklet.{ArePages, AreDrawable, IsBooklet, IsD
 
 use crate::day_plan::DayPlan;
 use arrayvec::ArrayVec;
-use kd_page::{FileDays, Language, ListedDay, Page, draw_day, draw_foot, draw_head};
+use kd_language::Language;
+use kd_page::{FileDays, ListedDay, Page, draw_day, draw_foot, draw_head};
 use kd_pictures::draw;
 use kd_state::{Machine, Parts, carry_all};
 use kd_tables::{Device, Sink};

@@ -3,9 +3,9 @@
 use kd_language::Text;
 use std::alloc::{AllocError, Global};
 
-/// The sentences and words that `clap` writes in help and in errors, in the order in which they can stand there. Each
-/// sign `~` stands for words from the command line, or for names of the grammar.
-const SENTENCES: [Text; 21] = [
+/// The sentences with which `clap` begins an error. Each sign `~` stands for words from the command line, or for names
+/// of the grammar.
+const ERRORS: [Text; 6] = [
     (
         "the following required arguments were not provided:\n",
         "es fehlt:\n",
@@ -27,6 +27,11 @@ const SENTENCES: [Text; 21] = [
         "the argument '~' cannot be used multiple times\n",
         "das Argument '~' darf nur einmal vorkommen\n",
     ),
+];
+
+/// The other sentences and words that `clap` writes in help and in errors, in the order in which they can stand there.
+/// Signs `~` are as in `ERRORS`.
+const SENTENCES: [Text; 15] = [
     (
         "\n  tip: a similar argument exists: ",
         "\n  Tipp: ein ähnliches Argument ist ",
@@ -68,11 +73,31 @@ pub(crate) fn german_text(alloc: Global, text: &str) -> Result<String, AllocErro
     match text.strip_prefix("error: ") {
         Some(message) => {
             german.push_str("Fehler: ")?;
-            push_sentences(&mut german, message)?;
+            let rest = push_error(&mut german, message)?;
+            push_sentences(&mut german, rest)?;
         }
         None => push_sentences(&mut german, text)?,
     }
     Ok(german)
+}
+
+/// Appends the sentence with which the error `message` begins, in German. The result is the rest of `message`. If
+/// `message` begins with no sentence of `clap`, appends nothing.
+fn push_error<'t>(german: &mut String, message: &'t str) -> Result<&'t str, AllocError> {
+    for error in &ERRORS {
+        if begins_as(message, *error) {
+            return push_sentence(german, message, *error);
+        }
+    }
+    Ok(message)
+}
+
+/// Whether `message` begins as the English half of `sentence` does, up to the first sign `~`.
+fn begins_as(message: &str, sentence: Text) -> bool {
+    match sentence.0.split_once('~') {
+        Some((start, _)) => message.starts_with(start),
+        None => message.starts_with(sentence.0),
+    }
 }
 
 /// Appends `text`, with its sentences in German.

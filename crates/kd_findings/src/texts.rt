@@ -94,10 +94,10 @@ pub const COLON: Text = ("write `=` for `:`", "`=` statt `:` schreiben");
 
 pub const SIGN_MISSING: Text = (
     "look for a comma, a bracket or a quote that is missing, here or in the line above",
-    "hier und in der Zeile darüber suchen, ob ein Komma, eine Klammer oder ein Anführungszeichen fehlt",
+    "hier und in der Zeile darüber nachsehen, ob ein Komma, eine Klammer oder ein Anführungszeichen fehlt",
 );
 
 pub const END_MISSING: Text = (
     "look for a quote or a bracket that is missing in the lines above",
-    "in den Zeilen darüber suchen, ob ein Anführungszeichen oder eine Klammer fehlt",
+    "in den Zeilen darüber nachsehen, ob ein Anführungszeichen oder eine Klammer fehlt",
 );

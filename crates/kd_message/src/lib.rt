@@ -18,7 +18,6 @@ pub mod texts;
 mod unread;
 
 pub use booklet::{OrderFault, OrderFile, write_send_booklet};
-pub use kd_language::Language;
 pub use page_options::PageOptions;
 pub use receiving::write_receive_page;
 pub use sending::write_send_page;

@@ -18,6 +18,5 @@ mod windows;
 
 pub use day_page::draw_day;
 pub use head::{FileDays, ListedDay, draw_foot, draw_head};
-pub use kd_language::Language;
 pub use page::Page;
 pub use spots::{Spot, Step};

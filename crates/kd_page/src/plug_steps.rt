@@ -12,7 +12,9 @@ use kd_language::Text;
 use kd_pictures::board::{Plugs, draw_board, has_cables};
 use kd_pictures::numbers::CABLES;
 use kd_pictures::template::{Value, fill};
-use kd_pictures::texts::{BOARD_STEP_END, CAPTION_SAME, PLUG_ROW, PLUGS_END, PLUGS_IN, PLUGS_OUT, ROW_END};
+use kd_pictures::texts::{
+    BOARD_STEP_END, CAPTION_SAME, PLUG_ROW, PLUGS_END, PLUGS_IN, PLUGS_OUT, ROW_END,
+};
 use kd_pictures::words::Word;
 use kd_pictures::{draw, draw_in};
 use kd_tables::Sink;

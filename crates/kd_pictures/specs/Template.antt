@@ -1,5 +1,5 @@
 -- The values that are filled into a template.
-use Rattle.std.specs.Prelude.{codes, decimal, ℕ, ◌+◌, ◌==◌, nat_lt, if◌then◌else◌, Bool, List, [], ◌∷◌, ◌++◌}
+use Rattle.std.specs.Prelude.{codes, decimal, ℕ, ◌+◌, ◌==◌, nat_lt, if◌then◌else◌, List, [], ◌∷◌, ◌++◌}
 use Rattle.kd_tables.specs.Text.{letters_text}
 use Rattle.kd_tables.specs.Tables.{wheel_text, reflector_text}
 use Rattle.kd_tables.specs.Places.{place_text}

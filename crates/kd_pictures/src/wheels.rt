@@ -13,7 +13,11 @@ ghost use Rattle.kd_pictures.specs.Wheels.{empty_shown, slot_words, slot_x, whee
 use crate::drawing::{draw, draw_in};
 use crate::numbers::SLOTS;
 use crate::template::{Value, fill, fill_in};
-use crate::texts::{BAND, EMPTY, EMPTY_WORDS, NEW_REFLECTOR, NEW_RING, NEW_WHEEL, NEW_WINDOW, REFLECTOR_SHOWN, REFLECTOR_WORDS, RING_SHOWN, RING_WORDS, TITLE_END, WHEEL, WHEEL_WORDS, WHEELS, WHEELS_END, WHEELS_ONCE, WHEELS_THEN, WINDOW, WINDOW_WORDS};
+use crate::texts::{
+    BAND, EMPTY, EMPTY_WORDS, NEW_REFLECTOR, NEW_RING, NEW_WHEEL, NEW_WINDOW, REFLECTOR_SHOWN,
+    REFLECTOR_WORDS, RING_SHOWN, RING_WORDS, TITLE_END, WHEEL, WHEEL_WORDS, WHEELS, WHEELS_END,
+    WHEELS_ONCE, WHEELS_THEN, WINDOW, WINDOW_WORDS,
+};
 use crate::words::Word;
 use kd_language::{Language, Text};
 use kd_state::Machine;

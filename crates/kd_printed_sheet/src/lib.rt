@@ -10,5 +10,4 @@ mod table_file;
 pub mod texts;
 mod words;
 
-pub use kd_language::Language;
 pub use table_file::{TableForm, write_tables};
