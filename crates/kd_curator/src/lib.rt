@@ -29,7 +29,7 @@ pub use kd_curator_command::{
     Command, CommandLine, Days, Direction, MessageTask, NamedCommand, NoCommand, Task,
     days_of_word, language_of, language_of_code, parse_words,
 };
-pub use kd_page::Language;
+pub use kd_language::Language;
 pub use machine_and_sheet::DayFiles;
 pub use program::run_curator;
 pub use stop::{Stop, end_program};

@@ -8,7 +8,7 @@ ghost use Rattle.kd_curator.specs.RunType.{WritesTypingPage, answer_after};
 use crate::fault::{PageFault, Refused};
 use crate::machine_and_sheet::read_one;
 use kd_form::FormFault;
-use kd_page::Language;
+use kd_language::Language;
 use kd_state::{Machine, NotReady};
 use kd_tables::Sink;
 use kd_typing_page::draw_typing_page;

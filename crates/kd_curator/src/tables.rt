@@ -6,7 +6,8 @@ ghost use Rattle.kd_curator.specs.Tables.{WritesTables};
 
 use crate::fault::Refused;
 use crate::machine_and_sheet::read_month;
-use kd_printed_sheet::{Language, TableForm, write_tables};
+use kd_language::Language;
+use kd_printed_sheet::{TableForm, write_tables};
 use kd_tables::Sink;
 use std::alloc::Global;
 
