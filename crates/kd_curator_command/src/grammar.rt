@@ -250,16 +250,16 @@ static COMMANDS: [CommandWords; 8] = [
     CommandWords {
         name: "look",
         about: (
-            "Says in words what machine files and key sheets say, or what is wrong with them",
-            "Sagt in Worten, was in Maschinendateien und Schlüsseltafeln steht oder was daran falsch ist",
+            "Says in words what machine files, key sheets, orders and forms say, or what is wrong with them",
+            "Sagt in Worten, was in Maschinendateien, Schlüsseltafeln, Aufträgen und Formularen steht oder was daran falsch ist",
         ),
         arguments: &[
             Argument {
                 name: "FILE",
                 sort: ArgumentSort::Needed,
                 help: (
-                    "A machine file or a key sheet",
-                    "Eine Maschinendatei oder eine Schlüsseltafel",
+                    "A machine file, a key sheet, an order or a form",
+                    "Eine Maschinendatei, eine Schlüsseltafel, ein Auftrag oder ein Formular",
                 ),
             },
             Argument {
