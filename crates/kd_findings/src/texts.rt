@@ -11,6 +11,7 @@ pub const LINE: Text = (", line ", ", Zeile ");
 
 pub const COLUMN: Text = (", column ", ", Spalte ");
 
+/// The words between a file's name and a warning.
 pub const WARNING: Text = (": warning: ", ": Warnung: ");
 
 /// The warning about an unread key. The values are the key's name, and advice.
