@@ -1,7 +1,8 @@
 //! The language of the program's words: the language that is set on a computer, and the language that words ask for.
 ghost use Rattle.std.specs.Prelude.{◌≡◌, None, Some, codes, drop, if◌then◌else◌, map, nat_eq, option_map};
 ghost use Rattle.std.specs.List.{starts_with};
-ghost use Rattle.kd_curator_command.specs.Locale.{language_of, language_value, language_with_code, language_without_command};
+ghost use Rattle.kd_curator_command.specs.Locale.{language_of, language_value, language_with_code};
+ghost use Rattle.kd_curator_command.specs.Locale.{language_without_command};
 
 use kd_language::Language;
 use std::convert::AsStr;

@@ -1,4 +1,4 @@
-use Rattle.kd_curator_command.proofs.Prelude.{◌≡◌, ◌∙◌, Some, ap, codes, option_map, refl, rules, subcommand_rows_of, sym}
+use Rattle.kd_curator_command.proofs.Prelude.{◌≡◌, ◌∙◌, Some, ap, codes, option_map, rules, subcommand_rows_of, sym}
 use Rattle.kd_curator_command.specs.CommandLine.{value_said}
 use Rattle.kd_curator_command.proofs.CommandLines.{code_of_found, no_code_of, other_language}
 use Rattle.kd_curator_command.proofs.command.language_said.Goals as goal
