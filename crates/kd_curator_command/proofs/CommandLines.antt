@@ -22,9 +22,11 @@ use Rattle.kd_tables.specs.declared.direction.Direction.{Direction}
 use Rattle.kd_tables.specs.declared.direction.Direction.TheVariants as directions
 use Rattle.kd_curator_command.specs.Locale.{language_code}
 unfoldable use Rattle.kd_curator_command.specs.Locale.{language_with_code}
-use Rattle.kd_curator_command.specs.CommandLine.{asked_language, language_said, value_said}
+use Rattle.kd_curator_command.specs.CommandLine.{asked_language, value_said}
 use Rattle.kd_language.specs.declared.language.Language.TheVariants.{English, German}
-use Rattle.std.specs.Prelude.{option_and_then}
+use Rattle.std.specs.Prelude.{bytes_eq, cond, option_and_then, Bool, MatchOption}
+use Rattle.std.specs.Bool.{Decides}
+use Rattle.std.proofs.lemmas.Slice.Eq.{bytes_eq-Decides}
 use Rattle.kd_curator_command.specs.declared.command.MessageTask.{MessageTask}
 use Rattle.kd_language.specs.declared.language.Language.{Language}
 use Rattle.kd_spreadsheet.specs.Options.{OptionTexts}
@@ -104,13 +106,37 @@ coded (Some English) = refl
 coded (Some German) = refl
 
 -- the language that the option `--in` names is the language asked for
-pub language_is_said : (said : Option (List ℕ × List Row)) (language : Option Language) → HasLanguage said language
-    → language_said said ≡ language
-language_is_said said language has = ap (option_and_then language_with_code) has ∙ coded language
-
 pub language_is_asked : (words : List (List ℕ)) (said : Option (List ℕ × List Row)) (language : Option Language)
     → said ≡ subcommand_of curator_grammar words → HasLanguage said language → language ≡ asked_language words
-language_is_asked words said language e has = sym (language_is_said said language has) ∙ ap language_said e
+language_is_asked words said language e has =
+    sym (ap (option_and_then language_with_code) has ∙ coded language)
+    ∙ ap (λ s. option_and_then language_with_code (value_said (codes "in") s)) e
+
+by_two_codes : (code : List ℕ) (one other : Bool) → Decides one (codes "en" ≡ code) → Decides other (codes "de" ≡ code)
+    → MatchOption (cond one (Some English) (cond other (Some German) None))
+    ((language : Language) → language_code language ≢ code) (λ language. language_code language ≡ code)
+by_two_codes code true other english german = english.0 refl
+by_two_codes code false true english german = german.0 refl
+by_two_codes code false false english german = neither
+  where
+    neither : (language : Language) → language_code language ≢ code
+    neither English is = let wrong : false ≡ true = english.1 is in cc
+    neither German is = let wrong : false ≡ true = german.1 is in cc
+
+-- a language is found by its own code only, and is found if there is one
+found_by_code : (code : List ℕ) → MatchOption (language_with_code code)
+    ((language : Language) → language_code language ≢ code) (λ language. language_code language ≡ code)
+unfolding language_with_code
+found_by_code code = by_two_codes code (bytes_eq (codes "en") code) (bytes_eq (codes "de") code)
+    (bytes_eq-Decides (codes "en") code) (bytes_eq-Decides (codes "de") code)
+
+pub code_of_found : (code : List ℕ) (language : Language) → Some language ≡ language_with_code code
+    → language_code language ≡ code
+code_of_found code language found = rw (← found) at (found_by_code code)
+
+pub no_code_of : (code : List ℕ) → None ≡ language_with_code code → (language : Language)
+    → language_code language ≢ code
+no_code_of code none = rw (← none) at (found_by_code code)
 
 -- the words mean the command that clap's matches mean
 pub said_command : (words : List (List ℕ)) (said : Option (List ℕ × List Row)) → fault_of curator_grammar words ≡ []

@@ -334,15 +334,13 @@ value_said name said = option_and_then (λ x. first_of name x.1) said
 abbrev pub HasLanguage : Option (List ℕ × List Row) → Option Language → Type 0
 HasLanguage said language = value_said (codes "in") said ≡ option_map language_code language
 
--- the language that the option `--in` asks for; `None` if the option isn't used, or its value is no language's code
-abbrev pub language_said : Option (List ℕ × List Row) → Option Language
-language_said said = option_and_then language_with_code (value_said (codes "in") said)
-
--- the language that the option `--in` asks for in the command line `words`; `None` if the words ask for no language
+-- the language that the option `--in` asks for in the command line `words`; `None` if the option isn't used, or if its
+-- value is no language's code
 abbrev pub asked_language : List (List ℕ) → Option Language
-asked_language words = language_said (subcommand_of curator_grammar words)
+asked_language words =
+    option_and_then language_with_code (value_said (codes "in") (subcommand_of curator_grammar words))
 
--- the language that the option `--in` asks for in the command line `words`; without this option, `language`
+-- the language that the option `--in` asks for in the command line `words`; if the words ask for none, `language`
 abbrev pub chosen_language : Language → List (List ℕ) → Language
 chosen_language language words = unwrap_or (asked_language words) language
 

@@ -15,7 +15,7 @@ ghost use Rattle.kd_curator_command.specs.declared.command.MessageTask.{MessageT
 use crate::clap_words::german_text;
 use crate::days::{Days, days_of_word};
 use crate::grammar::grammar;
-use crate::locale::{language_of_code, language_of_help};
+use crate::locale::{language_of_code, language_without_command};
 use crate::texts::{IN_QUOTES, MANY_ORDERS, NO_DAY, NO_DAYS, NO_HINT, NO_LANGUAGE, NO_MONTH};
 use arrayvec::ArrayVec;
 use clap::error::ErrorKind;
@@ -153,7 +153,7 @@ impl From<AllocError> for NoCommand {
 }
 
 /// Parses the command line `words`, which begins with the program's own name. Help and errors are in the language that
-/// the words ask for. If they ask for none, help and errors are in `language`.
+/// `language_without_command` gives; no clause says so.
 pub fn parse_words<'a, S: AsStr>(
     alloc: Global,
     language: Language,
@@ -169,7 +169,7 @@ pub fn parse_words<'a, S: AsStr>(
 {
     let wording = Wording {
         alloc,
-        language: language_of_help(language, words),
+        language: language_without_command(language, words),
     };
     let mut grammar = grammar(wording)?;
     parse_by(wording, &mut grammar, words)

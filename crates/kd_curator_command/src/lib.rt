@@ -12,4 +12,4 @@ mod texts;
 pub use command::{Command, CommandLine, MessageTask, NamedCommand, NoCommand, Task, parse_words};
 pub use days::{Days, days_of_word};
 pub use kd_tables::Direction;
-pub use locale::{language_of, language_of_code};
+pub use locale::{language_of, language_of_code, language_without_command};

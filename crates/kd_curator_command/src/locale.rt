@@ -1,6 +1,8 @@
-//! The language of the program's words: the language that is set on a computer, and the language of help.
-ghost use Rattle.std.specs.Prelude.{◌≡◌, ◌≢◌, IfSome};
-ghost use Rattle.kd_curator_command.specs.Locale.{language_code, language_of};
+//! The language of the program's words: the language that is set on a computer, and the language that words ask for.
+ghost use Rattle.std.specs.Prelude.{◌≡◌, None, Some, codes, drop, if◌then◌else◌, map, nat_eq, option_map};
+ghost use Rattle.std.specs.List.{starts_with};
+ghost use Rattle.kd_curator_command.specs.Locale.{language_of, language_value, language_with_code};
+ghost use Rattle.kd_curator_command.specs.Locale.{language_without_command};
 
 use kd_language::Language;
 use std::convert::AsStr;
@@ -19,9 +21,9 @@ pub fn language_of(locale: &str) -> Language
 }
 
 /// The language with the code `code`: `en` for English, `de` for German. `None` if no language has this code.
+#[tactic(auto, unfolding(crate::specs::Locale::language_with_code))]
 pub fn language_of_code(code: &str) -> Option<Language>
-    ensures said { IfSome result (λ language. language_code language ≡ code.now) }
-    ensures none { result ≡ None → (language : Language) → language_code language ≢ code.now }
+    ensures { result ≡ language_with_code code.now }
 {
     match code {
         "en" => Some(Language::English),
@@ -30,21 +32,46 @@ pub fn language_of_code(code: &str) -> Option<Language>
     }
 }
 
-/// The language of help and of errors for the command line `words`: the language whose code stands after `--in`. If
-/// there is none, the language is `language`.
+/// The language where no command is known: of help, of errors of the command line, and of a refusal. If the first
+/// option `--in` in `words` has a language's code as its value, it is this language, otherwise `language`.
 ///
 /// Words that mean no command may use `--in` too, so `clap` isn't asked.
-pub(crate) fn language_of_help<S: AsStr>(language: Language, words: &[S]) -> Language {
-    let mut is_code = false;
-    for word in words {
-        let word = word.as_str();
-        if is_code {
-            return language_of_code(word).unwrap_or(language);
-        }
-        if let Some(code) = word.strip_prefix("--in=") {
-            return language_of_code(code).unwrap_or(language);
-        }
-        is_code = word == "--in";
+#[tactic(auto, unfolding(crate::specs::Locale::language_without_command))]
+pub fn language_without_command<S: AsStr>(language: Language, words: &[S]) -> Language
+    ensures { result ≡ language_without_command language (map S.text words.now) }
+{
+    match language_value(words) {
+        Some(code) => language_of_code(code).unwrap_or(language),
+        None => language,
     }
-    language
+}
+
+/// The value of the first option `--in` in `words`; `None` if there is none before a word `--`.
+fn language_value<'a, S: AsStr>(words: &'a [S]) -> Option<&'a str>
+    ensures { option_map (λ value. value.now) result ≡ language_value (map S.text words.now) }
+{
+    let mut left = words;
+    while let [word, after @ ..] = left {
+        let word = word.as_str();
+        if word == "--" {
+            return None;
+        }
+        if word == "--in" {
+            let value = after.first()?;
+            return Some(value.as_str());
+        }
+        if let Some(value) = joined_value(word) {
+            return Some(value);
+        }
+        left = after;
+    }
+    None
+}
+
+/// The value in a word `--in=value`. `None` if the word doesn't begin with `--in=`.
+fn joined_value(word: &str) -> Option<&str>
+    ensures { option_map (λ value. value.now) result
+        ≡ (if starts_with nat_eq word.now (codes "--in=") then Some (drop 5 word.now) else None) }
+{
+    word.strip_prefix("--in=")
 }
