@@ -131,8 +131,8 @@ pub fn run_sheet<W: Sink, N: Sink>(
         × TakesPrefix (W.taken sink.old) (W.taken sink.new) (sheet_text days) }
     ensures untouched { IsErr result → is_device result ≡ false → sink.new ≡ sink.old }
     ensures told { Tells (port N.taken N.has_failed notes.old notes.new) }
-    ensures noted { HasNotesOn wording.language (texts_of options.now) table.now (table_fault result)
-        (port N.taken N.has_failed notes.old notes.new) }
+    ensures noted { HasNotesOn wording.language (texts_of options.now) table.now
+        (table_fault result) (port N.taken N.has_failed notes.old notes.new) }
     ensures failed { W.has_failed sink.new ≡ (W.has_failed sink.old || is_device result) }
 {
     let Taken { days, note } = match take_table(wording, table, options) {
