@@ -1,5 +1,5 @@
 //! The days of a key sheet as a CSV table for a spreadsheet. Each day has a row, and the first day comes first.
-ghost use Rattle.std.specs.Prelude.{◌≡◌, ◌++◌, flat_map, option_copied, Some, zip};
+ghost use Rattle.std.specs.Prelude.{◌≡◌, flat_map, option_copied, Some, zip};
 ghost use Rattle.kd_pictures.specs.Drawing.{Draws};
 ghost use Rattle.kd_sheet.specs.Sheet.{day_of};
 ghost use Rattle.kd_state.specs.Entry.{pin_values, rotor_values, values_of};

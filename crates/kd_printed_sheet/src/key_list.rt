@@ -1,10 +1,10 @@
 //! The key list of a Converter's day: the lugs of the bars, the effective pins, and the 26-letter check.
-ghost use Rattle.std.specs.Prelude.{◌≡◌, ◌≤◌, ◌+◌, ◌++◌, flat_map, length, slice_get, option_copied, Some};
+ghost use Rattle.std.specs.Prelude.{◌≡◌, ◌≤◌, ◌+◌, flat_map, length, slice_get, option_copied, Some};
 ghost use Rattle.std.specs.List.{enumerate_from};
 ghost use Rattle.kd_pins.specs.PinWheel.{is_effective};
 ghost use Rattle.kd_pictures.specs.Drawing.{Draws};
 ghost use Rattle.kd_sheet.specs.Sheet.{day_of};
-ghost use Rattle.kd_state.specs.Entry.{pin_values, values_of};
+ghost use Rattle.kd_state.specs.Entry.{pin_values};
 ghost use Rattle.kd_state.specs.SheetDay.{Pin};
 ghost use Rattle.kd_printed_sheet.specs.KeyList.{bar_head, bar_line, check_of, key_list, key_list_of, pin_cells, pin_shown};
 

@@ -1,5 +1,5 @@
 //! The file with a sheet's tables.
-ghost use Rattle.std.specs.Prelude.{◌≡◌, ◌||◌, ◌++◌, flat_map, is_err};
+ghost use Rattle.std.specs.Prelude.{◌≡◌, ◌||◌, flat_map, is_err};
 ghost use Rattle.kd_tables.specs.Writing.{Writes};
 ghost use Rattle.kd_pictures.specs.Drawing.{Draws};
 ghost use Rattle.kd_printed_sheet.specs.Days.{has_days};

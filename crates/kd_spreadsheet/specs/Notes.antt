@@ -1,9 +1,10 @@
 -- The notes on a table, on standard error. The notes on unread columns, and the warnings about days with few pairs or
 -- groups, are defined to the byte. The notes on a refused table have a line for each cell that can't be read. They also
 -- have a line for each row that isn't a day, unless the table lacks a column that the row needs. Each of these lines
--- begins with the place of the cell or the row. No definition gives the words after the place.
+-- begins with the place of the cell or the row. No definition gives the words after the place, or their language.
 -- Test: tests/cases/curator-sheet.toml
 use Rattle.std.specs.Prelude.{◌≡◌, ◌<◌, ◌+◌, ◌==◌, ◌&&◌, ◌||◌, codes, decimal, nat_lt, ℕ, Bool, true, false, List, [], ◌∷◌, ◌++◌, drop, flat_map, length, map, slice_get, take, Option, Some, None, IfSome, IsTrue, if◌then◌else◌}
+use Rattle.std.specs.Prelude.{Result, Ok, Err}
 use Rattle.std.specs.Io.KnownBytes.{Appends}
 use Rattle.std.specs.List.{list_all, range_with_len}
 use Rattle.std.specs.Option.{option_map_or}
@@ -11,6 +12,8 @@ use Rattle.kd_language.specs.Language.{text_in}
 use Rattle.kd_language.specs.Template.{filled}
 use Rattle.kd_language.specs.declared.language.Language.{Language}
 use Rattle.kd_tables.specs.Ports.{Port}
+use Rattle.kd_tables.specs.declared.ports.write_fault.WriteFault.{WriteFault}
+use Rattle.kd_tables.specs.declared.ports.write_fault.WriteFault.TheVariants.{Device, Unwritten}
 use Rattle.kd_state.specs.SheetDay.{Day}
 use Rattle.kd_slips.specs.Counts.{counts_of, few_lines}
 use Rattle.kd_spreadsheet.specs.Cells.{column_of, day_in, has_columns, is_faulty, row_cells, row_model}
@@ -25,6 +28,8 @@ use Rattle.kd_spreadsheet.specs.Table.{AreDaysOfRows, AreRows, TableMeans}
 use Rattle.kd_spreadsheet.specs.declared.cell.Cell.{Cell}
 use Rattle.kd_spreadsheet.specs.declared.cell.Cell.TheVariants as cells
 use Rattle.kd_spreadsheet.specs.declared.columns.Columns.{Columns}
+use Rattle.kd_spreadsheet.specs.declared.fault.SpreadsheetFault.{SpreadsheetFault}
+use Rattle.kd_spreadsheet.specs.declared.fault.SpreadsheetFault.TheVariants as faults
 use Rattle.kd_spreadsheet.specs.declared.texts.TheConstants as texts
 
 -- ---- The port of the notes.
@@ -193,6 +198,23 @@ pub data TellsTable (l : Language) (options : OptionTexts) (table : List ℕ) : 
 -- The notes on a refused table were written.
 abbrev pub TellsRefused : Language → OptionTexts → List ℕ → Port → Type 0
 TellsRefused l options table notes = (text : List ℕ) × TellsTable l options table text × TellsText notes text
+
+-- ---- Any table.
+
+-- why no key sheet is made from a table; `None` if the table means days
+abbrev pub table_fault : Result (Unit {0}) (WriteFault SpreadsheetFault) → Option SpreadsheetFault
+table_fault (Ok done) = None
+table_fault (Err Device) = None
+table_fault (Err (Unwritten fault)) = Some fault
+
+-- The notes on `table`, in language `l`. The argument before the last says why no key sheet is made from the table.
+-- - `None`: the table means days, and the note on such a table was written.
+-- - `Refused`: the notes on a refused table were written.
+-- - `NoMemory`: memory ran out, and notes may be missing.
+abbrev pub HasNotesOn : Language → OptionTexts → List ℕ → Option SpreadsheetFault → Port → Type 0
+HasNotesOn l options table None notes = TellsTaken l options table notes
+HasNotesOn l options table (Some faults.Refused) notes = TellsRefused l options table notes
+HasNotesOn l options table (Some faults.NoMemory) notes = Tells notes
 
 -- ---- Reading row by row. No public contract cites these definitions.
 

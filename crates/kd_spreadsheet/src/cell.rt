@@ -3,7 +3,7 @@ ghost use Rattle.std.specs.Prelude.{◌≡◌, ◌||◌, [], is_some, option_map
 ghost use Rattle.std.specs.Option.{option_and_then, option_map_or};
 ghost use Rattle.std.specs.List.{list_all};
 ghost use Rattle.csv.specs.Records.{fields_of};
-ghost use Rattle.kd_spreadsheet.specs.Cells.{are_pins, cells_of, column_of, day_in, has_columns, has_text, is_optional};
+ghost use Rattle.kd_spreadsheet.specs.Cells.{cells_of, column_of, day_in, has_columns, has_text, is_optional};
 ghost use Rattle.kd_spreadsheet.specs.Cells.{is_read, option_of, row_model, slots, text_of, windows};
 ghost use Rattle.kd_spreadsheet.specs.Items.{exactly, joined, letters_in};
 ghost use Rattle.kd_spreadsheet.specs.Names.{reflector_named};

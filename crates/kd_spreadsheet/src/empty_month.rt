@@ -1,5 +1,5 @@
 //! Writes a key sheet to fill in.
-ghost use Rattle.std.specs.{Prelude.{codes, ◌≡◌, ◌+◌, ◌*◌, ◌<◌, ◌≤◌, ◌||◌, ◌++◌, map, length, is_err, replicate}, List.{concat, range_with_len}};
+ghost use Rattle.std.specs.{Prelude.{◌≡◌, ◌+◌, ◌*◌, ◌<◌, ◌≤◌, ◌||◌, ◌++◌, map, length, is_err}, List.{concat, range_with_len}};
 ghost use Rattle.arrayvec.specs.ArrayString.{array_string_len};
 ghost use Rattle.kd_tables.specs.{Tables.{slots_of}, Writing.{Writes}};
 ghost use Rattle.kd_sheet.specs.SheetText.{section_text, sections_text};

@@ -1,10 +1,7 @@
 //! Reads the cells of a table: numbers, wheels, letters, pairs and groups.
 ghost use Rattle.std.specs.Prelude.{◌≡◌, ◌≤◌, ◌+◌, ◌*◌, ◌++◌, ◌==◌, not, filter, ℕ, List, Option, map, option_map, length};
-ghost use Rattle.std.specs.Option.{option_and_then};
-ghost use Rattle.kd_tables.specs.LineWords.{words_of};
-ghost use Rattle.kd_spreadsheet.specs.Names.{is_gap};
-ghost use Rattle.kd_spreadsheet.specs.Items.{is_blank, normal, item_text, cell_words, values_of_words, values_in};
-ghost use Rattle.kd_spreadsheet.specs.Items.{digit_of, number_of, letter_of, pair_of, group_of, slot_of, numbered_letter, ring_of_word};
+ghost use Rattle.kd_spreadsheet.specs.Items.{is_blank, normal, item_text, values_of_words, values_in};
+ghost use Rattle.kd_spreadsheet.specs.Items.{digit_of, number_of, pair_of, group_of, slot_of, numbered_letter, ring_of_word};
 ghost use Rattle.kd_spreadsheet.specs.Items.{bytes_of, number_in, joined};
 ghost use Rattle.kd_spreadsheet.specs.declared.items.WordRule.TheVariants as word_rules;
 ghost use Rattle.kd_sheet.specs.Bars.{reading_of_text};

@@ -1,6 +1,6 @@
 //! Finds models, wheels and reflectors by their names in a table.
-ghost use Rattle.std.specs.Prelude.{◌≡◌, ◌≤◌, ◌+◌, ◌++◌, ◌||◌, codes, find, length};
-ghost use Rattle.kd_tables.specs.Tables.{model_text, reflector_text, wheel_text};
+ghost use Rattle.std.specs.Prelude.{◌≡◌, ◌≤◌, ◌+◌, ◌++◌, codes, find, length};
+ghost use Rattle.kd_tables.specs.Tables.{model_text, reflector_text};
 ghost use Rattle.kd_spreadsheet.specs.Names.{capital, is_digit, is_gap, is_capital_letter, is_named, is_no_break, is_quote, plain, unquoted};
 ghost use Rattle.kd_spreadsheet.specs.Names.{model_named, names_reflector, wheel_named, reflector_named};
 

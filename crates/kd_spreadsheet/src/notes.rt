@@ -1,6 +1,7 @@
 //! Writes notes on the faults of a table.
 //!
-//! It is proved which rows and cells have notes. The words of the notes are only tested.
+//! It is proved which rows and cells have notes. The words after a note's place, and the language of these words, are
+//! only tested.
 ghost use Rattle.std.specs.Prelude.{◌≡◌, ◌<◌, ◌&&◌, ◌++◌, ◌∷◌, [], true, flat_map, length, map, slice_get, ℕ, List, IfOk, IfSome};
 ghost use Rattle.csv.specs.Records.{fields_of};
 ghost use Rattle.kd_language.specs.Language.{text_in};

@@ -1,12 +1,12 @@
 //! The command `sheet`: makes a key sheet from a table.
-ghost use Rattle.std.specs.Prelude.{◌≡◌, ◌≢◌, ◌⊎◌, ◌||◌, Ok, Err, IfOk, IsErr, List, false, map};
+ghost use Rattle.std.specs.Prelude.{◌≡◌, ◌⊎◌, ◌||◌, Ok, Err, IfOk, IsErr, List, Some, false, map};
 ghost use Rattle.csv.specs.Records.{fields_of};
 ghost use Rattle.std.specs.Io.KnownBytes.{Appends};
 ghost use Rattle.kd_tables.specs.{Writing.{TakesPrefix}, WriteFault.{is_device}};
 ghost use Rattle.kd_state.specs.SheetDay.{Day};
 ghost use Rattle.kd_sheet.specs.{Sheet.{month_of}, SheetFile.{sheet_of}, SheetText.{sheet_text}};
 ghost use Rattle.kd_tables.specs.Ports.{port};
-ghost use Rattle.kd_spreadsheet.specs.Notes.{IsTaken, IsTakenOfRows, Tells, TellsRefused, TellsTaken};
+ghost use Rattle.kd_spreadsheet.specs.Notes.{HasNotesOn, IsTaken, IsTakenOfRows, Tells, table_fault};
 ghost use Rattle.kd_spreadsheet.specs.Options.{texts_of};
 ghost use Rattle.kd_spreadsheet.specs.Table.{AreRefusedRows, TableMeans, IsRefusedTable};
 ghost use Rattle.kd_spreadsheet.specs.declared.fault.SpreadsheetFault.TheVariants as faults;
@@ -93,17 +93,19 @@ fn tell_refused<N: Sink>(
 ) -> SpreadsheetFault
     ensures told { Tells (port N.taken N.has_failed notes.old notes.new) }
     ensures fault { (result ≡ fault) ⊎ (result ≡ faults.NoMemory) }
-    ensures explained { result ≡ faults.Refused
-        → TellsRefused wording.language (texts_of options.now) table.now
+    ensures noted { HasNotesOn wording.language (texts_of options.now) table.now (Some result)
         (port N.taken N.has_failed notes.old notes.new) }
 {
-    if let SpreadsheetFault::Refused = fault {
-        match refused_note(wording, table, options) {
-            Ok(note) => put_note(notes, note.as_slice()),
-            Err(_) => return SpreadsheetFault::NoMemory,
-        }
+    match fault {
+        SpreadsheetFault::Refused => match refused_note(wording, table, options) {
+            Ok(note) => {
+                put_note(notes, note.as_slice());
+                SpreadsheetFault::Refused
+            }
+            Err(_) => SpreadsheetFault::NoMemory,
+        },
+        SpreadsheetFault::NoMemory => SpreadsheetFault::NoMemory,
     }
-    fault
 }
 
 /// Writes the key sheet with the days of `table`. If the table isn't refused, `notes` gets a line for each unread
@@ -129,13 +131,8 @@ pub fn run_sheet<W: Sink, N: Sink>(
         × TakesPrefix (W.taken sink.old) (W.taken sink.new) (sheet_text days) }
     ensures untouched { IsErr result → is_device result ≡ false → sink.new ≡ sink.old }
     ensures told { Tells (port N.taken N.has_failed notes.old notes.new) }
-    ensures noted { result ≢ Err (WriteFault.Unwritten faults.Refused)
-        → result ≢ Err (WriteFault.Unwritten faults.NoMemory)
-        → TellsTaken wording.language (texts_of options.now) table.now
-        (port N.taken N.has_failed notes.old notes.new) }
-    ensures explained { result ≡ Err (WriteFault.Unwritten faults.Refused)
-        → TellsRefused wording.language (texts_of options.now) table.now
-        (port N.taken N.has_failed notes.old notes.new) }
+    ensures noted { HasNotesOn wording.language (texts_of options.now) table.now
+        (table_fault result) (port N.taken N.has_failed notes.old notes.new) }
     ensures failed { W.has_failed sink.new ≡ (W.has_failed sink.old || is_device result) }
 {
     let Taken { days, note } = match take_table(wording, table, options) {

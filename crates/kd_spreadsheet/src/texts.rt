@@ -159,12 +159,6 @@ pub const PAIRED_WITH_ITSELF: Text = (
     "der Buchstabe ~ ist mit sich selbst gepaart",
 );
 
-/// The values are a letter, and two pairs with this letter.
-pub const IN_TWO_PAIRS: Text = (
-    "the letter ~ is in ~ and in ~",
-    "der Buchstabe ~ ist in ~ und in ~",
-);
-
 pub const IS_NO_GROUP: Text = (
     "~ isn't a group of three letters",
     "~ ist keine Kenngruppe aus drei Buchstaben",
@@ -185,12 +179,6 @@ pub const WHEEL_COUNT: CountText = (
 );
 
 pub const WHEEL_TWICE: Text = ("wheel ~ is there twice", "Walze ~ steht zweimal da");
-
-/// The values are the wheel, the model's name with its article, and the wheels in the model's box.
-pub const NOT_IN_BOX: Text = (
-    "wheel ~ isn't in the box of ~, which has ~",
-    "Walze ~ ist nicht im Kasten: ~ hat ~",
-);
 
 /// The words for a wheel Beta or Gamma that isn't in the left slot of an M4.
 pub const ONLY_LEFT: Text = (

@@ -6,11 +6,12 @@ use crate::items::{CELL_LIMIT, FromWord, is_blank, push_item_text, values_in};
 use crate::names::{model_named, reflector_named};
 use crate::texts::{
     BAR_COUNT, CountText, IS_NO_BAR, IS_NO_DAY, IS_NO_GROUP, IS_NO_WHEEL, LETTER_COUNT, NEVER_LEFT,
-    NO_LETTER_OR_NUMBER, NO_MODEL, NO_REFLECTOR, NOT_IN_BOX, NOTHING, ONLY_LEFT, TOO_LONG,
-    TOO_MANY_GROUPS, WHEEL_COUNT, WHEEL_TWICE,
+    NO_LETTER_OR_NUMBER, NO_MODEL, NO_REFLECTOR, NOTHING, ONLY_LEFT, TOO_LONG, TOO_MANY_GROUPS,
+    WHEEL_COUNT, WHEEL_TWICE,
 };
 use arrayvec::ArrayVec;
 use kd_language::{Language, Text};
+use kd_slips::texts::NOT_IN_BOX;
 use kd_slips::{box_words, model_name};
 use kd_tables::{Letter, Model, Reading, Wheel, allowed, in_box, split_words};
 

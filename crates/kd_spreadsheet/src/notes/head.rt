@@ -5,7 +5,7 @@ use csv::ByteRecord;
 use kd_language::{Language, Wording};
 
 /// The options, the columns and the first row of a table, for the notes on each row. The first row has the columns'
-/// names. Also the language of the notes, and the memory for them.
+/// names. `wording` has the notes' language, and the memory for them.
 #[derive(Drop)]
 pub struct Head<'a> {
     wording: Wording,

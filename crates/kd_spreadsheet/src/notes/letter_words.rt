@@ -3,8 +3,9 @@ use super::cell_words::item_words;
 use super::words::{Value, Words};
 use crate::items::{joined, values_in};
 use crate::texts::{
-    IN_TWO_PAIRS, IS_NO_LETTER, IS_NO_PAIR, LETTER_TWICE, OFF_WHEEL, PAIRED_WITH_ITSELF, TOO_LONG,
+    IS_NO_LETTER, IS_NO_PAIR, LETTER_TWICE, OFF_WHEEL, PAIRED_WITH_ITSELF, TOO_LONG,
 };
+use kd_slips::texts::LETTER_TWICE as IN_TWO_PAIRS;
 use kd_tables::{Letter, place_on_wheel};
 
 /// Says that `letter` isn't on a Converter's wheel `wheel`. Says nothing if `letter` is on the wheel.

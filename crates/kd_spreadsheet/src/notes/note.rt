@@ -1,6 +1,5 @@
 //! Appends lines to notes. Each line begins with the place that the line is about.
 ghost use Rattle.std.specs.Prelude.{◌≡◌, ◌++◌, ◌<◌, ℕ, List, true, flat_map, length, map, IfOk};
-ghost use Rattle.std.specs.List.{slice_split};
 ghost use Rattle.std.specs.String.{string_bytes};
 ghost use Rattle.kd_spreadsheet.specs.Notes.{cell_name, cell_place, line_at, option_name, row_place, shown, shown_byte};
 
