@@ -112,28 +112,21 @@ pub const PARTS: Text = ("parts: ", "Teile: ");
 
 pub const LETTERS: Text = ("letters of text: ", "Buchstaben des Textes: ");
 
-/// The words of the line about a part's group: before the part's number, and before the group.
-pub const PART: Text = ("part ", "Teil ");
+/// The line about a part's group. The values are the part's number and the group.
+pub const GROUP: Text = ("part ~: group ~\n", "Teil ~: Kenngruppe ~\n");
 
-pub const GROUP: Text = (": group ", ": Kenngruppe ");
+/// The line that names a day with a part's group. The values are the name of the message's file, the part's number, the
+/// group, the day's number, and the name of the sheet's file.
+pub const GROUP_DAY: Text = (
+    "~: part ~: group ~ is of day ~ in ~\n",
+    "~: Teil ~: Kenngruppe ~ gehört zu Tag ~ in ~\n",
+);
 
-/// The words of the line that names a day with a part's group. They stand before the part's number, the day's number
-/// and the sheet's name. `GROUP` stands before the group.
-pub const OF_PART: Text = (": part ", ": Teil ");
-
-pub const OF_DAY: Text = (" is of day ", " gehört zu Tag ");
-
-pub const IN_SHEET: Text = (" in ", " in ");
-
-/// The words of the warning that no day has a part's group. They stand before the part's number, the sheet's name and
-/// the group.
-pub const PART_WARNING: Text = (": warning: part ", ": Warnung: Teil ");
-
-pub const NO_DAY_IN: Text = (": no day for such a machine in ", ": in ");
-
-pub const HAS_GROUP: Text = (
-    " has the group ",
-    " hat kein Tag für eine solche Maschine die Kenngruppe ",
+/// The warning that no day has a part's group. The values are the name of the message's file, the part's number, the
+/// name of the sheet's file, and the group.
+pub const NO_GROUP: Text = (
+    "~: warning: part ~: no day for such a machine in ~ has the group ~\n",
+    "~: Warnung: Teil ~: in ~ hat kein Tag für eine solche Maschine die Kenngruppe ~\n",
 );
 
 /// What is wrong with an order or a form. The names are those of `Reason`.
