@@ -110,6 +110,8 @@ fn push_form(
 }
 
 /// Appends `template` with the file's name, and with the machine that the message is for.
+///
+/// A function of its own, because the borrow checker refuses an array of an argument and a `'static` text.
 fn push_kind(
     words: &mut String,
     template: &str,
