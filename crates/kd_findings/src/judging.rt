@@ -36,7 +36,8 @@ pub fn items_at(table: &Table, key: Key) -> Option<&[Value]>
 
 /// The entries of a key sheet: the items of the array `day`. `None` if the document has no array `day`.
 pub fn entries_of(document: &Table) -> Option<&[Value]>
-    ensures { option_map (λ items. map view items.now) result ≡ entries_of (table_view document.now) }
+    ensures { option_map (λ items. map view items.now) result
+        ≡ entries_of (table_view document.now) }
 {
     items_at(document, Key::Day)
 }
@@ -53,7 +54,8 @@ pub fn is_machine_file(document: &Table) -> bool
 
 /// Finds the faults of a document.
 pub fn find_faults(wording: Wording, document: &Table) -> Result<Vec<Finding>, AllocError>
-    ensures faults { IfOk result (λ list. AreFaults (table_view document.now) (faults_of list.items)) }
+    ensures faults { IfOk result (λ list.
+        AreFaults (table_view document.now) (faults_of list.items)) }
     ensures first { IfOk result (λ list.
         first_fault (faults_of list.items) ≡ file_fault (table_view document.now)) }
 {

@@ -12,7 +12,7 @@ mod key_place;
 mod machine;
 mod not_toml;
 mod sheet;
-mod texts;
+pub mod texts;
 mod unread;
 mod warnings;
 mod words;

@@ -93,20 +93,20 @@ fn reason_for(
     message: &str,
 ) -> Result<String, AllocError> {
     let mistake = hint(numbered_line(bytes, line), message);
-    mistake_words(wording, message, wording.language.text(mistake))
+    let cause = cause_words(wording, message, mistake)?;
+    wording.fill(texts::NOT_TOML, &[cause.as_str()])
 }
 
-/// The words for a fault: the parser's message `message`, and the likely mistake. German words leave out the message,
-/// which is in English.
-fn mistake_words<'w>(
-    wording: Wording,
-    message: &'w str,
-    mistake: &'w str,
-) -> Result<String, AllocError> {
-    match wording.language {
-        Language::English => wording.fill(texts::NOT_TOML, &[message, mistake]),
-        Language::German => wording.fill(texts::NOT_TOML, &[mistake]),
+/// Why a file isn't TOML: the parser's message `message`, and the likely mistake. The parser has only English messages,
+/// so German words give the mistake alone.
+fn cause_words(wording: Wording, message: &str, mistake: Text) -> Result<String, AllocError> {
+    let mut words = String::new(wording.alloc);
+    if wording.language == Language::English {
+        words.push_str(message)?;
+        words.push_str("; ")?;
     }
+    words.push_str(wording.language.text(mistake))?;
+    Ok(words)
 }
 
 /// The likely mistake in `line`, in which the parser found a fault. `message` is the parser's message.

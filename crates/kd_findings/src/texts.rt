@@ -11,6 +11,7 @@ pub const LINE: Text = (", line ", ", Zeile ");
 
 pub const COLUMN: Text = (", column ", ", Spalte ");
 
+/// The words between a file's name and a warning.
 pub const WARNING: Text = (": warning: ", ": Warnung: ");
 
 /// The warning about an unread key. The values are the key's name, and advice.
@@ -34,6 +35,7 @@ pub const CABLE_ORDER: Text = (
     "desk schreibt die Schnur `~` als `~`\n",
 );
 
+/// The words for a refused value, if no check explains the refusal.
 pub const REFUSED: Text = ("the desk refuses the value", "desk lehnt den Wert ab");
 
 /// A value has the wrong type: this text, and the next text. The value is the type, in words.
@@ -63,9 +65,8 @@ pub const DAY_TWICE: Text = (
     "Tag ~ steht in Eintrag ~ und in Eintrag ~",
 );
 
-/// A file isn't TOML. The values are the parser's message and the likely mistake. The parser has only English messages:
-/// the German text takes the likely mistake alone.
-pub const NOT_TOML: Text = ("this isn't TOML: ~; ~", "dies ist kein TOML: ~");
+/// A file isn't TOML. The value says why.
+pub const NOT_TOML: Text = ("this isn't TOML: ~", "dies ist kein TOML: ~");
 
 /// The likely mistakes in a file that isn't TOML: this text, and the texts after it.
 pub const NOT_UTF8: Text = ("save the file as UTF-8", "die Datei als UTF-8 speichern");

@@ -22,7 +22,8 @@ pub fn first_line(words: &str) -> &str
 /// Appends `title` and a number.
 #[tactic(auto, using(std::proofs::Common::append_assoc), unfolding(crate::specs::Texts::titled))]
 pub fn push_titled(text: &mut String, title: &str, number: usize) -> Result<(), AllocError>
-    ensures { OnOk result (string_bytes text.new ≡ string_bytes text.old ++ titled title.now number) }
+    ensures { OnOk result (string_bytes text.new
+        ≡ string_bytes text.old ++ titled title.now number) }
 {
     let mut buffer = Buffer::new();
     text.push_str(title)?;
@@ -47,7 +48,8 @@ pub fn push_entry(
     day: Option<u8>,
     entry: Option<usize>,
 ) -> Result<(), AllocError>
-    ensures { OnOk result (string_bytes text.new ≡ string_bytes text.old ++ entry_words language day entry) }
+    ensures { OnOk result (string_bytes text.new
+        ≡ string_bytes text.old ++ entry_words language day entry) }
 {
     match (day, entry) {
         (Some(day), _) => push_titled(text, language.text(texts::DAY), usize::from(day)),

@@ -1,5 +1,5 @@
 //! Finds days that have fewer pairs, or fewer groups, than another day of their model.
-ghost use Rattle.std.specs.Prelude.{◌≡◌, ◌++◌, decimal, find, OnOk, IfOk};
+ghost use Rattle.std.specs.Prelude.{◌≡◌, ◌++◌, find, OnOk, IfOk};
 ghost use Rattle.std.specs.List.{list_any};
 ghost use Rattle.std.specs.String.{string_bytes};
 ghost use Rattle.kd_slips.specs.Counts.{count, count_words, counts_of, day_lines, few_line, few_lines, few_words};

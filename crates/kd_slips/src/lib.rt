@@ -14,7 +14,7 @@ pub mod numbers;
 pub mod pins;
 pub mod rings;
 pub mod slip;
-mod texts;
+pub mod texts;
 pub mod values;
 
 pub use models::{box_words, model_name};

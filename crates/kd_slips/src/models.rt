@@ -1,11 +1,10 @@
 //! Refuses models, reflectors and wheels that the desk doesn't know, or that don't fit together.
-ghost use Rattle.std.specs.Prelude.{◌≡◌, ◌≤◌, length, IfErr, IsErr, None};
+ghost use Rattle.std.specs.Prelude.{◌≡◌, IfErr, IsErr, None};
 ghost use Rattle.kd_sheet.specs.declared.fault.SheetFault.TheVariants.{BadValue, UnknownModel, WheelNotAllowed};
 ghost use Rattle.kd_sheet.specs.declared.fault.SheetFault.TheVariants.{WheelTwice};
 ghost use Rattle.kd_slips.specs.Items.{HasFault};
-ghost use Rattle.kd_slips.specs.Shown.{model_with_article};
+ghost use Rattle.kd_slips.specs.Shown.{box_words, model_with_article};
 
-use crate::letters::in_capitals;
 use crate::slip::{Slip, refuse};
 use crate::texts;
 use crate::values::{check_count, item_text, items_at, shown, text_at};
@@ -18,8 +17,7 @@ use toml::{Table, Value};
 
 /// The model's name, with an article before it.
 pub fn model_name(language: Language, model: Model) -> &'static str
-    ensures value { result.now ≡ model_with_article language model }
-    ensures len { length result.now ≤ 19 }
+    ensures { result.now ≡ model_with_article language model }
 {
     match model {
         Model::EnigmaI => language.text(texts::AN_ENIGMA_I),
@@ -31,7 +29,7 @@ pub fn model_name(language: Language, model: Model) -> &'static str
 
 /// The wheels in the model's box, in words.
 pub fn box_words(language: Language, model: Model) -> &'static str
-    ensures { length result.now ≤ 26 }
+    ensures { result.now ≡ box_words language model }
 {
     match model {
         Model::EnigmaI => language.text(texts::BOX_OF_ENIGMA_I),

@@ -1,6 +1,6 @@
 //! Finds names that may be mistyped forms of other names.
 ghost use Rattle.std.specs.Prelude.{◌≡◌, ◌≤◌, length};
-ghost use Rattle.kd_slips.specs.NearNames.{alike_at_end, alike_at_start, in_common, is_near, larger, smaller};
+ghost use Rattle.kd_slips.specs.NearNames.{alike_at_end, alike_at_start, in_common, is_near};
 
 /// Whether two names differ only in one stretch of letters, which has at most `slips` letters in each name.
 #[tactic(auto, unfolding(crate::specs::NearNames::is_near))]

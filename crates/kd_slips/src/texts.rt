@@ -125,7 +125,7 @@ pub const FOR_A_GROUP: Text = (" for a group", " für eine Kenngruppe");
 /// A pin wheel lacks a letter. The values are the wheel's number, the letter, and the wheel's letters.
 pub const NOT_ON_WHEEL: Text = ("wheel ~ has no ~; it has ~", "Rad ~ hat kein ~; es hat ~");
 
-/// The names of the models, with an article: this text, and the next three texts.
+/// The names of the models, each with its article, in the nominative: this text, and the next three texts.
 pub const AN_ENIGMA_I: Text = ("an Enigma I", "eine Enigma I");
 
 pub const AN_M3: Text = ("an M3", "eine M3");
@@ -181,7 +181,8 @@ pub const NOT_FOR_SLOT: Text = (
     "Walze ~ passt nicht auf Platz ~: ~ hat dort ~",
 );
 
-/// The values are the wheel, the model, and the wheels in the model's box.
+/// A wheel isn't in the model's box. The values are the wheel, the model's name with its article, and the wheels in the
+/// box.
 pub const NOT_IN_BOX: Text = (
     "wheel ~ isn't in the box of ~, which has ~",
     "Walze ~ ist nicht im Kasten: ~ hat ~",
@@ -235,7 +236,7 @@ pub const LETTER_AT_BOTH_ENDS: Text = (
     "der Buchstabe ~ ist an beiden Enden von ~",
 );
 
-/// The values are the letter, and the two cables that have it.
+/// A letter is in two pairs or cables. The values are the letter, and the two pairs or cables as they stand in the file.
 pub const LETTER_TWICE: Text = (
     "the letter ~ is in ~ and in ~",
     "der Buchstabe ~ ist in ~ und in ~",
@@ -257,6 +258,8 @@ pub const FEW: Text = (
 /// The word before pairs or groups if there are none.
 pub const NO: Text = ("no", "keine");
 
+/// The nouns for a number of pairs or groups: this text, and the next three texts. Each begins with a space, as the
+/// number stands before it.
 pub const PAIR: Text = (" pair", " Steckerpaar");
 
 pub const PAIRS: Text = (" pairs", " Steckerpaare");

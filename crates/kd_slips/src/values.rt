@@ -110,7 +110,8 @@ pub fn items_of(wording: Wording, value: &Value, key: Key) -> Result<&[Value], S
 /// The items of the list at `key`, or the reason why there is no list.
 pub fn items_at(wording: Wording, table: &Table, key: Key) -> Result<&[Value], Slip>
     ensures found { IfOk result (λ items.
-        option_and_then as_items (get_member (key_name key) (table_view table.now)) ≡ Some (map view items.now)) }
+        option_and_then as_items (get_member (key_name key) (table_view table.now))
+        ≡ Some (map view items.now)) }
     ensures other { OnErr result
         (option_and_then as_items (get_member (key_name key) (table_view table.now)) ≡ None) }
     ensures slip { IfErr result

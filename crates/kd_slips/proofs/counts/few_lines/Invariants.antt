@@ -5,4 +5,5 @@ use Rattle.kd_slips.proofs.counts.few_lines.Given as goal
 
 -- the lines on the days so far
 abbrev pub invariant-loop-day : goal.invariant-loop-day
-invariant-loop-day l = string_bytes l.lines ≡ flat_map (day_lines l.wording.language l.start l.days) (take l.day-index l.days)
+invariant-loop-day l = string_bytes l.lines
+    ≡ flat_map (day_lines l.wording.language l.start l.days) (take l.day-index l.days)
