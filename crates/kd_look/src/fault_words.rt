@@ -12,8 +12,8 @@ ghost use Rattle.kd_findings.specs.Texts.{AppendsText};
 ghost use Rattle.kd_sheet.specs.Document.{document_of};
 
 use crate::line::lines_of;
-use crate::texts::LINE;
 use crate::warnings::{key_warnings, push_mark};
+use kd_findings::texts::LINE;
 use kd_findings::{
     Finding, find_faults, first_line, push_entry, push_titled, toml_words, wrong_words,
 };

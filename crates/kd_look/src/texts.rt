@@ -55,12 +55,6 @@ pub const LAST_DAY: Text = (" to ", " bis ");
 /// The title of the lines for days without groups.
 pub const WITHOUT_GROUPS: Text = ("without groups", "ohne Kenngruppen");
 
-/// The words before the number of a fault's line.
-pub const LINE: Text = (", line ", ", Zeile ");
-
-/// The words between a file's name and a warning.
-pub const WARNING: Text = (": warning: ", ": Warnung: ");
-
 /// The rest of the line that warns of a byte order mark. The file's name stands before it.
 pub const MARK: Text = (
     ": warning: the file begins with a byte order mark, which the desk passes over\n",
@@ -83,14 +77,8 @@ pub const NO_DAY: Text = (
     "~: Warnung: ~ hat keinen Tag für ~\n",
 );
 
-/// Models after the word `for`. In German, they are in the accusative. The last text is for the two models whose
-/// messages look alike.
-pub const ENIGMA_I: Text = ("an Enigma I", "eine Enigma I");
-
-pub const M3: Text = ("an M3", "eine M3");
-
-pub const M4: Text = ("an M4", "eine M4");
-
+/// Models after the word `for`. In German, they are in the accusative. Models whose accusative is their nominative have
+/// their texts in `kd_slips`. The second text is for the two models whose messages look alike.
 pub const CONVERTER: Text = ("a Converter M-209", "einen Converter M-209");
 
 pub const ENIGMA_I_OR_M3: Text = ("an Enigma I or an M3", "eine Enigma I oder eine M3");
