@@ -14,9 +14,9 @@ use Rattle.kd_findings.specs.NotToml.{SaysNotToml}
 use Rattle.kd_findings.specs.SheetFaults.{AreFaults}
 use Rattle.kd_findings.specs.Texts.{BeginsWith, IsInOneLine, entry_words, titled}
 use Rattle.kd_findings.specs.declared.key_place.KeyPlace.{KeyPlace}
+use Rattle.kd_findings.specs.declared.texts.TheConstants.{LINE}
 use Rattle.kd_look.specs.Line.{line_of_fault}
 use Rattle.kd_look.specs.Warnings.{AreKeyWarnings, mark_words}
-use Rattle.kd_look.specs.declared.texts.TheConstants.{LINE}
 
 -- the end of a fault's line: the fault's number and name in parentheses
 abbrev pub fault_end : SheetFault → List ℕ

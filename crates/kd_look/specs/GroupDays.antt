@@ -1,6 +1,6 @@
 -- The lines that name the days of key sheets that have the groups of orders and forms.
 -- Test: tests/cases/curator-look.toml
-use Rattle.std.specs.Prelude.{codes, ℕ, ◌==◌, ◌++◌, ◌&&◌, Bool, false, List, [], ◌∷◌, count_by, Option, Some, None}
+use Rattle.std.specs.Prelude.{ℕ, ◌==◌, ◌++◌, ◌&&◌, Bool, false, List, [], ◌∷◌, count_by, decimal, Option, Some, None}
 use Rattle.std.specs.List.{enumerate_from, filter, flat_map, list_all, list_any, range_with_len}
 use Rattle.std.specs.Option.{option_map_or}
 use Rattle.kd_tables.specs.Tables.{slots_of}
@@ -10,7 +10,7 @@ use Rattle.kd_state.specs.SheetDay.{Day, Pin, Rotor, day_model}
 use Rattle.kd_sheet.specs.Sheet.{day_of}
 use Rattle.kd_language.specs.Language.{text_in}
 use Rattle.kd_language.specs.declared.language.Language.{Language}
-use Rattle.kd_findings.specs.Texts.{titled}
+use Rattle.kd_language.specs.Template.{filled}
 use Rattle.kd_look.specs.Groups.{KnownMessage}
 use Rattle.kd_look.specs.MissingDays.{KnownFile}
 use Rattle.kd_look.specs.declared.file.File.{File}
@@ -63,26 +63,26 @@ is_day_with search group number = option_map_or (suits search group) (day_of sea
 abbrev pub days_with : GroupSearch → List ℕ → List ℕ
 days_with search group = filter (is_day_with search group) (range_with_len 1 31)
 
--- the line that says that the group of part `part` is of day `day`
+-- the line that says that the group of part `part` is of day `day`; `group` is the group in capital letters
 unfoldable pub group_day_line : Language → GroupSearch → ℕ → List ℕ → ℕ → List ℕ
 group_day_line l search part group day =
-    search.name ++ titled (text_in l texts.OF_PART) part ++ text_in l texts.GROUP ++ letters_text group
-    ++ titled (text_in l texts.OF_DAY) day ++ text_in l texts.IN_SHEET ++ search.sheet ++ codes "\n"
+    filled (text_in l texts.GROUP_DAY) (search.name ∷ decimal part ∷ group ∷ decimal day ∷ search.sheet ∷ [])
 
--- the warning that no day of the sheet suits the message and the group of part `part`
+-- the warning that no day of the sheet suits the message and the group of part `part`; `group` is the group in capital
+-- letters
 unfoldable pub no_group_line : Language → GroupSearch → ℕ → List ℕ → List ℕ
 no_group_line l search part group =
-    search.name ++ titled (text_in l texts.PART_WARNING) part ++ text_in l texts.NO_DAY_IN ++ search.sheet
-    ++ text_in l texts.HAS_GROUP ++ letters_text group ++ codes "\n"
+    filled (text_in l texts.NO_GROUP) (search.name ∷ decimal part ∷ search.sheet ∷ group ∷ [])
 
--- a line for each of the days that have the group; if there are none, the warning
+-- A line for each of the days that have the group. If there are none, the warning. `group` is the group in capital
+-- letters.
 abbrev pub lines_for : Language → GroupSearch → ℕ → List ℕ → List ℕ → List ℕ
 lines_for l search part group [] = no_group_line l search part group
 lines_for l search part group (day ∷ days) = flat_map (group_day_line l search part group) (day ∷ days)
 
 -- the lines about the group of part `part`
 unfoldable pub part_lines : Language → GroupSearch → ℕ → List ℕ → List ℕ
-part_lines l search part group = lines_for l search part group (days_with search group)
+part_lines l search part group = lines_for l search part (letters_text group) (days_with search group)
 
 -- the lines about groups; `part` is the part of the first group
 abbrev pub parts_lines : Language → GroupSearch → ℕ → List (List ℕ) → List ℕ

@@ -1,15 +1,15 @@
 -- The groups of an order or a form. By a part's group, the receiver finds the day. Two fillers stand before the group:
 -- in an order, both are in the part's line of keys; in a form, both begin the part's body. Indexes are counted from 0.
 -- Test: tests/cases/curator-look.toml
-use Rattle.std.specs.Prelude.{codes, ℕ, ◌+◌, ◌-◌, ◌==◌, ◌++◌, nat_eq, false, List, [], drop, length, map, take}
+use Rattle.std.specs.Prelude.{ℕ, ◌+◌, ◌-◌, ◌==◌, ◌++◌, nat_eq, decimal, false, List, [], ◌∷◌, drop, length, map, take}
 use Rattle.std.specs.Prelude.{Option, Some, None, Result, Ok, Err, if◌then◌else◌}
 use Rattle.std.specs.List.{enumerate_from, filter, flat_map, position, range_with_len}
 use Rattle.std.specs.Option.{option_map_or, option_to_list}
 use Rattle.kd_tables.specs.Text.{is_capital, letters_text}
 use Rattle.kd_language.specs.Language.{text_in}
 use Rattle.kd_language.specs.declared.language.Language.{Language}
+use Rattle.kd_language.specs.Template.{filled}
 use Rattle.kd_findings.specs.NotToml.{column_at}
-use Rattle.kd_findings.specs.Texts.{titled}
 use Rattle.kd_look.specs.Form.{form_answer, heading_follows}
 use Rattle.kd_look.specs.Order.{order_start}
 use Rattle.kd_look.specs.OrderHead.{key_line_of}
@@ -18,7 +18,7 @@ use Rattle.kd_look.specs.declared.message.fault.MessageFault.{MessageFault}
 use Rattle.kd_look.specs.declared.message.form_heading.FormHeading.{FormHeading}
 use Rattle.kd_look.specs.declared.message.order_head.KeyLine.{KeyLine}
 use Rattle.kd_look.specs.declared.message.order_head.KeyLine.TheVariants as lines
-use Rattle.kd_look.specs.declared.texts.TheConstants.{GROUP, PART}
+use Rattle.kd_look.specs.declared.texts.TheConstants.{GROUP}
 
 -- An order or a form without a fault: how its keys are written, and the groups of its parts, in the order of the parts.
 pub record KnownMessage : Type 0 where
@@ -92,7 +92,7 @@ message_of text = if is_form text then form_message text (form_answer text) else
 
 -- the line about the group of part `part`
 unfoldable pub group_line : Language → ℕ → List ℕ → List ℕ
-group_line l part group = titled (text_in l PART) part ++ text_in l GROUP ++ letters_text group ++ codes "\n"
+group_line l part group = filled (text_in l GROUP) (decimal part ∷ letters_text group ∷ [])
 
 -- the lines about groups; `part` is the part of the first group
 abbrev pub numbered_lines : Language → ℕ → List (List ℕ) → List ℕ

@@ -8,6 +8,7 @@ use Rattle.kd_form.specs.FaultText.{form_fault_text}
 use Rattle.kd_language.specs.Language.{text_in}
 use Rattle.kd_language.specs.declared.language.Language.{Language}
 use Rattle.kd_language.specs.Template.{filled}
+use Rattle.kd_slips.specs.declared.texts.TheConstants.{AN_M4}
 use Rattle.kd_findings.specs.NotToml.{column_at, line_at, place_words}
 use Rattle.kd_findings.specs.Texts.{titled}
 use Rattle.kd_look.specs.Order.{keys_given, letter_count, order_start}
@@ -74,7 +75,7 @@ fault_line l name text found =
 -- the machines that an order or a form is for, after the word `for`
 unfoldable pub machine_name : Language → KeyLine → List ℕ
 machine_name l lines.ThreeSlots = text_in l texts.ENIGMA_I_OR_M3
-machine_name l lines.FourSlots = text_in l texts.M4
+machine_name l lines.FourSlots = text_in l AN_M4
 machine_name l lines.Converter = text_in l texts.CONVERTER
 
 -- a line with a title and a number

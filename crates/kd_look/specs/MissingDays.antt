@@ -10,6 +10,7 @@ use Rattle.kd_sheet.specs.Sheet.{has_days_of}
 use Rattle.kd_language.specs.Language.{text_in}
 use Rattle.kd_language.specs.declared.language.Language.{Language}
 use Rattle.kd_language.specs.Template.{filled}
+use Rattle.kd_slips.specs.declared.texts.TheConstants.{AN_ENIGMA_I, AN_M3, AN_M4}
 use Rattle.kd_look.specs.Groups.{KnownMessage}
 use Rattle.kd_look.specs.declared.file.File.{File}
 use Rattle.kd_look.specs.declared.file.File.TheVariants as files
@@ -49,9 +50,9 @@ words_for None words = []
 
 -- the model after the word `for`; in German, this is the accusative
 abbrev pub model_after_for : Language → Model → List ℕ
-model_after_for l EnigmaI = text_in l texts.ENIGMA_I
-model_after_for l M3 = text_in l texts.M3
-model_after_for l M4 = text_in l texts.M4
+model_after_for l EnigmaI = text_in l AN_ENIGMA_I
+model_after_for l M3 = text_in l AN_M3
+model_after_for l M4 = text_in l AN_M4
 model_after_for l M209 = text_in l texts.CONVERTER
 
 -- the warning that the key sheet `sheet` has no day for the machine in the file `name`; `model` is the machine's model

@@ -12,9 +12,10 @@ use Rattle.kd_slips.specs.Counts.{counts_of, few_lines}
 use Rattle.kd_slips.specs.declared.counts.DayCounts.{DayCounts}
 use Rattle.kd_findings.specs.Texts.{ArePieces, IsInOneLine}
 use Rattle.kd_findings.specs.Warnings.{AreWarnings}
+use Rattle.kd_findings.specs.declared.texts.TheConstants.{WARNING}
 use Rattle.kd_look.specs.declared.file.File.{File}
 use Rattle.kd_look.specs.declared.file.File.TheVariants as files
-use Rattle.kd_look.specs.declared.texts.TheConstants.{DAY_WARNING, MARK, WARNING}
+use Rattle.kd_look.specs.declared.texts.TheConstants.{DAY_WARNING, MARK}
 
 -- whether the bytes begin with the byte order mark of UTF-8
 unfoldable pub has_mark : List ℕ → Bool

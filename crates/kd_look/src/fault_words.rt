@@ -1,5 +1,5 @@
 //! The lines that name the faults of a file.
-ghost use Rattle.std.specs.Prelude.{◌≡◌, ◌++◌, ℕ, List, codes, decimal, map, IfOk, OnOk, Err};
+ghost use Rattle.std.specs.Prelude.{◌≡◌, ◌++◌, ℕ, List, map, IfOk, OnOk, Err};
 ghost use Rattle.std.specs.Result.{result_ok};
 ghost use Rattle.std.specs.String.{string_bytes};
 ghost use Rattle.toml.specs.View.{table_view};
@@ -12,10 +12,10 @@ ghost use Rattle.kd_findings.specs.Texts.{AppendsText};
 ghost use Rattle.kd_sheet.specs.Document.{document_of};
 
 use crate::line::lines_of;
-use crate::texts::LINE;
 use crate::warnings::{key_warnings, push_mark};
+use kd_findings::texts::LINE;
 use kd_findings::{
-    Finding, KeyPlace, find_faults, first_line, push_entry, push_titled, toml_words, wrong_words,
+    Finding, find_faults, first_line, push_entry, push_titled, toml_words, wrong_words,
 };
 use kd_language::{Language, Wording};
 use kd_sheet::SheetFault;
@@ -121,34 +121,32 @@ fn push_finding(
         text,
         wording.language,
         name,
-        finding.place,
+        finding,
         line,
         first_line(wrong.as_str()),
-        finding.fault,
     )
 }
 
-/// Appends the line of a fault. `wrong` are the words that say what is wrong.
+/// Appends the line about `finding`, whose value is in line `line` of the file. `wrong` says what is wrong.
 #[tactic(auto, using(std::proofs::Common::append_assoc), unfolding(crate::specs::FaultWords::fault_line))]
 fn push_fault_line(
     text: &mut String,
     language: Language,
     name: &str,
-    place: KeyPlace,
+    finding: &Finding,
     line: Option<usize>,
     wrong: &str,
-    fault: SheetFault,
 ) -> Result<(), AllocError>
-    ensures { OnOk result (string_bytes text.new
-        ≡ string_bytes text.old ++ fault_line language name.now place line wrong.now fault) }
+    ensures { OnOk result (string_bytes text.new ≡ string_bytes text.old
+        ++ fault_line language name.now finding.now.place line wrong.now finding.now.fault) }
 {
     text.push_str(name)?;
-    push_entry(text, language, place.day, place.entry)?;
+    push_entry(text, language, finding.place.day, finding.place.entry)?;
     push_line(text, language, line)?;
     text.push_str(", ")?;
-    text.push_str(place.key.name())?;
+    text.push_str(finding.place.key.name())?;
     text.push_str(wrong)?;
-    push_fault(text, fault)
+    push_fault(text, finding.fault)
 }
 
 /// Appends the number of a line, if it is known.

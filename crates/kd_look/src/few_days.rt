@@ -2,10 +2,10 @@
 ghost use Rattle.std.specs.Prelude.{◌≡◌, ◌++◌, IfOk, OnOk};
 ghost use Rattle.std.specs.String.{string_bytes};
 ghost use Rattle.kd_language.specs.Language.{text_in};
+ghost use Rattle.kd_findings.specs.declared.texts.TheConstants.{WARNING as WARNING_TEXT};
 ghost use Rattle.kd_look.specs.Warnings.{counts_in, counts_on, few_day_words};
-ghost use Rattle.kd_look.specs.declared.texts.TheConstants.{WARNING as WARNING_TEXT};
 
-use crate::texts::WARNING;
+use kd_findings::texts::WARNING;
 use kd_language::Wording;
 use kd_sheet::Sheet;
 use kd_slips::counts::{DayCounts, counts_of, few_lines};

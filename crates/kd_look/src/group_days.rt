@@ -12,9 +12,10 @@ use crate::file::File;
 use crate::message::groups::Message;
 use crate::message::order_head::KeyLine;
 use crate::missing_days::ReadFile;
-use crate::texts::{GROUP, HAS_GROUP, IN_SHEET, NO_DAY_IN, OF_DAY, OF_PART, PART_WARNING};
-use crate::values::push_letters;
-use kd_findings::push_titled;
+use crate::texts::{GROUP_DAY, NO_GROUP};
+use crate::values::group_text;
+use itoa::Buffer;
+use kd_language::template::push_filled;
 use kd_language::{Language, Wording};
 use kd_sheet::Sheet;
 use kd_state::SheetDay;
@@ -143,29 +144,30 @@ fn push_part(
     part: usize,
     group: [Letter; 3],
 ) -> Result<(), AllocError>
-    ensures { OnOk result (string_bytes lines.new
-        ≡ string_bytes lines.old ++ part_lines wording.language (search_of search.now) part group) }
+    ensures { OnOk result (string_bytes lines.new ≡ string_bytes lines.old
+        ++ part_lines wording.language (search_of search.now) part group) }
 {
     let days = days_with(wording.alloc, search, group)?;
+    let group = group_text(wording.alloc, group)?;
     push_lines_for(
         lines,
         wording.language,
         search,
         part,
-        &group,
+        group.as_str(),
         days.as_slice(),
     )
 }
 
 /// Appends a line for each of `days`, the days that have the group of part `part`.
 ///
-/// If there is no such day, appends the warning.
+/// `group` is the group in capital letters. If there is no such day, appends the warning.
 fn push_lines_for(
     lines: &mut String,
     language: Language,
     search: &Search<'_>,
     part: usize,
-    group: &[Letter],
+    group: &str,
     days: &[u8],
 ) -> Result<(), AllocError>
     ensures { OnOk result (string_bytes lines.new ≡ string_bytes lines.old
@@ -178,13 +180,15 @@ fn push_lines_for(
 }
 
 /// Appends a line for each of `days`, the days that have the group of part `part`.
+///
+/// `group` is the group in capital letters.
 #[tactic(auto, using(std::proofs::Common::append_assoc))]
 fn push_days(
     lines: &mut String,
     language: Language,
     search: &Search<'_>,
     part: usize,
-    group: &[Letter],
+    group: &str,
     days: &[u8],
 ) -> Result<(), AllocError>
     ensures { OnOk result (string_bytes lines.new ≡ string_bytes lines.old
@@ -200,47 +204,55 @@ fn push_days(
 }
 
 /// Appends the line that says that the group of part `part` is of day `day`.
-#[tactic(auto, using(std::proofs::Common::append_assoc), unfolding(crate::specs::GroupDays::group_day_line))]
+///
+/// `group` is the group in capital letters.
+#[tactic(auto, unfolding(crate::specs::GroupDays::group_day_line))]
 fn push_day(
     lines: &mut String,
     language: Language,
     search: &Search<'_>,
     part: usize,
-    group: &[Letter],
+    group: &str,
     day: u8,
 ) -> Result<(), AllocError>
     ensures { OnOk result (string_bytes lines.new ≡ string_bytes lines.old
         ++ group_day_line language (search_of search.now) part group.now day) }
 {
-    lines.push_str(search.name)?;
-    push_titled(lines, language.text(OF_PART), part)?;
-    lines.push_str(language.text(GROUP))?;
-    push_letters(lines, group)?;
-    push_titled(lines, language.text(OF_DAY), usize::from(day))?;
-    lines.push_str(language.text(IN_SHEET))?;
-    lines.push_str(search.sheet)?;
-    lines.push_str("\n")
+    let mut part_text = Buffer::new();
+    let mut day_text = Buffer::new();
+    push_filled(
+        lines,
+        language.text(GROUP_DAY),
+        &[
+            search.name,
+            part_text.format(part),
+            group,
+            day_text.format(day),
+            search.sheet,
+        ],
+    )
 }
 
 /// Appends the warning that no day of the sheet suits the message and the group of part `part`.
-#[tactic(auto, using(std::proofs::Common::append_assoc), unfolding(crate::specs::GroupDays::no_group_line))]
+///
+/// `group` is the group in capital letters.
+#[tactic(auto, unfolding(crate::specs::GroupDays::no_group_line))]
 fn push_no_group(
     lines: &mut String,
     language: Language,
     search: &Search<'_>,
     part: usize,
-    group: &[Letter],
+    group: &str,
 ) -> Result<(), AllocError>
-    ensures { OnOk result (string_bytes lines.new
-        ≡ string_bytes lines.old ++ no_group_line language (search_of search.now) part group.now) }
+    ensures { OnOk result (string_bytes lines.new ≡ string_bytes lines.old
+        ++ no_group_line language (search_of search.now) part group.now) }
 {
-    lines.push_str(search.name)?;
-    push_titled(lines, language.text(PART_WARNING), part)?;
-    lines.push_str(language.text(NO_DAY_IN))?;
-    lines.push_str(search.sheet)?;
-    lines.push_str(language.text(HAS_GROUP))?;
-    push_letters(lines, group)?;
-    lines.push_str("\n")
+    let mut part_text = Buffer::new();
+    push_filled(
+        lines,
+        language.text(NO_GROUP),
+        &[search.name, part_text.format(part), search.sheet, group],
+    )
 }
 
 /// The numbers of the sheet's days that suit the message and `group`, in ascending order.

@@ -102,7 +102,8 @@ fn lines_after(
     requires within { index < length text.now }
     requires so_far { lines.items ≡ map (line_so_far text.now index) findings.now }
     requires line { line ≡ line_at text.now index }
-    ensures { IfOk result (λ next. next.items ≡ map (line_so_far text.now (index + 1)) findings.now) }
+    ensures { IfOk result (λ next.
+        next.items ≡ map (line_so_far text.now (index + 1)) findings.now) }
 {
     if ends_line(text, index) {
         lines_with(alloc, &text[..index + 1], line, findings, lines)
@@ -251,7 +252,8 @@ fn table_at(document: &Table, entry: Option<usize>) -> Option<&Table>
 
 /// Item number `entry` of `items`, counted from 1, if this item is a table.
 fn entry_of(items: &[Value], entry: usize) -> Option<&Table>
-    ensures { option_map (λ table. table_view table.now) result ≡ entry_of (map view items.now) entry }
+    ensures { option_map (λ table. table_view table.now) result
+        ≡ entry_of (map view items.now) entry }
 {
     let place = entry.checked_sub(1)?;
     let item = items.get(place)?;

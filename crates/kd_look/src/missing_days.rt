@@ -7,9 +7,10 @@ ghost use Rattle.kd_look.specs.MissingDays.{known_of, model_after_for, no_day_wo
 
 use crate::file::File;
 use crate::message::groups::Message;
-use crate::texts::{CONVERTER, ENIGMA_I, M3, M4, NO_DAY};
+use crate::texts::{CONVERTER, NO_DAY};
 use kd_language::template::push_filled;
 use kd_language::{Language, Wording};
+use kd_slips::texts::{AN_ENIGMA_I, AN_M3, AN_M4};
 use kd_tables::Model;
 use std::alloc::AllocError;
 
@@ -149,9 +150,9 @@ fn model_after_for(language: Language, model: Model) -> &'static str
     ensures { result.now ≡ model_after_for language model }
 {
     match model {
-        Model::EnigmaI => language.text(ENIGMA_I),
-        Model::M3 => language.text(M3),
-        Model::M4 => language.text(M4),
+        Model::EnigmaI => language.text(AN_ENIGMA_I),
+        Model::M3 => language.text(AN_M3),
+        Model::M4 => language.text(AN_M4),
         Model::M209 => language.text(CONVERTER),
     }
 }

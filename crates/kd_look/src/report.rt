@@ -71,30 +71,30 @@ fn message_report(wording: Wording, bytes: &[u8], name: &str) -> Result<Report, 
         let answer = form_answer(bytes);
         let message = form_message(wording.alloc, bytes, &answer)?;
         let text = form_words(wording, name, bytes, &answer)?;
-        report_with_groups(text, wording.language, answer_outcome(&answer), message)
+        report_with_groups(text, wording, answer_outcome(&answer), message)
     } else {
         let answer = order_start(bytes);
         let message = order_message(wording.alloc, bytes, &answer)?;
         let text = order_words(wording, name, bytes, &answer)?;
-        report_with_groups(text, wording.language, answer_outcome(&answer), message)
+        report_with_groups(text, wording, answer_outcome(&answer), message)
     }
 }
 
 /// Makes the report on an order or a form: `text`, and the lines about the groups of `message`.
 fn report_with_groups(
     text: String,
-    language: Language,
+    wording: Wording,
     outcome: Outcome,
     message: Option<Message>,
 ) -> Result<Report, AllocError>
     ensures report { IfOk result (λ made.
-        string_bytes made.text ≡ string_bytes text ++ group_lines language message) }
+        string_bytes made.text ≡ string_bytes text ++ group_lines wording.language message) }
     ensures found { IfOk result (λ made. made.outcome ≡ outcome) }
     ensures file { IfOk result (λ made. made.file ≡ None) }
     ensures message { IfOk result (λ made. made.message ≡ message) }
 {
     let mut text = text;
-    push_groups(&mut text, language, &message)?;
+    push_groups(&mut text, wording, &message)?;
     Ok(Report {
         text,
         outcome,

@@ -1,5 +1,5 @@
 //! A key sheet in words: lines for the days of each model, and lines for the days without groups.
-ghost use Rattle.std.specs.Prelude.{codes, ◌≡◌, ◌<◌, ◌++◌, true, false, OnOk, flat_map};
+ghost use Rattle.std.specs.Prelude.{◌≡◌, ◌<◌, ◌++◌, true, false, OnOk, flat_map};
 ghost use Rattle.std.specs.String.{string_bytes};
 ghost use Rattle.kd_look.specs.SheetWords.{lacks_groups, has_day, day_words, numbered_day_words, sort_words};
 ghost use Rattle.kd_look.specs.SheetWords.{model_words, sheet_words};

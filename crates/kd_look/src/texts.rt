@@ -55,12 +55,6 @@ pub const LAST_DAY: Text = (" to ", " bis ");
 /// The title of the lines for days without groups.
 pub const WITHOUT_GROUPS: Text = ("without groups", "ohne Kenngruppen");
 
-/// The words before the number of a fault's line.
-pub const LINE: Text = (", line ", ", Zeile ");
-
-/// The words between a file's name and a warning.
-pub const WARNING: Text = (": warning: ", ": Warnung: ");
-
 /// The rest of the line that warns of a byte order mark. The file's name stands before it.
 pub const MARK: Text = (
     ": warning: the file begins with a byte order mark, which the desk passes over\n",
@@ -83,14 +77,8 @@ pub const NO_DAY: Text = (
     "~: Warnung: ~ hat keinen Tag für ~\n",
 );
 
-/// Models after the word `for`. In German, they are in the accusative. The last text is for the two models whose
-/// messages look alike.
-pub const ENIGMA_I: Text = ("an Enigma I", "eine Enigma I");
-
-pub const M3: Text = ("an M3", "eine M3");
-
-pub const M4: Text = ("an M4", "eine M4");
-
+/// Models after the word `for`. In German, they are in the accusative. Models whose accusative is their nominative have
+/// their texts in `kd_slips`. The second text is for the two models whose messages look alike.
 pub const CONVERTER: Text = ("a Converter M-209", "einen Converter M-209");
 
 pub const ENIGMA_I_OR_M3: Text = ("an Enigma I or an M3", "eine Enigma I oder eine M3");
@@ -112,28 +100,21 @@ pub const PARTS: Text = ("parts: ", "Teile: ");
 
 pub const LETTERS: Text = ("letters of text: ", "Buchstaben des Textes: ");
 
-/// The words of the line about a part's group: before the part's number, and before the group.
-pub const PART: Text = ("part ", "Teil ");
+/// The line about a part's group. The values are the part's number and the group.
+pub const GROUP: Text = ("part ~: group ~\n", "Teil ~: Kenngruppe ~\n");
 
-pub const GROUP: Text = (": group ", ": Kenngruppe ");
+/// The line that names a day with a part's group. The values are the name of the message's file, the part's number, the
+/// group, the day's number, and the name of the sheet's file.
+pub const GROUP_DAY: Text = (
+    "~: part ~: group ~ is of day ~ in ~\n",
+    "~: Teil ~: Kenngruppe ~ gehört zu Tag ~ in ~\n",
+);
 
-/// The words of the line that names a day with a part's group. They stand before the part's number, the day's number
-/// and the sheet's name. `GROUP` stands before the group.
-pub const OF_PART: Text = (": part ", ": Teil ");
-
-pub const OF_DAY: Text = (" is of day ", " gehört zu Tag ");
-
-pub const IN_SHEET: Text = (" in ", " in ");
-
-/// The words of the warning that no day has a part's group. They stand before the part's number, the sheet's name and
-/// the group.
-pub const PART_WARNING: Text = (": warning: part ", ": Warnung: Teil ");
-
-pub const NO_DAY_IN: Text = (": no day for such a machine in ", ": in ");
-
-pub const HAS_GROUP: Text = (
-    " has the group ",
-    " hat kein Tag für eine solche Maschine die Kenngruppe ",
+/// The warning that no day has a part's group. The values are the name of the message's file, the part's number, the
+/// name of the sheet's file, and the group.
+pub const NO_GROUP: Text = (
+    "~: warning: part ~: no day for such a machine in ~ has the group ~\n",
+    "~: Warnung: Teil ~: in ~ hat kein Tag für eine solche Maschine die Kenngruppe ~\n",
 );
 
 /// What is wrong with an order or a form. The names are those of `Reason`.

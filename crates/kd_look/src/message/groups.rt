@@ -11,10 +11,12 @@ use super::fault::MessageFault;
 use super::form::heading_follows;
 use super::form_heading::FormHeading;
 use super::order_head::{KeyLine, key_line_of};
-use crate::texts::{GROUP, PART};
-use crate::values::push_letters;
-use kd_findings::{place_after, push_titled};
-use kd_language::Language;
+use crate::texts::GROUP;
+use crate::values::group_text;
+use itoa::Buffer;
+use kd_findings::place_after;
+use kd_language::Wording;
+use kd_language::template::push_filled;
 use kd_tables::Letter;
 use std::alloc::{AllocError, Global};
 use std::marker::Model;
@@ -245,14 +247,14 @@ fn nth_letter(text: &[u8], number: usize) -> Option<Letter>
 /// Appends a line about each group of `message`.
 pub fn push_groups(
     words: &mut String,
-    language: Language,
+    wording: Wording,
     message: &Option<Message>,
 ) -> Result<(), AllocError>
     ensures { OnOk result (string_bytes words.new
-        ≡ string_bytes words.old ++ group_lines language message.now) }
+        ≡ string_bytes words.old ++ group_lines wording.language message.now) }
 {
     match message {
-        Some(message) => push_numbered(words, language, 1, message.groups()),
+        Some(message) => push_numbered(words, wording, 1, message.groups()),
         None => Ok(()),
     }
 }
@@ -261,36 +263,39 @@ pub fn push_groups(
 #[tactic(auto, using(std::proofs::Common::append_assoc))]
 fn push_numbered(
     words: &mut String,
-    language: Language,
+    wording: Wording,
     part: usize,
     groups: &[[Letter; 3]],
 ) -> Result<(), AllocError>
     requires { part + length groups.now < 2 ^ 64 }
     ensures { OnOk result (string_bytes words.new
-        ≡ string_bytes words.old ++ numbered_lines language part groups.now) }
+        ≡ string_bytes words.old ++ numbered_lines wording.language part groups.now) }
 {
     match groups {
         [group, rest @ ..] => {
-            push_group_line(words, language, part, *group)?;
-            push_numbered(words, language, part + 1, rest)
+            push_group_line(words, wording, part, *group)?;
+            push_numbered(words, wording, part + 1, rest)
         }
         [] => Ok(()),
     }
 }
 
 /// Appends the line about the group of part `part`.
-#[tactic(auto, using(std::proofs::Common::append_assoc), unfolding(crate::specs::Groups::group_line))]
+#[tactic(auto, unfolding(crate::specs::Groups::group_line))]
 fn push_group_line(
     words: &mut String,
-    language: Language,
+    wording: Wording,
     part: usize,
     group: [Letter; 3],
 ) -> Result<(), AllocError>
-    ensures { OnOk result
-        (string_bytes words.new ≡ string_bytes words.old ++ group_line language part group) }
+    ensures { OnOk result (string_bytes words.new
+        ≡ string_bytes words.old ++ group_line wording.language part group) }
 {
-    push_titled(words, language.text(PART), part)?;
-    words.push_str(language.text(GROUP))?;
-    push_letters(words, &group)?;
-    words.push_str("\n")
+    let group = group_text(wording.alloc, group)?;
+    let mut part_text = Buffer::new();
+    push_filled(
+        words,
+        wording.language.text(GROUP),
+        &[part_text.format(part), group.as_str()],
+    )
 }

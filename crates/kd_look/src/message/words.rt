@@ -9,10 +9,11 @@ use super::fault::MessageFault;
 use super::form_heading::FormHeading;
 use super::order::{keys_given, letter_count};
 use super::order_head::{KeyLine, key_line_of};
-use crate::texts::{CONVERTER, ENIGMA_I_OR_M3, FORM, LETTERS, M4, ORDER, PARTS};
+use crate::texts::{CONVERTER, ENIGMA_I_OR_M3, FORM, LETTERS, ORDER, PARTS};
 use kd_findings::{push_place, push_titled};
 use kd_language::template::push_filled;
 use kd_language::{Language, Wording};
+use kd_slips::texts::AN_M4;
 use std::alloc::AllocError;
 
 /// Whether a file with the bytes `text` is an order or a form: it begins with `PART `.
@@ -110,6 +111,8 @@ fn push_form(
 }
 
 /// Appends `template` with the file's name, and with the machine that the message is for.
+///
+/// A function of its own, because the borrow checker refuses an array of an argument and a `'static` text.
 fn push_kind(
     words: &mut String,
     template: &str,
@@ -139,7 +142,7 @@ fn machine_name(language: Language, form: KeyLine) -> &'static str
 {
     match form {
         KeyLine::ThreeSlots => language.text(ENIGMA_I_OR_M3),
-        KeyLine::FourSlots => language.text(M4),
+        KeyLine::FourSlots => language.text(AN_M4),
         KeyLine::Converter => language.text(CONVERTER),
     }
 }
