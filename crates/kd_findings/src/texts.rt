@@ -35,7 +35,7 @@ pub const CABLE_ORDER: Text = (
     "desk schreibt die Schnur `~` als `~`\n",
 );
 
-/// The words for a refused value, if no check has words that explain the refusal.
+/// The words for a refused value, if no check explains the refusal.
 pub const REFUSED: Text = ("the desk refuses the value", "desk lehnt den Wert ab");
 
 /// A value has the wrong type: this text, and the next text. The value is the type, in words.

@@ -236,7 +236,8 @@ pub const LETTER_AT_BOTH_ENDS: Text = (
     "der Buchstabe ~ ist an beiden Enden von ~",
 );
 
-/// A letter is in two pairs. The values are the letter, and the two pairs as they stand in the file.
+/// A letter is in two pairs or cables. The values are the letter, and the two pairs or cables as they stand in the
+/// file.
 pub const LETTER_TWICE: Text = (
     "the letter ~ is in ~ and in ~",
     "der Buchstabe ~ ist in ~ und in ~",
