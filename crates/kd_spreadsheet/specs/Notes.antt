@@ -209,8 +209,8 @@ table_fault (Err (Unwritten fault)) = Some fault
 
 -- The notes on `table`, in language `l`. The argument before the last says why no key sheet is made from the table.
 -- - `None`: the table means days, and the note on such a table was written.
--- - `Refused`: the notes on a refused table were written.
--- - `NoMemory`: memory ran out, and notes may be missing.
+-- - `Refused`: the notes on a refused table were written. The words after a place may be in any language.
+-- - `NoMemory`: memory ran out, and notes may be missing. The notes may be in any language.
 abbrev pub HasNotesOn : Language → OptionTexts → List ℕ → Option SpreadsheetFault → Port → Type 0
 HasNotesOn l options table None notes = TellsTaken l options table notes
 HasNotesOn l options table (Some faults.Refused) notes = TellsRefused l options table notes
