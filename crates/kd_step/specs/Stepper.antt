@@ -9,7 +9,7 @@ use Rattle.std.specs.Option.{option_map_or}
 use Rattle.kd_tables.specs.Tables.{is_notch}
 use Rattle.kd_tables.specs.declared.wheel.Wheel.{Wheel}
 
--- A stepper as contracts see it: its wheels and the letters in their windows, both in order from the left.
+-- A stepper as contracts describe it: its wheels, and the letters in their windows. Both lists begin at the left.
 pub record Stepping : Type 0 where
   pub wheels : List Wheel
   pub window : List ℕ
@@ -18,13 +18,13 @@ pub record Stepping : Type 0 where
 abbrev pub next_letter : ℕ → ℕ
 next_letter letter = (letter + 1) % 26
 
--- whether the wheel at `from_right` is at one of its notches; 0 is the right wheel, and 1 is the middle wheel
+-- whether wheel `from_right` is at one of its notches; 0 is the right wheel, and 1 is the middle wheel
 abbrev pub stands_at_notch : List Wheel → List ℕ → ℕ → Bool
 stands_at_notch wheels window from_right =
     let index = length window - (from_right + 1) in
     option_map_or (λ wheel. is_notch wheel (slice_index window index)) (slice_get wheels index) false
 
--- `window`, with each of its last `count` letters moved on by one place in the alphabet, with A after Z
+-- `window`, after each of its last `count` letters has become the next letter: A becomes B, and Z becomes A
 abbrev pub with_last_moved : ℕ → List ℕ → List ℕ
 with_last_moved count window = take (length window - count) window
     ++ map next_letter (drop (length window - count) window)
@@ -42,8 +42,7 @@ pub record IsStep (wheels : List Wheel) (before after : List ℕ) : Type 0 where
 -- ---- Several steps: as a chain of steps, and as a function, which the ciphers need.
 -- Code: `Stepper` overwrites the letters of its window at each step.
 
--- `n` steps lead from the window `first` to the window `last`. There is a chain of `n + 1` windows from `first` to
--- `last`. One step leads from each window of the chain to the next.
+-- `n` steps, one after another, change the window from `first` to `last`.
 abbrev pub LeadsInSteps : List Wheel → List ℕ → ℕ → List ℕ → Type 0
 LeadsInSteps wheels first zero last = last ≡ first
 LeadsInSteps wheels first (suc n) last =

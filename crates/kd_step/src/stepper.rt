@@ -82,7 +82,7 @@ impl<const S: usize> Stepper<S> {
     }
 }
 
-/// Moves each of the last `count` letters on by one place in the alphabet, with A after Z.
+/// Moves each of the last `count` letters on to the next letter: A becomes B, and Z becomes A.
 fn move_last(window: &mut [Letter], count: usize)
     requires { count ≤ length window.old }
     ensures { window.new ≡ with_last_moved count window.old }
@@ -91,7 +91,7 @@ fn move_last(window: &mut [Letter], count: usize)
     advance(&mut window[first..]);
 }
 
-/// Moves each letter on by one place in the alphabet, with A after Z.
+/// Moves each letter on to the next letter: A becomes B, and Z becomes A.
 fn advance(letters: &mut [Letter])
     ensures { letters.new ≡ map next_letter letters.old }
 {
