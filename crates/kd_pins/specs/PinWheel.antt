@@ -20,7 +20,7 @@ pub record IsWheel (size : ℕ) (wheel : TurnedWheel) : Type 0 where
   pub offset : wheel.offset < size
   pub place : wheel.place < size
 
--- the place that is `by` places after `place` on a wheel of `size` places
+-- the place `by` places after `place`, on a wheel of `size` places; place 0 follows the last place
 abbrev pub place_past : ℕ → ℕ → ℕ → ℕ
 place_past size place by = (place + by) % size
 
@@ -46,7 +46,8 @@ wheel_showing wheel letter = wheel_at_place wheel (unwrap_or (place_on wheel.rin
 
 -- ---- What the code keeps. No public contract cites these definitions.
 
--- the place of the shown letter if the acting pin is at place `acting`: `offset` places back, counted around the wheel
+-- the place of the shown letter while the acting pin is at place `acting`: `offset` places before `acting`. The last
+-- place comes before place 0.
 abbrev pub shown_place_at_acting : ℕ → ℕ → ℕ → ℕ
 shown_place_at_acting size acting offset = place_past size acting (size - offset)
 

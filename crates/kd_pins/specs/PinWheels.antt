@@ -9,7 +9,7 @@ use Rattle.kd_pins.specs.declared.pin_set.PinSet.{PinSet}
 abbrev pub pin_wheels : List ℕ
 pin_wheels = range_with_len 1 6
 
--- how many places a wheel's acting pin is past the letter that the wheel shows
+-- how many places a wheel's acting pin is past the shown letter: 15 places on wheel 1, and 10 on wheel 6
 abbrev pub acting_offset : ℕ → ℕ
 acting_offset wheel = slice_index (15 ∷ 14 ∷ 13 ∷ 12 ∷ 11 ∷ 10 ∷ []) (wheel - 1)
 

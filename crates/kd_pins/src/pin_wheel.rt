@@ -160,7 +160,7 @@ impl<const N: usize> PinWheel<N> {
     }
 }
 
-/// The place after `place` on a wheel of `size` places, with place 0 after the last place.
+/// The next place after `place` on a wheel of `size` places. Place 0 follows the last place.
 ///
 /// The code compares instead of dividing, because a division would slow each key press.
 fn next_place(place: usize, size: usize) -> usize
