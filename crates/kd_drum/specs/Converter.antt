@@ -13,8 +13,8 @@ use Rattle.kd_pins.specs.PinWheel.{is_effective}
 use Rattle.kd_pins.specs.PinWheels.{pin_wheels, pins_on, acting_offset}
 
 -- A key of the Converter. `pins`: which pins of its six wheels are effective. `letters`: the letters that the wheels
--- show. `bars`: for each bar, the number of the wheel at each of its two lugs, in either order; 0 for a lug that is at
--- no wheel.
+-- show. `bars`: for each bar, the numbers of the wheels at its two lugs, in either order. A lug at no wheel has the
+-- number 0.
 pub record PinKey : Type 0 where
   pub pins : List (List Bool)
   pub letters : List ℕ
@@ -29,13 +29,13 @@ abbrev pub IsEachOnItsWheel : List ℕ → Type 0
 IsEachOnItsWheel letters = (wheel : ℕ) → 1 ≤ wheel → wheel ≤ 6
     → Contains (ring_of wheel) (slice_index letters (wheel - 1))
 
--- The place on pin wheel `wheel` of the wheel's letter, counted from 0. `letters` has each wheel's
--- letter, from wheel 1 on. The place is 0 if the wheel lacks the letter.
+-- At which place of wheel `wheel` its shown letter is, counted from 0. `letters` are the letters that the six wheels
+-- show, from wheel 1 on. The result is 0 if the wheel lacks its letter.
 abbrev pub shown_place : List ℕ → ℕ → ℕ
 shown_place letters wheel = unwrap_or (place_on (ring_of wheel) (slice_index letters (wheel - 1))) 0
 
--- whether wheel `wheel` has an effective acting pin after `count` letters are enciphered; the wheels show `letters` at
--- the start
+-- whether the acting pin of wheel `wheel` is effective after `count` letters are enciphered; `letters` are the letters
+-- that the wheels show at the start
 abbrev pub is_acting_after : List (List Bool) → List ℕ → ℕ → ℕ → Bool
 is_acting_after pins letters count wheel =
     (nat_le 1 wheel && nat_le wheel 6) && is_effective (pins_on pins wheel)

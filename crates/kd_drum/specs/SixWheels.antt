@@ -21,7 +21,7 @@ pub record AreSixWheels (w1 w2 w3 w4 w5 w6 : TurnedWheel) : Type 0 where
   pub fifth : IsPinWheel 5 19 w5
   pub sixth : IsPinWheel 6 17 w6
 
--- the key of a Converter with these six wheels, whose bars have the readings `bars`
+-- the key of a Converter with these six wheels; `bars` has, for each bar, the numbers of the wheels at its two lugs
 abbrev pub converter_key : TurnedWheel → TurnedWheel → TurnedWheel → TurnedWheel → TurnedWheel → TurnedWheel
     → List (ℕ × ℕ)
     → PinKey

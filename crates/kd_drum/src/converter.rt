@@ -40,7 +40,8 @@ impl Model for Converter {
 impl Converter {
     /// Sets up a Converter with the pins `pins`, the shown letters `letters`, and the bars' readings `bars`.
     ///
-    /// Returns `NotOnWheel` if one of `letters` isn't on its wheel.
+    /// A bar's reading has the numbers of the wheels at the bar's two lugs. Returns `NotOnWheel` if one of `letters`
+    /// isn't on its wheel.
     pub fn new(
         pins: PinSet,
         letters: [Letter; 6],
@@ -148,7 +149,8 @@ impl Converter {
 
     /// The set of wheels with an effective acting pin.
     ///
-    /// The set is a sum of powers of two, from 1 for wheel 1 to 32 for wheel 6.
+    /// The set is a sum: 1 for wheel 1, 2 for wheel 2, 4 for wheel 3, and so on. For example, 5 is the set of wheels 1
+    /// and 3.
     fn acting_wheels(&self) -> usize
         ensures set { result < 64 }
         ensures each { (wheel : _) → is_in_set result wheel

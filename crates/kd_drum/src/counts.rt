@@ -1,12 +1,12 @@
-//! For each set of wheels, tabulates how many bars are met if only these wheels' acting pins are effective.
+//! Makes a table: for each set of wheels, how many bars have a lug at a wheel of the set.
 ghost use Rattle.std.specs.Prelude.{◌≡◌, ◌≤◌, ◌||◌};
 ghost use Rattle.kd_drum.specs.Counts.{AreCounts, is_in_set, bars_met_by};
 
 use kd_tables::Reading;
 
-/// Counts, for each set of wheels, the bars that are met if only these wheels' acting pins are effective.
+/// Counts, for each set of wheels, the bars that have a lug at a wheel of the set.
 ///
-/// A set is a sum of powers of two, from 1 for wheel 1 to 32 for wheel 6.
+/// A set is a sum: 1 for wheel 1, 2 for wheel 2, 4 for wheel 3, and so on. For example, 5 is the set of wheels 1 and 3.
 pub(crate) fn count_bars_met(bars: &[Reading; 27]) -> [u8; 64]
     ensures { AreCounts bars.now result }
 {
