@@ -1,9 +1,9 @@
--- Rules for results: a rule says which values and which faults are right answers of a function. A `do` block joins the
+-- Rules for results: a rule says which values and which faults are right answers of a function. A `do` block has the
 -- rules of several steps, in the order of testing. If a step fails, its fault is the right answer, and the later steps
--- make no difference.
+-- don't matter.
 use Rattle.std.specs.Prelude.{◌≡◌, Result, Ok, Err}
 
--- a rule: which values, and which faults, are right answers of a function
+-- a rule: it says of each value and of each fault whether it is a right answer of a function
 abbrev pub AnswerRule : Type 0 → Type 0 → Type 1
 AnswerRule F X = Result X F → Type 0
 
@@ -14,8 +14,8 @@ pub data ThenNext {F X Y : Type 0} (First : Result X F → Type 0) (Next : X →
   HasFault : (fault : F) → First (Err fault) → answer ≡ Err fault → ThenNext First Next answer
   GoesOn : (x : X) → First (Ok x) → Next x answer → ThenNext First Next answer
 
--- The rule for two steps. The left operand is the rule for the first step. The right operand gives the rule for the
--- second step, from the value that the first step finds.
+-- The rule for two successive steps. The left operand is the rule for the first step. The right operand is a function:
+-- from the value that the first step finds, it makes the rule for the second step.
 infixl 10 ◌>>=◌
 abbrev pub ◌>>=◌ : {F X Y : Type 0} → AnswerRule F X → (X → AnswerRule F Y) → AnswerRule F Y
 says >>= next = ThenNext says next
@@ -24,21 +24,21 @@ says >>= next = ThenNext says next
 abbrev pub Yields : {F X : Type 0} → X → AnswerRule F X
 Yields x answer = answer ≡ Ok x
 
--- the rule of a search: any value for which `Holds` is true is right. If there is no such value, the fault `due` is
--- right.
+-- the rule of a search: each value for which `Holds` is true is right. If there is no such value, only the fault `due`
+-- is right.
 abbrev pub Finds : {F X : Type 0} → (X → Type 0) → F → AnswerRule F X
 Finds Holds due (Ok x) = Holds x
 Finds {X} Holds due (Err fault) = ((x : X) → ¬ (Holds x)) × (fault ≡ due)
 
--- The rule for a test: success is right if `Holds` is true, and otherwise the fault `due` is right.
+-- The rule for a test: if `Holds` is true, success is right. Otherwise, the fault `due` is right.
 abbrev pub Demands : {F : Type 0} → Type 0 → F → AnswerRule F (Unit {0})
 Demands Holds due = Finds (λ _. Holds) due
 
--- The rule for a step that always finds a value: any value for which `Holds` is true is right, and no fault is right.
+-- The rule for a step that always finds a value: each value for which `Holds` is true is right, and no fault is right.
 abbrev pub FindsAlways : {F X : Type 0} → (X → Type 0) → AnswerRule F X
 FindsAlways Holds (Ok x) = Holds x
 FindsAlways Holds (Err fault) = ⊥
 
--- At most one answer is right by the rule.
+-- By the rule, at most one answer is right: one value or one fault.
 abbrev pub HasOneAnswer : {F X : Type 0} → AnswerRule F X → Type 0
 HasOneAnswer {F} {X} rule = (answer other : Result X F) → rule answer → rule other → answer ≡ other

@@ -1,4 +1,5 @@
--- The fewest settings that give a cable the letters of a day's pair, or a bar a reading of the day.
+-- Costs: how many settings it takes, at least, to give a cable the letters of a day's pair, or to give a bar a day's
+-- reading.
 -- Code: `cable_cost` goes through the alphabet; `bar_cost` tries each standing with the reading.
 -- Test: kd_trials/src/state.rt
 use Rattle.std.specs.Prelude.{ℕ, ◌+◌, ◌-◌, nat_eq, nat_lt, min, Bool, false, not, ◌&&◌, List, [], ◌∷◌, ◌++◌, length}
@@ -30,12 +31,12 @@ one_unless same = if same then 0 else 1
 abbrev pub column_letters : Option (ℕ × ℕ) → List ℕ
 column_letters column = option_map_or (λ pair. pair.0 ∷ pair.1 ∷ []) column []
 
--- the cost of a cable and a column: the number of letters that only the cable or only the column's pair has
+-- the cost of giving a cable the pair of a column: how many letters only the cable has, plus how many only the pair has
 abbrev pub cable_cost : Option ℕ × Option ℕ → Option (ℕ × ℕ) → ℕ
 cable_cost cable column =
     count_by (λ l. exactly_one (has_letter (cable_letters cable) l) (has_letter (column_letters column) l)) alphabet
 
--- the number of a bar's lugs to move from their places in `bar` to their places in `other`
+-- how many of a bar's two lugs must be moved to change its standing from `bar` to `other`
 abbrev pub lugs_moved : Place × Place → Place × Place → ℕ
 lugs_moved bar other = one_unless (is_same_place bar.0 other.0) + one_unless (is_same_place bar.1 other.1)
 
@@ -49,8 +50,8 @@ standings_as row =
 abbrev pub bar_cost : Place × Place → ℕ × ℕ → ℕ
 bar_cost standing row = fold min 2 (map (lugs_moved standing) (standings_as row))
 
--- the standing with the reading `row` that takes the fewest moves of the lugs of `bar`. Of two equally near standings,
--- it is the first in the list `standings`.
+-- the standing with the reading `row` that takes the fewest lug moves from the standing `bar`. If two standings take
+-- equally many moves, it is the first of them in the list `standings`.
 abbrev pub nearest_standing : Place × Place → ℕ × ℕ → Option (Place × Place)
 nearest_standing bar row = find (λ other. nat_eq (lugs_moved bar other) (bar_cost bar row)) (standings_as row)
 
@@ -61,20 +62,21 @@ nearest_standing bar row = find (λ other. nat_eq (lugs_moved bar other) (bar_co
 abbrev pub columns_of : List (ℕ × ℕ) → List (Option (ℕ × ℕ))
 columns_of pairs = map Some pairs ++ replicate (13 - length pairs) None
 
--- a cost table: for each item of `rows`, a list of its costs with the items of `columns`
+-- a cost table: for each item of `rows`, the list of its costs, one for each item of `columns`
 abbrev pub costs_by : {X Y : Type 0} → (X → Y → ℕ) → List X → List Y → List (List ℕ)
 costs_by cost rows columns = map (λ row. map (cost row) columns) rows
 
--- the cost table of a machine and a day of one model: the costs of cables with columns, or of bars with rows
+-- the cost table of a machine and a day. On a rotor machine, it has the cost of each cable for each column. On a
+-- Converter, it has the cost of each bar for each row. It is empty if machine and day are of different sorts.
 abbrev pub cost_table : Parts → Day → List (List ℕ)
 cost_table = by_model [] (λ machine day. costs_by cable_cost machine.cables (columns_of day.pairs))
     (λ machine day. costs_by bar_cost machine.bars day.rows)
 
 -- ---- Loose things: all things that differ from the day, except cables and bars.
 
--- the number of loose things: things that aren't as the day says, except cables and bars. A rotor machine's loose
--- things are slots, the reflector, and rings and letters of the day's wheels. A Converter's loose things are pins, and
--- letters that its wheels show.
+-- how many things on the machine aren't as the day says; cables and bars don't count. A rotor machine's things are its
+-- slots, its reflector, and the rings and window letters of the day's wheels. A Converter's things are its pins, and
+-- the letters that its wheels show.
 abbrev pub loose_count : Parts → Day → ℕ
 loose_count = by_model 0
     (λ machine day.
@@ -88,7 +90,7 @@ loose_count = by_model 0
 
 -- ---- How the standings for a row are found. No public contract cites these definitions.
 
--- the place on a bar where pin wheel `wheel` acts; for 0, the left one of the two places without a wheel
+-- the place on a bar where pin wheel `wheel` acts; if `wheel` is 0, the left one of the two places without a wheel
 abbrev pub place_of_pin_wheel : ℕ → Place
 place_of_pin_wheel wheel = slice_index_or (ZeroLeft ∷ One ∷ Two ∷ Three ∷ Four ∷ Five ∷ Six ∷ []) wheel Six
 

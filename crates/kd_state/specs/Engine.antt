@@ -10,7 +10,7 @@ mechanism_key (ThreeWheels key) = Rotor key
 mechanism_key (FourWheels key) = Rotor key
 mechanism_key (Drum key) = Pin key
 
--- The key of `ThreeWheels` has three wheels, and the key of `FourWheels` has four.
+-- An engine `ThreeWheels` has a key with three wheels, and an engine `FourWheels` has a key with four.
 abbrev pub HasKeyWheelCount : Mechanism → Type 0
 HasKeyWheelCount (ThreeWheels key) = length key.wheels ≡ 3
 HasKeyWheelCount (FourWheels key) = length key.wheels ≡ 4

@@ -20,8 +20,8 @@ rotor_values e = record {
 abbrev pub pin_values : PinEntry → PinDay
 pin_values e = record { day = e.day; rows = e.rows; pins = e.pins; window = e.window; list = e.list }
 
--- the values of a day of any model. In each case of the definition, the first `Rotor` or `Pin` is a variant of `Entry`,
--- and the second is a variant of `Day`.
+-- the values of a day of any model. Left of `=`, `Rotor` and `Pin` are variants of `Entry`; right of `=`, they are
+-- variants of `Day`.
 abbrev pub values_of : Entry → Day
 values_of (Rotor e) = Rotor (rotor_values e)
 values_of (Pin e) = Pin (pin_values e)

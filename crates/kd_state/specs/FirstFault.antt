@@ -1,16 +1,16 @@
--- Definitions that test step by step: each step gives a value or a fault. The steps of a `do` block run in order, and
--- the first fault is the result of the block.
--- Code: `?` returns the first fault.
+-- Definitions that test step by step: each step gives a value or a fault. The steps of a `do` block run in order. The
+-- first fault is the result of the whole block.
+-- Code: the operator `?` returns the first fault.
 use Rattle.std.specs.Prelude.{Bool, Result, Ok, Err, if◌then◌else◌}
 
--- Applies the right operand, a function, to the value of the left operand. If the left operand is a fault, the result
--- is this fault.
+-- Applies the function on the right to the value on the left. If there is a fault on the left, the result is this
+-- fault.
 infixl 10 ◌>>=◌
 abbrev pub ◌>>=◌ : {A B F : Type 0} → Result A F → (A → Result B F) → Result B F
 (Ok x) >>= next = next x
 (Err fault) >>= next = Err fault
 
--- The right operand if the left operand `test` is `Ok`, otherwise the fault of `test`.
+-- If the test on the left succeeds, the result is the right operand. Otherwise, the result is the fault of the test.
 infixl 10 ◌>>◌
 abbrev pub ◌>>◌ : {B F : Type 0} → Result (Unit {0}) F → Result B F → Result B F
 test >> next = test >>= (λ _. next)

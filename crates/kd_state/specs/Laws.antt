@@ -16,7 +16,7 @@ use Rattle.kd_state.specs.EngineKey.{EngineKey, cipher, engine_key_after, key_wi
 use Rattle.kd_state.specs.TwoCiphers.{IsReady, window_of, physical_cipher, sheet_cipher}
 use Rattle.kd_state.specs.OwnKeys.{physical_key, sheet_key, IsTurnedTo}
 
--- Two wheels, or two reflectors, are `==` exactly if they are the same.
+-- The operator `==` is true for two wheels, or for two reflectors, exactly if they are the same.
 abbrev pub SamePartsAreEqual : Type 0
 SamePartsAreEqual =
     ((wheel other : Wheel) → Decides (same_wheel wheel other) (wheel ≡ other))

@@ -33,7 +33,7 @@ setting_words (LugTo bar lug place) = codes "LUG" ∷ decimal bar ∷ lug_text l
 abbrev pub setting_line : Setting → List ℕ
 setting_line x = line_of (setting_words x)
 
--- The setting's number (if any) is below 256, and the setting's letter (if any) is below 26.
+-- If the setting has a number, it is below 256. If the setting has a letter, it is below 26.
 abbrev pub IsSettingInRange : Setting → Type 0
 IsSettingInRange (Pull cable letter) = (cable < 2 ^ 8) × (letter < 26)
 IsSettingInRange (Put cable letter) = (cable < 2 ^ 8) × (letter < 26)
@@ -66,9 +66,10 @@ pub record BeginsWithAllSettings (bytes : List ℕ) (settings : List Setting) (r
   pub few : length settings ≤ 192
   pub none_more : BeginsWithNoSetting rest
 
--- Why the bytes aren't the text of a list. `BadLine` has the number of the first line that has no LF or isn't the line
--- of a setting. Lines are counted from 1. At most 192 settings come before this line. `TooMany` means that the bytes
--- begin with the lines of 193 settings.
+-- Why the bytes aren't the text of a list of settings:
+-- - `BadLine`: a line has no LF, or isn't the line of a setting. The fault has the number of the first such line,
+-- counted from 1. At most 192 settings come before it.
+-- - `TooMany`: the bytes begin with the lines of 193 settings.
 abbrev pub IsListFault : List ℕ → ListFault → Type 0
 IsListFault bytes (BadLine line) =
     (settings : List Setting) × (rest : List ℕ)

@@ -92,7 +92,7 @@ cable_in_order (Some letter) (Some other) =
     if nat_le letter other then (Some letter, Some other) else (Some other, Some letter)
 cable_in_order one other = (option_or one other, None)
 
--- the machine, with each cable's letters in alphabetical order; the two ends of a cable work alike
+-- the machine, with each cable's letters put in alphabetical order; it doesn't matter which letter is at which end
 abbrev pub with_cables_in_order : Parts → Parts
 with_cables_in_order (Rotor machine) =
     Rotor (record machine { cables = map (λ cable. cable_in_order cable.0 cable.1) machine.cables })

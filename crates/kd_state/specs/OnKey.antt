@@ -25,8 +25,8 @@ abbrev pub cables_of : List (ℕ × ℕ) → List (Option ℕ × Option ℕ)
 cables_of pairs =
     map (λ pair. cable_in_order (Some pair.0) (Some pair.1)) pairs ++ replicate (13 - length pairs) (None, None)
 
--- The machine has the day's model, the day's reflector, the day's wheels with their rings, and the day's cables in any
--- order.
+-- The machine has the day's model and the day's reflector. It has the day's wheels with their rings in its slots, and
+-- the day's cables in any order.
 pub record IsRotorOnKey (machine : RotorParts) (day : RotorDay) : Type 0 where
   pub model : machine.model ≡ day.model
   pub slots : machine.slots ≡ seats_of_wheels day.wheels
@@ -34,8 +34,8 @@ pub record IsRotorOnKey (machine : RotorParts) (day : RotorDay) : Type 0 where
   pub reflector : machine.reflector ≡ day.reflector
   pub cables : IsPermutation machine.cables (cables_of day.pairs)
 
--- The machine is set as the day says, whatever letters it shows. On a Converter, the bars have the day's readings, in
--- any order.
+-- The machine is set as the day says, whatever letters it shows. A Converter has the day's pins, and its bars have the
+-- day's readings, in any order.
 abbrev pub OnKey : Parts → Day → Type 0
 OnKey = by_model ⊥ IsRotorOnKey
     (λ machine day. (machine.pins ≡ day.pins) × IsPermutation (map reading_of machine.bars) day.rows)

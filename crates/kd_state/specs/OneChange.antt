@@ -17,14 +17,15 @@ use Rattle.kd_state.specs.{SameParts.{place_in_box, numbered_item}, Pins.{pin_se
 use Rattle.kd_state.specs.Machine.{IsMachine, cable_letters, letters_in_cables}
 use Rattle.kd_state.specs.Setting.{Carries, has_loose_end, with_lug, cable_without, cable_with, seat_without}
 
--- The list `after` is the list `before` with `value` as item `number`, counted from 1.
+-- The list `after` is the list `before`, except that item `number` is now `value`. Items are counted from 1.
 pub record IsItemChanged {X : Type 0} (before : List X) (number : ℕ) (value : X) (after : List X) : Type 0 where
   pub size : length after ≡ length before
   pub item : numbered_item after number ≡ Some value
   pub others : (other : ℕ) → other ≢ number → numbered_item after other ≡ numbered_item before other
 
--- The machine has no reason to refuse the setting. `after` is this machine with one item of one part changed. Nothing
--- else changes, not even the rings and letters of wheels in the box. But `Seat` also empties the wheel's old slot.
+-- The machine has no reason to refuse the setting, and becomes `after`. One item changes, such as a cable or a ring.
+-- Nothing else changes, not even the rings and letters of wheels in the box. But `Seat` also empties the wheel's old
+-- slot.
 abbrev pub MakesOneChange : Parts → Setting → Parts → Type 0
 MakesOneChange (Rotor m) (Pull cable letter) after =
     (held : Option ℕ × Option ℕ) × (numbered_item m.cables cable ≡ Some held) × Contains (cable_letters held) letter

@@ -8,8 +8,7 @@ use Rattle.kd_state.specs.declared.machine.one_model.OneModel.TheVariants.{Rotor
 use Rattle.kd_state.specs.SheetDay.{Day, Rotor, Pin}
 use Rattle.kd_state.specs.Entry.{rotor_values, pin_values}
 
--- The `OneModel` has the parts of the machine and the values of the day. Machine and day are of the same rotor model,
--- or both are of the Converter M-209.
+-- Machine and day are of the same model. The `OneModel` has the parts of the machine and the values of the day.
 abbrev pub IsOneModelOf : Parts → Day → OneModel → Type 0
 IsOneModelOf machine day (Rotor m_parts entry) =
     (machine ≡ parts.Rotor m_parts.now) × (day ≡ Rotor (rotor_values entry.now))

@@ -11,8 +11,8 @@ use Rattle.kd_state.specs.SeatedWheels.{key_of_wheels}
 use Rattle.kd_state.specs.SheetDay.{Day, Rotor, Pin}
 use Rattle.kd_state.specs.TwoCiphers.{key_of_rotor_parts, key_of_pin_day, window_of}
 
--- the key to which a machine is set. In each case of the definition, the first `Rotor` or `Pin` is a variant of
--- `Parts`, and the second is a variant of `EngineKey`.
+-- the key to which a machine is set. Left of `=`, `Rotor` and `Pin` are variants of `Parts`; right of `=`, they are
+-- variants of `EngineKey`.
 abbrev pub physical_key : Parts → EngineKey
 physical_key (Rotor machine) = Rotor (key_of_rotor_parts machine)
 physical_key (Pin machine) = Pin (record {
@@ -26,8 +26,8 @@ abbrev pub sheet_key : Day → EngineKey
 sheet_key (Rotor day) = Rotor (key_of_wheels day.wheels day.reflector (exchange day.pairs))
 sheet_key (Pin day) = Pin (key_of_pin_day day)
 
--- Machine `turned` is machine `machine`, turned until it shows the letters `window`. The window letters of wheels in
--- the box may differ.
+-- Machine `turned` is machine `machine`, turned until it shows the letters `window`. Wheels in the box may have other
+-- window letters than before.
 abbrev pub IsTurnedTo : Parts → List ℕ → Parts → Type 0
 IsTurnedTo (Rotor machine) window (Rotor turned) =
     (turned ≡ record machine { letters = turned.letters }) × (window_of (Rotor turned) ≡ window)

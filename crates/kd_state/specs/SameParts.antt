@@ -1,5 +1,6 @@
--- How definitions compare wheels and reflectors, and find items of lists by number. The derived `==` compares two
--- wheels or two reflectors. It is true exactly if the two are equal (law `SamePartsAreEqual` in `Laws.antt`).
+-- How definitions compare wheels and reflectors, and find items of lists by number. The derived operator `==` compares
+-- two wheels, or two reflectors. It is true exactly if they are the same, by the law `SamePartsAreEqual` in
+-- `Laws.antt`.
 -- Code: a wheel's place in the box is found by a search.
 use Rattle.std.specs.Prelude.{ℕ, zero, suc, Bool, List, slice_get, Option, None}
 use Rattle.std.specs.List.{position_or_len}

@@ -46,7 +46,8 @@ cable_without letter cable = if option_map_or (nat_eq letter) cable.0 false then
 abbrev pub cable_with : ℕ → Option ℕ × Option ℕ → Option ℕ × Option ℕ
 cable_with letter cable = cable_in_order (option_or cable.0 cable.1) (Some letter)
 
--- the content of a slot after `wheel` is taken out: nothing if the old content `seated` is `wheel`, otherwise `seated`
+-- the content of a slot after `wheel` is taken out. A slot that held `wheel` is empty; any other slot keeps its
+-- content, `seated`.
 abbrev pub seat_without : Wheel → Option Wheel → Option Wheel
 seat_without wheel seated = if option_map_or (same_wheel wheel) seated false then None else seated
 
@@ -56,8 +57,8 @@ seat_without wheel seated = if option_map_or (same_wheel wheel) seated false the
 -- Test: tests/cases/desk-lists.toml
 
 -- The machine after the setting, or the first reason to refuse the setting. The lines below are in the order of
--- testing. `Seat` empties the wheel's old slot. A wheel that was in the new slot is then in no slot. Both wheels keep
--- their rings and window letters.
+-- testing. `Seat` empties the wheel's old slot. Another wheel that was in the new slot is then in no slot. Both wheels
+-- keep their rings and window letters.
 abbrev pub outcome : Parts → Setting → Result Parts Why
 outcome (Rotor machine) (Pull cable letter) = do
   held ← ok_or (numbered_item machine.cables cable) NoSuchCable
@@ -128,8 +129,8 @@ pub record IsFirstIllegal (machine : Parts) (settings : List Setting) (line : �
 
 -- ---- What `carry` answers for machines of one sort. No public contract cites this definition.
 
--- Either `answer` is success, and `machine` carries `setting` out and becomes `after`. Or `answer`
--- is the first reason to refuse `setting`, and `after` is the unchanged `machine`.
+-- If `answer` is success, `machine` carries `setting` out and becomes `after`. Otherwise, `answer` is the first reason
+-- to refuse `setting`, and `after` is the unchanged `machine`.
 abbrev pub IsCarryAnswer : Parts → Setting → Parts → Result ⊤ Why → Type 0
 IsCarryAnswer machine setting after answer =
     MatchResult answer (λ _. Carries machine setting after) (λ why. Refuses machine setting why × (after ≡ machine))

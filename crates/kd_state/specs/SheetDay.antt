@@ -73,7 +73,7 @@ pub record HasWheelLetters (wheel : SheetWheel) : Type 0 where
   pub ring : wheel.ring < 26
   pub letter : wheel.letter < 26
 
--- the contents of slots that hold these wheels: only the wheels, without their rings and letters
+-- the contents of slots that hold these wheels; rings and window letters are left out
 abbrev pub seats_of_wheels : List SheetWheel → List (Option Wheel)
 seats_of_wheels wheels = map (λ w. Some w.wheel) wheels
 

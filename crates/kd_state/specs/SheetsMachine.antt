@@ -6,7 +6,7 @@ use Rattle.kd_state.specs.OnKey.{ReadsAs}
 use Rattle.kd_state.specs.SheetDay.{Day}
 use Rattle.kd_state.specs.TwoCiphers.{IsReady, physical_cipher, sheet_cipher}
 
--- The machine is ready and set as the day says, shows the day's letters, and enciphers as the day asks.
+-- The machine is set as the day says, and shows the day's letters. It is ready, and enciphers as the day asks.
 pub record IsSheetsMachine (after : Parts) (day : Day) : Type 0 where
   pub machine : IsMachine after
   pub reads : ReadsAs after day

@@ -1,4 +1,4 @@
-//! Costs: the fewest settings that give a cable a day's pair of letters, or a bar a day's reading.
+//! Costs: how many settings it takes, at least, to give a cable a day's pair, or to give a bar a day's reading.
 
 pub(crate) mod tables;
 
@@ -47,9 +47,9 @@ pub fn bar_cost(standing: Standing, row: Reading) -> u8
     lugs_moved(standing, nearest_standing(standing, row))
 }
 
-/// The standing that reads as `row` and is reached from `standing` by moving the fewest lugs.
+/// The standing that reads as `row` and takes the fewest lug moves from `standing`.
 ///
-/// If two standings need equally many moves, the result is the first in the order of standings.
+/// If two standings take equally many moves, the result is the first in the order of standings.
 #[tactic(auto, using(crate::proofs::Prelude::nat_tests))]
 pub fn nearest_standing(standing: Standing, row: Reading) -> Standing
     ensures nearest { costs.nearest_standing standing row ≡ Some result }

@@ -8,7 +8,7 @@ ghost use Rattle.kd_state.specs.Laws.{MachinesCanBeTurned, EquallySetDecipher, D
 ghost use Rattle.kd_state.specs.Laws.{CipherOfChunks, KeyAfterChunks};
 ghost use Rattle.kd_state.specs.{Laws.{LeadsOrRefuses}, OneChange.{SettingsChangeOneThing}};
 
-/// Two wheels, or two reflectors, are `==` exactly if they are the same.
+/// The operator `==` is true for two wheels, or for two reflectors, exactly if they are the same.
 pub fn same_parts_are_equal()
     ensures { SamePartsAreEqual }
 {}
@@ -32,8 +32,8 @@ pub fn settings_keep_machines()
 
 /// A machine carries a setting out exactly if it has no reason to refuse the setting. Then only one thing changes.
 ///
-/// Nothing else changes, not even the rings and letters of wheels in the box. But `Setting::Seat` also empties the
-/// wheel's old slot.
+/// Nothing else changes, not even the rings and letters of wheels in the box. The exception is `Setting::Seat`, which
+/// also empties the wheel's old slot.
 #[tactic(auto, using(crate::proofs::OneChange::settings_change_one_thing))]
 pub fn settings_change_one_thing()
     ensures { SettingsChangeOneThing }
@@ -73,7 +73,7 @@ pub fn on_key_enciphers_by_days_key()
     ensures cipher { OnKeyEnciphersByDaysKey }
 {}
 
-/// If a machine is turned to other letters, the rest of its key stays the same.
+/// If a machine is turned to other letters, only the letters in its key change.
 ///
 /// A machine on the day's key stays on the key when it is turned. It then enciphers by the day's key, starting from the
 /// letters that it shows.

@@ -1,4 +1,4 @@
-//! The cost tables: the costs of giving cables a day's pairs, and bars a day's readings.
+//! The cost tables: the cost of each cable for each of a day's pairs, and of each bar for each of a day's readings.
 ghost use Rattle.std.specs.Prelude.{◌≡◌, ◌≤◌, None, length, map, slice_index_or};
 ghost use Rattle.kd_state.specs.Costs as costs;
 ghost use Rattle.kd_state.specs.Costs.{columns_of};

@@ -35,7 +35,7 @@ impl<T> Model for PerSlot<T> {
 }
 
 impl<T: Copy> PerSlot<T> {
-    /// Wraps `values`; `None` if there aren't three or four values.
+    /// Creates a `PerSlot` with these values. `None` if there aren't three or four values.
     pub fn new(values: &[T]) -> Option<Self>
         ensures exists { IsSome result ↔ ((length values.now ≡ 3) ⊎ (length values.now ≡ 4)) }
         ensures value { IfSome result (λ slots. slots ≡ values.now) }

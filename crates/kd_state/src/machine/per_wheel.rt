@@ -32,7 +32,7 @@ impl<T> Model for PerWheel<T> {
 }
 
 impl<T: Copy> PerWheel<T> {
-    /// Wraps `values`; `None` if there aren't five, eight or ten values.
+    /// Creates a `PerWheel` with these values. `None` if there aren't five, eight or ten values.
     pub fn new(values: &[T]) -> Option<Self>
         ensures exists { IsSome result
             ↔ ((length values.now ≡ 5) ⊎ (length values.now ≡ 8) ⊎ (length values.now ≡ 10)) }

@@ -20,7 +20,7 @@ pub(crate) fn place_in_box(model: Model, wheel: Wheel) -> Option<usize>
     None
 }
 
-/// Whether `slots` has the model's number of slots, only wheels allowed in their slots, and no wheel twice.
+/// Whether `slots` are legal: as many as the model has, each wheel allowed in its slot, and no wheel twice.
 pub(crate) fn are_legal_seats(model: Model, slots: &PerSlot<Option<Wheel>>) -> bool
     ensures { IsTrue result ↔ AreLegalSeats model slots.now }
 {
@@ -68,7 +68,7 @@ fn are_seated_once(slots: &[Option<Wheel>]) -> bool
     true
 }
 
-/// Whether no slot other than the slot at `place` holds the wheel `seated`. True if `seated` is `None`.
+/// Whether no slot but the slot at `place` holds the wheel `seated`. True if `seated` is `None`.
 fn is_alone(slots: &[Option<Wheel>], place: usize, seated: Option<Wheel>) -> bool
     ensures { IsTrue result ↔ IfSome seated
         (λ wheel. (other : ℕ) → IsSeatedAt slots.now other wheel → other ≡ place) }
@@ -81,7 +81,9 @@ fn is_alone(slots: &[Option<Wheel>], place: usize, seated: Option<Wheel>) -> boo
     true
 }
 
-/// The content of a slot after `wheel` is taken out: nothing if the old content `seated` is `wheel`, else `seated`.
+/// The content of a slot after `wheel` is taken out.
+///
+/// A slot that held `wheel` is empty; any other slot keeps its content, `seated`.
 pub(crate) fn seat_without(seated: Option<Wheel>, wheel: Wheel) -> Option<Wheel>
     ensures { result ≡ seat_without wheel seated }
 {

@@ -16,7 +16,7 @@ pub type Settings = ArrayVec<Setting, 192>;
 /// Why bytes aren't a list of settings.
 #[derive(Clone, Copy, Debug, PartialEq, Eq, Error)]
 pub enum ListFault {
-    /// The number, counted from 1, of the first line that has no LF or isn't the line of a setting.
+    /// The number of the first line that has no LF or isn't a setting's line; lines are counted from 1.
     BadLine(usize),
     /// There are more than 192 settings.
     TooMany,
