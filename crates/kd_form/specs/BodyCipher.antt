@@ -1,5 +1,4 @@
--- How the letters of a part's body are tested and deciphered to the letters of the part's text. Parts are counted from
--- 1.
+-- How a part's body is tested, and deciphered into the letters of the part's text. Parts are counted from 1.
 use Rattle.std.specs.Prelude.{◌≡◌, ℕ, ◌-◌, List, length, take, drop, slice_index, Option, Some, None}
 use Rattle.std.specs.List.{slice_range}
 use Rattle.kd_state.specs.Machine.{AreLetters}
@@ -27,8 +26,9 @@ group_of_body letters = slice_range letters 2 5
 abbrev pub deciphered_key : Day → Indicator → List ℕ
 deciphered_key s indicator = cipher_from s indicator.ground_setting indicator.enciphered_key
 
--- The result of deciphering a rotor machine's body. The fault is `WrongGroup` if the body's group is none of the day's
--- groups. Otherwise the result is the text, deciphered with the message key in the windows.
+-- The result of deciphering a rotor machine's body. If the body's group isn't one of the day's groups, the fault is
+-- `WrongGroup`. Otherwise, the result is the text: the letters after the group, deciphered with the message key in the
+-- windows at the start.
 abbrev pub IsRotorAnswer : Day → ℕ → Indicator → List ℕ → AnswerRule FormFault (List ℕ)
 IsRotorAnswer s part indicator letters = do
   _ ← Demands (AreADaysGroup s (group_of_body letters)) (WrongGroup part)

@@ -18,8 +18,8 @@ begins_heading bytes =
 abbrev pub BeginsHeading : List ℕ → Type 0
 BeginsHeading bytes = IsTrue (begins_heading bytes)
 
--- The first part of a form, and the list of its other parts. A part ends at each LF that comes directly before a
--- heading line.
+-- The parts of a form: the first part, and the list of the others. A part ends with the LF that comes directly before
+-- the next heading line.
 abbrev pub cut_at_headings : List ℕ → List ℕ × List (List ℕ)
 cut_at_headings [] = ([], [])
 cut_at_headings (byte ∷ bytes) =
@@ -32,8 +32,9 @@ parts_of form = (cut_at_headings form).0 ∷ (cut_at_headings form).1
 
 -- ---- Which headings are valid on a day, and the first line of a part.
 
--- A body may have `count` letters. On rotor machines: two fillers, a group of three, and 1 to 245 letters of text. On
--- the Converter M-209: ten letters of indicators at each end, and 1 to 100 groups of five letters.
+-- A body may have `count` letters. On a rotor machine, a body has two fillers, a group of three letters, and 1 to 245
+-- letters of text. On the Converter M-209, it has ten indicator letters at each end, and 1 to 100 groups of five
+-- letters between them.
 abbrev pub IsLetterCount : Day → ℕ → Type 0
 IsLetterCount (Rotor s) count = (6 ≤ count) × (count ≤ 250)
 IsLetterCount (Pin s) count = (25 ≤ count) × (count ≤ 520) × (count % 5 ≡ 0)

@@ -43,15 +43,15 @@ FitsHeadingAt place byte = (place < 5 → byte ≡ slice_index (codes "PART ") p
 abbrev pub HasBegunHeading : List ℕ → Type 0
 HasBegunHeading bytes = ((count : ℕ) × (count ≤ 5) × (bytes ≡ take count (codes "PART "))) ⊎ BeginsHeading bytes
 
--- `part` is the beginning of a heading line, without LF. The bytes `held` are `part`, or the first 64 bytes of `part`
--- if it is longer.
+-- `part` is the beginning of a heading line, without LF. `held` has the first 64 bytes of `part`, or all bytes if there
+-- are fewer.
 pub record HoldsLine (held part : List ℕ) : Type 0 where
   pub kept : held ≡ take 64 part
   pub unbroken : IsWithout 10 part
   pub begins : HasBegunHeading part
 
--- `first` has the first six bytes of the last line of `body`, or all bytes of this line if it is shorter. The line
--- `line` comes directly before `body`.
+-- `body` comes directly after the line `line`. `first` has the first six bytes of the last line of `body`, or all bytes
+-- of this line if there are fewer.
 pub record HasLastLineStart (line body first : List ℕ) : Type 0 where
   pub settled : List ℕ
   pub tail : List ℕ
@@ -61,7 +61,7 @@ pub record HasLastLineStart (line body first : List ℕ) : Type 0 where
   pub unbroken : IsWithout 10 tail
   pub kept : first ≡ take 6 tail
 
--- `part` is a heading line and then `body`. The reader holds, in `b`, the heading and the first 525 letters of `body`.
+-- `part` is a heading line and then `body`. In `b`, the reader keeps the heading, and the first 525 letters of `body`.
 pub record HoldsBody (s : Day) (b : PartBody) (part body : List ℕ) : Type 0 where
   pub line : List ℕ
   pub first : IsFirstPart 10 part line body
@@ -71,14 +71,14 @@ pub record HoldsBody (s : Day) (b : PartBody) (part body : List ℕ) : Type 0 wh
   pub allowed : All (λ b. IsTrue (is_text_byte b)) body
   pub kept : b.letters.items ≡ take 525 (letters_from None body)
 
--- `b` holds the heading and the body of `part`. The heading has the part number `number` and, unless `expected` is
--- `None`, the number of parts `expected`.
+-- In `b`, the reader keeps the heading and the first letters of the body of `part`. The heading's part number is
+-- `number`. If `expected` isn't `None`, the heading says that the form has `expected` parts.
 pub record HoldsPart (s : Day) (b : PartBody) (number : ℕ) (expected : Option ℕ) (part : List ℕ) : Type 0 where
   pub body : List ℕ
   pub holds : HoldsBody s b part body
   pub due : HasDueNumbers number expected b.heading
 
--- The reader holds the beginning of a part's heading line, or the heading and the first letters of the part's body.
+-- The reader keeps either the beginning of a part's heading line, or the heading and the first letters of the body.
 abbrev pub HoldsFormStage : Day → FormStage → ℕ → Option ℕ → List ℕ → Type 0
 HoldsFormStage s (stages.Heading line) number expected part = HoldsLine line.items part × (length part < 6 → number ≡ 1)
 HoldsFormStage s (stages.Body b) number expected part = HoldsPart s b number expected part
@@ -89,8 +89,8 @@ abbrev pub IsBodyPlaintext : Day → Heading → List ℕ → List ℕ → Type 
 IsBodyPlaintext s h letters made = (text : List ℕ) × IsBodyAnswer s h.part h letters (Ok text)
     × (made ≡ plaintext_bytes s text)
 
--- The letters that `b` holds are deciphered to `output`, or refused. The last `others` letters are left out, because
--- they belong to the next heading.
+-- The result of deciphering the letters that the reader keeps in `b`: the text `output`, or a fault. The last `others`
+-- letters are left out, because they belong to the next heading line.
 abbrev pub IsDecipherAnswer : Day → PartBody → ℕ → List ℕ → Result (Unit {0}) FormFault → Type 0
 IsDecipherAnswer s b others output answer =
     (letters more : List ℕ) → length more ≡ others → b.letters.items ≡ take 525 (letters ++ more)
@@ -104,8 +104,9 @@ abbrev pub IsOpenHeading : Day → List ℕ → Option Heading → Type 0
 IsOpenHeading s part found =
     MatchOption found ((h : Heading) (body : List ℕ) → ¬ (HasHeading s part h body)) (λ h. HasHeading s part h [])
 
--- The result of testing the heading `found`: the heading or a fault. The fault is `BadHeading` if `found` is `None`. It
--- is `PartOrder` if the heading has another part number, or another number of parts, than expected.
+-- The result of testing the heading `found`: the heading, or one of two faults.
+-- - `BadHeading`: `found` is `None`.
+-- - `PartOrder`: the part number, or the number of parts, isn't the expected one.
 abbrev pub IsHeadingAnswer : ℕ → Option ℕ → Option Heading → AnswerRule FormFault Heading
 IsHeadingAnswer number expected found = do
   heading ← Finds (λ heading. found ≡ Some heading) (BadHeading number)
@@ -118,12 +119,12 @@ IsHeadingAnswer number expected found = do
 abbrev pub current_part_start : FormReader → List ℕ → PartStart
 current_part_start r front = record { number = r.number; expected = r.expected; bytes_before = length front }
 
--- No unread part is left, and the next part would start at `q`.
+-- All parts have been read, and the next part would start at `q`.
 abbrev pub IsAtPartStart : PartStart → PartsProperty
 IsAtPartStart q p parts = (p ≡ q) × (parts ≡ [])
 
--- The reader `r` has read `form`. The reader's output is `text`, the texts of all parts but the last, and the reader
--- holds the last part. Further bytes don't change the earlier parts.
+-- The reader `r` has read the bytes `form`. It keeps the last part, and has put out `text`, the texts of all parts
+-- before the last. Further bytes don't change the parts before the last.
 pub record HoldsForm (s : Day) (r : FormReader) (form text : List ℕ) : Type 0 where
   pub front : List ℕ
   pub last : List ℕ

@@ -26,12 +26,12 @@ abbrev pub next_part_start : PartStart → ℕ → List ℕ → PartStart
 next_part_start p count part = record
     { number = p.number + 1; expected = Some count; bytes_before = p.bytes_before + length part }
 
--- the type of statements about a form's unread parts and their start, such as `IsAnswerAt`
+-- a kind of statements about the parts of a form that are still unread, such as `IsAnswerAt`
 abbrev pub PartsProperty : Type 1
 PartsProperty = PartStart → List (List ℕ) → Type 0
 
--- The parts are read in order, from the start `p` on. Reading stops when the remaining parts satisfy `Holds`. `letters`
--- are the deciphered letters of the parts that were read.
+-- The first parts, from the start `p` on, were read in order and without a fault. `Holds` is true for the parts that
+-- are left. `letters` are the deciphered letters of the parts that were read.
 abbrev pub ReadsPartsTo : Day → PartsProperty → PartStart → List (List ℕ) → List ℕ → Type 0
 ReadsPartsTo s Holds p [] letters = Holds p [] × (letters ≡ [])
 ReadsPartsTo s Holds p (part ∷ parts) letters =
@@ -55,8 +55,8 @@ plaintext_bytes s letters = map (plaintext_byte (space_letter s)) letters
 abbrev pub plaintext_with_end : Day → List ℕ → List ℕ
 plaintext_with_end s letters = plaintext_bytes s letters ++ 10 ∷ []
 
--- The form's parts are read in order, until the remaining parts satisfy `Holds`. `text` is the text of the parts that
--- were read.
+-- The form's first parts were read in order and without a fault. `Holds` is true for the parts that are left. `text` is
+-- the text of the parts that were read.
 abbrev pub IsFormReadTo : Day → PartsProperty → List ℕ → List ℕ → Type 0
 IsFormReadTo s Holds form text =
     (letters : List ℕ) × ReadsPartsTo s Holds first_part_start (parts_of form) letters
@@ -65,9 +65,10 @@ IsFormReadTo s Holds form text =
 -- ---- The result of reading a form: its text, or its first fault.
 -- Test: tests/cases/desk-messages.toml, tests/refusals
 
--- All parts before `p` have been read without a fault, and `answer` is the answer for the whole form. If parts are
--- left, the answer is the fault of the next part. After the last part, the answer is success if the headings say the
--- right number of parts, otherwise `PartOrder`.
+-- `answer` is right for a whole form whose parts before `p` have no fault:
+-- - If parts are left, the first of them has a fault, and `answer` is this fault.
+-- - If no parts are left, `answer` is success if the form has as many parts as its headings say. Otherwise, it is
+-- `PartOrder`.
 abbrev pub IsAnswerAt : Day → Result (Unit {0}) FormFault → PartsProperty
 IsAnswerAt s answer p [] = (count : ℕ) × (p.expected ≡ Some count) × Demands (p.number ≡ count + 1) PartOrder answer
 IsAnswerAt s answer p (part ∷ parts) = (fault : FormFault) × IsPartAnswer s p part (Err fault) × (answer ≡ Err fault)
@@ -93,8 +94,8 @@ IsReceiveFault s form fault = IsFormAnswer s form (Err fault)
 -- ---- Which faults no further bytes can change, and what is written before a fault.
 -- Test: tests/cases/desk-messages.toml, tests/refusals
 
--- The first unread part begins at `p`, and has the fault `fault`, which no further bytes can change. If this part is
--- the form's last part, its heading line is complete. The fault is then in this line or in a byte of the body.
+-- The first unread part begins at `p`, and has the fault `fault`. No further bytes can change this. If the part is the
+-- last one so far, its heading line has ended with LF, and the fault is in this line or in a byte of the body.
 abbrev pub IsPartFaultForGood : Day → FormFault → PartsProperty
 IsPartFaultForGood s fault p [] = ⊥
 IsPartFaultForGood s fault p (part ∷ []) =
@@ -102,7 +103,8 @@ IsPartFaultForGood s fault p (part ∷ []) =
 IsPartFaultForGood s fault p (part ∷ next ∷ others) = IsPartAnswer s p part (Err fault)
 
 -- The form has the fault `fault`, which no further bytes can change. `text` is the text of the parts before the fault.
--- `NoHeading`: the form can't begin with a heading line. `AtPart`: the fault is in one of the form's parts.
+-- - `NoHeading`: whatever bytes follow, the form doesn't begin with a heading line.
+-- - `AtPart`: the fault is in one of the form's parts.
 pub data IsRefusedForGood (s : Day) (form text : List ℕ) (fault : FormFault) : Type 0 where
   NoHeading : ((more : List ℕ) → ¬ (BeginsHeading (form ++ more))) → text ≡ [] → fault ≡ BadHeading 1
       → IsRefusedForGood s form text fault
@@ -135,7 +137,7 @@ abbrev pub sent_letters : Day → List ℕ → List ℕ
 sent_letters (Rotor s) letters = letters
 sent_letters (Pin s) letters = fill_last_group letters
 
--- The text `given` is what the receiver of the order's form must get.
+-- `given` is the text that the receiver must get from the order's form.
 pub record IsPlaintextOf (s : Day) (order given : List ℕ) : Type 0 where
   pub keys : List Keys
   pub head : List ℕ

@@ -7,12 +7,13 @@ use Rattle.std.specs.Prelude.{◌≡◌, ◌++◌, Contains, ◌⊎◌, ℕ, ◌
 use Rattle.kd_tables.specs.Rings.{ring_of}
 use Rattle.kd_state.specs.Machine.{AreOnWheels}
 
--- The places of the picked letters rise strictly. Each place is at least `first` and below `end`.
+-- In the list, each place is greater than the place before it. All places are at least `first`, and below `end`.
 abbrev pub AreRising : ℕ → ℕ → List ℕ → Type 0
 AreRising first end [] = Unit {0}
 AreRising first end (place ∷ places) = (first ≤ place) × (place < end) × AreRising (place + 1) end places
 
--- In lexicographic order, the list of places comes before the list `others`, or equals `others`.
+-- The list of places equals the list `others`, or comes before it in lexicographic order. For example, the places 0 2 9
+-- come before 0 3 4.
 abbrev pub PrecedesOrEquals : List ℕ → List ℕ → Type 0
 PrecedesOrEquals [] others = Unit {0}
 PrecedesOrEquals (place ∷ places) [] = ⊥
@@ -26,9 +27,8 @@ pub record ArePicked (letters places picked : List ℕ) : Type 0 where
   pub taken : picked ≡ map (λ place. slice_index letters place) places
   pub on_wheels : AreOnWheels picked
 
--- `key` is the internal key, picked from `letters`: each wheel in turn takes the next letter that
--- is on the wheel. So the letters' six places are the lexicographically first list of places that
--- `ArePicked` allows.
+-- `key` is the internal key, picked from `letters`: from wheel 1 on, each wheel takes the next letter that is on the
+-- wheel. So the places of the six letters are the lexicographically first list of places that `ArePicked` allows.
 pub record IsInternalKey (letters key : List ℕ) : Type 0 where
   pub places : List ℕ
   pub picked : ArePicked letters places key

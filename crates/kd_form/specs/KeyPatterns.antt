@@ -1,4 +1,5 @@
--- The pattern of a line of keys, the letters that fill the pattern, and the model that a day is for.
+-- Lines of keys: their patterns, such as `PART _ ______`, and the letters in place of the `_`. Also, which model a day
+-- is for.
 use Rattle.std.specs.Prelude.{codes, ◌≡◌, ◌⊎◌, ℕ, List, [], ◌∷◌, ◌++◌, length, replicate}
 use Rattle.kd_tables.specs.LineWords.{line_of}
 use Rattle.kd_state.specs.SheetDay.{Day, RotorDay, PinDay, Rotor, Pin}
@@ -9,7 +10,7 @@ use Rattle.kd_form.specs.Order.{IsKeyLine}
 
 -- ---- What a line of keys is made of. No public contract cites these definitions.
 
--- a list of `number` bytes, which are all `_`; each `_` stands for a letter
+-- `number` bytes that are all `_`; each `_` stands for a letter
 abbrev pub blank_places : ℕ → List ℕ
 blank_places number = replicate number 95
 

@@ -18,13 +18,14 @@ pub record IsReadyOnKey (m : Parts) (s : Day) : Type 0 where
 abbrev pub IsKeyFault : Parts → Day → FormFault → Type 0
 IsKeyFault m s fault = (¬ (IsReady m) × (fault ≡ NotReady)) ⊎ (IsReady m × ¬ (OnKey m s) × (fault ≡ NotOnKey))
 
--- `fault` satisfies `is_fault`, or it is `NoMemory`. `NoMemory` is allowed only if the statement `takes_memory` holds.
+-- `fault` satisfies `is_fault`. Or it is `NoMemory`, which is possible only if the statement `takes_memory` is true.
 abbrev pub IsFaultOrNoMemory : (FormFault → Type 0) → Type 0 → FormFault → Type 0
 IsFaultOrNoMemory is_fault takes_memory fault = (takes_memory × (fault ≡ NoMemory)) ⊎ is_fault fault
 
--- The answer of a call that needs the machine `m` on the key of the day `s`. `OffKey`: the answer is `NotReady` or
--- `NotOnKey`. `WithKey`: the machine is ready and on the key. The answer is a result that satisfies `is_due`, or a
--- fault that satisfies `IsFaultOrNoMemory`.
+-- The answer of a call that needs the machine `m` on the key of the day `s`:
+-- - `OffKey`: the machine isn't ready, or isn't on the key. The answer is `NotReady` or `NotOnKey`.
+-- - `WithKey`: the machine is ready and on the key. The answer is a result that satisfies `is_due`, or a fault that
+-- satisfies `IsFaultOrNoMemory`.
 pub data IsAnswerOnKey {X : Type 0} (m : Parts) (s : Day) (is_due : X → Type 0) (is_fault : FormFault → Type 0)
     (takes_memory : Type 0) (answer : Result X FormFault) : Type 0 where
   OffKey : (fault : FormFault) → IsKeyFault m s fault → answer ≡ Err fault

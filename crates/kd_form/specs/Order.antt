@@ -39,15 +39,16 @@ pub record IsOrder (s : Day) (order : List ℕ) (keys : List Keys) (head text : 
   pub joined : order ≡ head ++ text
   pub is_head : IsOrderHead s keys head
 
--- What is wrong with `bytes`, which should satisfy `Is`. `Incomplete`: with some more bytes appended, they satisfy
--- `Is`. `Mismatch`: they don't satisfy `Is`, whatever bytes are appended.
+-- What is wrong with `bytes`, which should satisfy `Is`:
+-- - `Incomplete`: with some more bytes at the end, they satisfy `Is`.
+-- - `Mismatch`: they don't satisfy `Is`, whatever bytes follow.
 abbrev pub IsPatternFault : (List ℕ → Type 0) → List ℕ → PatternFault → Type 0
 IsPatternFault Is bytes Incomplete = (more : List ℕ) × (more ≢ []) × Is (bytes ++ more)
 IsPatternFault Is bytes Mismatch = (more : List ℕ) → ¬ (Is (bytes ++ more))
 
--- `position` is the position of the first wrong byte in the order's head, counted from 1. The bytes before `position`
--- can begin a head, but these bytes together with the wrong byte can't. If the order ends within its head, `position`
--- is one past the order's last byte.
+-- The byte at `position`, counted from 1, is the first wrong byte in the order's head. A head can begin with the bytes
+-- before this byte, but not with these bytes and this byte. If the order ends within its head, `position` is one past
+-- the order's last byte.
 pub record IsOrderHeadFault (s : Day) (order : List ℕ) (position : ℕ) : Type 0 where
   pub before : List ℕ
   pub rest : List ℕ

@@ -41,14 +41,14 @@ IsHeadStep s keys line order Bad = IsOrderHeadFault s order (length order)
 
 -- ---- The text behind the head. No public contract cites these definitions.
 
--- There are keys for at most 99 parts. All keys are for the day's model, and satisfy the rule `IsKeysAnswer`.
+-- There are keys for at most 99 parts. All keys are for the day's model, and suit the day (`IsKeysAnswer`).
 pub record AreSuitedKeys (s : Day) (keys : List Keys) : Type 0 where
   pub of_the_day : All (AreKeys s) keys
   pub suited : InTurn (IsKeysAnswer s) 1 keys (Ok tt)
   pub few : length keys ≤ 99
 
--- The keys suit the day. The writer `w` has received `letters`. It has written `sent`: all parts that can be written so
--- far. The writer still holds the letters after these parts, at most as many as one part can have.
+-- The keys suit the day. The writer `w` has received the letters `letters`. It has written `sent`: all parts that can
+-- be written so far. It still keeps the letters after these parts, at most as many as fit in one part.
 pub record AreLettersTaken (s : Day) (keys : List Keys) (w : PartWriter) (letters sent : List ℕ) : Type 0 where
   pub suited : AreSuitedKeys s keys
   pub counted : w.count ≡ length letters

@@ -1,4 +1,4 @@
--- The cipher of a day's own machine (a machine set as the day says), and the size of a part.
+-- How a part is made on a machine that is set as the day says, and how many letters a part can have.
 -- Code: `DayMachine` has one engine, and sets its windows anew for each text.
 use Rattle.std.specs.Prelude.{◌≡◌, ℕ, ◌-◌, ◌%◌, List, [], ◌∷◌, ◌++◌, length, Option, Some, None, replicate}
 use Rattle.kd_state.specs.SheetDay.{Day, Rotor, Pin, AreADaysGroup}
@@ -15,7 +15,7 @@ use Rattle.kd_form.specs.declared.heading.Indicator.{Indicator}
 use Rattle.kd_form.specs.InternalKey.{IsInternalKey}
 use Rattle.kd_form.specs.Part.{Part, part_text}
 
--- the ciphertext of `text` on a machine set as the day says, with `window` in the windows at the start
+-- the ciphertext of `text` on a machine that is set as the day says; at the start, its windows show `window`
 abbrev pub cipher_from : Day → List ℕ → List ℕ → List ℕ
 cipher_from s window text = cipher (key_with_window (sheet_key s) window) text
 
@@ -44,12 +44,12 @@ part_of part parts indicator letters = record {
 -- Source: the singly enciphered message key of the Wehrmacht.
 -- Test: tests/cases/desk-messages.toml
 
--- the ground setting, and the message key enciphered with the ground setting in the windows
+-- the indicator: the ground setting, and the message key, enciphered with the ground setting in the windows
 abbrev pub indicator_of : Day → RotorKeys → Indicator
 indicator_of s k =
     record { ground_setting = k.ground_setting; enciphered_key = cipher_from s k.ground_setting k.message_key }
 
--- the two fillers and the group, unenciphered; then the text, enciphered with the message key
+-- the letters of a body: the two fillers and the group, unenciphered; then the text, enciphered with the message key
 abbrev pub rotor_letters : Day → RotorKeys → List ℕ → List ℕ
 rotor_letters s k text = k.fillers ++ k.group ++ cipher_from s k.message_key text
 
@@ -57,7 +57,7 @@ rotor_letters s k text = k.fillers ++ k.group ++ cipher_from s k.message_key tex
 -- Source: War Department TM 11-380.
 -- Test: tests/cases/desk-messages.toml
 
--- the chosen letter twelve times, enciphered with the external letters in the windows at the start
+-- twelve times the chosen letter, enciphered; at the start, the windows show the external letters
 abbrev pub enciphered_choice : Day → PinKeys → List ℕ
 enciphered_choice s k = cipher_from s k.external (replicate 12 k.chosen)
 

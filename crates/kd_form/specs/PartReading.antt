@@ -37,7 +37,8 @@ abbrev pub IsExpectedCount : Option ℕ → ℕ → Type 0
 IsExpectedCount None parts = Unit {0}
 IsExpectedCount (Some first) parts = first ≡ parts
 
--- The heading `h` has the part number `number` and, unless `expected` is `None`, the number of parts `expected`.
+-- The heading's part number is `number`. If `expected` isn't `None`, the heading says that the form has `expected`
+-- parts.
 pub record HasDueNumbers (number : ℕ) (expected : Option ℕ) (h : Heading) : Type 0 where
   pub numbered : h.part ≡ number
   pub as_expected : IsExpectedCount expected h.parts

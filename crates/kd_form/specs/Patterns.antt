@@ -17,12 +17,12 @@ abbrev pub blank_count : List ℕ → ℕ
 blank_count [] = 0
 blank_count (mark ∷ pattern) = if mark == 95 then blank_count pattern + 1 else blank_count pattern
 
--- `bytes` are the pattern's line with `letters` in place of the `_`, and a line end.
+-- `bytes` are the pattern, with `letters` in place of the `_`, and then a line end.
 pub record IsFilledLine (pattern letters bytes : List ℕ) : Type 0 where
   pub are_letters : AreLetters (blank_count pattern) letters
   pub ended : IsLineWithEnd (filled_pattern pattern letters) bytes
 
--- `bytes` are the pattern's line with any letters in place of the `_`, and a line end.
+-- `bytes` are the pattern, with any letters in place of the `_`, and then a line end.
 abbrev pub IsPatternLine : List ℕ → List ℕ → Type 0
 IsPatternLine pattern bytes = (letters : List ℕ) × IsFilledLine pattern letters bytes
 

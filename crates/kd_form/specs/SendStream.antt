@@ -11,15 +11,16 @@ use Rattle.kd_form.specs.Sending.{text_letters, OrderParts, IsHeadAnswer, IsOrde
 use Rattle.kd_form.specs.Sending.{ArePartTextsMade, IsFormOf}
 use Rattle.kd_form.specs.Streams.{Message}
 
--- `front` is the prefix of `text` before the first byte that isn't allowed in a text.
+-- `front` has the bytes of `text` before the first byte that isn't allowed in a text; all bytes if each is allowed.
 pub record IsAllowedPrefix (text front : List ℕ) : Type 0 where
   pub rest : List ℕ
   pub joined : text ≡ front ++ rest
   pub allowed : All (λ b. IsTrue (is_text_byte b)) front
   pub ends : (byte : ℕ) (more : List ℕ) → rest ≡ byte ∷ more → IsFalse (is_text_byte byte)
 
--- After `letters` letters of the text have been read, `written` parts can be written. There are `parts` parts, and each
--- has at most `size` letters. A part can be written as soon as a letter of the next part has been read.
+-- After `letters` letters of the text, `written` of the `parts` parts can be written. A part has at most `size`
+-- letters. It can be written as soon as a letter of the next part has been read. For example, if a part has at most
+-- five letters, two of three parts can be written after 11 letters.
 pub record IsWritableCount (size parts letters written : ℕ) : Type 0 where
   pub writable : (written ≡ 0) ⊎ ((written < parts) × (size * written < letters))
   pub most : (other : ℕ) → other < parts → size * other < letters → other ≤ written

@@ -26,7 +26,7 @@ space_letter (Pin s) = Some 25
 abbrev pub letter_of_byte : Option ℕ → ℕ → Option ℕ
 letter_of_byte for_space byte = if is_capital byte then Some (byte - 65) else if byte == 32 then for_space else None
 
--- all letters that bytes of `text` give; `letter_of_byte` says which letter a byte gives
+-- the letters that the bytes of `text` give, by the rule `letter_of_byte`
 abbrev pub letters_from : Option ℕ → List ℕ → List ℕ
 letters_from for_space text = filter_map (letter_of_byte for_space) text
 
@@ -60,8 +60,9 @@ ArePartTextsMade s part parts (k ∷ keys) (piece ∷ pieces) bytes =
 ArePartTextsMade s part parts [] (piece ∷ pieces) bytes = ⊥
 ArePartTextsMade s part parts (k ∷ keys) [] bytes = ⊥
 
--- The result of making a form from an order's keys and its text's letters: the form, or a fault. The text must have a
--- letter, and must need as many parts as there are lines of keys. In the form, all parts but the last are full.
+-- The result of making a form from an order's keys and its text's letters: the form, or a fault. The text must have at
+-- least one letter, and must need as many parts as there are lines of keys. In the form, all parts but the last are
+-- full.
 abbrev pub IsMadeAnswer : Day → List Keys → List ℕ → AnswerRule FormFault (List ℕ)
 IsMadeAnswer s keys letters = do
   _ ← Demands (letters ≢ []) EmptyText
@@ -114,7 +115,7 @@ abbrev pub IsSendFault : Day → List ℕ → FormFault → Type 0
 IsSendFault s order fault = IsOrderAnswer s order (Err fault)
 
 -- The order has `fault`, which is found while the order's bytes are read. So no further bytes can change the fault. If
--- `fault` is `BadByte`, it names one of the order's bytes, not a byte that is missing at the order's end.
+-- `fault` is `BadByte`, it names a byte that the order has, not a byte that is missing at its end.
 pub record IsOrderFaultForGood (s : Day) (order : List ℕ) (fault : FormFault) : Type 0 where
   pub found : IsReadAnswer s order (Err fault)
   pub inside : (position : ℕ) → fault ≡ BadByte position → position ≤ length order

@@ -16,21 +16,22 @@ pub record HasReadSoFar (m : Message) (holds : List ℕ → List ℕ → Type 0)
   pub is : holds bytes text
   pub open_yet : IsOpen m bytes text
 
--- The reader has read some bytes, and `room` more bytes may follow.
+-- The reader has read some bytes, and can read `room` more bytes: their total number stays below 2^63.
 pub record HasRoom (m : Message) (holds : List ℕ → List ℕ → Type 0) (room : ℕ) : Type 0 where
   pub bytes : List ℕ
   pub text : List ℕ
   pub held : HasReadSoFar m holds bytes text
   pub within : length bytes + room < 2 ^ 63
 
--- `bytes` have `fault`, whatever bytes follow. Before a call returns this fault, it writes `text`.
+-- `bytes` have `fault`, whatever bytes follow. Before a call returns this fault, it must have written exactly `text`.
 pub record HasFaultForGood (m : Message) (bytes text : List ℕ) (fault : FormFault) : Type 0 where
   pub stands : (more : List ℕ) → m.stands (bytes ++ more) fault
   pub refused : (more : List ℕ) → m.refused (bytes ++ more) fault
   pub written : (more : List ℕ) → m.written_before (Some fault) (bytes ++ more) text
 
--- The reader's state satisfies the condition `old`, and the reader reads `byte`. If `byte` causes no fault, the reader
--- outputs `made`, and the reader's state then satisfies `new`. Otherwise the message is refused, whatever bytes follow.
+-- The answer of a reader to its next byte, `byte`. Before this byte, the reader's state satisfies `old`. If the byte
+-- causes no fault, the reader outputs `made`, and its state then satisfies `new`. Otherwise, the message is refused,
+-- whatever bytes follow.
 abbrev pub IsFeedAnswer : Message → (List ℕ → List ℕ → Type 0) → (List ℕ → List ℕ → Type 0) → ℕ → List ℕ
     → Result (Unit {0}) FormFault → Type 0
 IsFeedAnswer m old new byte made answer =
@@ -38,8 +39,8 @@ IsFeedAnswer m old new byte made answer =
     → MatchResult answer (λ _. HasReadSoFar m new (bytes ++ byte ∷ []) (text ++ made))
     (HasFaultForGood m (bytes ++ byte ∷ []) text)
 
--- At the end of the message, the reader outputs `made`, which completes the message's result. If the message has a
--- fault, `made` completes the text that a call writes before it returns the fault.
+-- The answer of a reader at the end of a message. Without a fault, the reader outputs `made`, which is the rest of the
+-- message's result. With a fault, `made` is the rest of the text that a call must write before it returns the fault.
 abbrev pub IsEndAnswer : Message → (List ℕ → List ℕ → Type 0) → List ℕ → Result (Unit {0}) FormFault → Type 0
 IsEndAnswer m old made answer = (bytes text : List ℕ) → HasReadSoFar m old bytes text
     → IsMessageAnswer m bytes (text ++ made) answer
@@ -56,8 +57,8 @@ is_device_interruption _ = false
 
 -- ---- bytes, one after another
 
--- `text` is a proper prefix of `due`, the text that a call must have written after it has read the prefix `front` of
--- `bytes`.
+-- `text` is incomplete: after some of `bytes` were read, a call had to write a text, but wrote only a proper prefix of
+-- it.
 pub record IsPrefixOfDue (m : Message) (bytes text : List ℕ) : Type 0 where
   pub front : List ℕ
   pub due : List ℕ
@@ -65,22 +66,25 @@ pub record IsPrefixOfDue (m : Message) (bytes text : List ℕ) : Type 0 where
   pub open_yet : IsOpen m front due
   pub of_due : FallsShort due text
 
--- Either the reader has read `bytes`, or the bytes have a fault, or the sink failed.
+-- What the answer of a call says after the reader was given `bytes`:
+-- - success: the reader has read `bytes`, and its output is `text`.
+-- - `Refused`: the bytes have a fault, whatever bytes follow.
+-- - `Device`: the sink failed, and the written `text` is incomplete.
 abbrev pub HasBeenFed : Message → (List ℕ → List ℕ → Type 0) → List ℕ → List ℕ → Result (Unit {0}) Interruption → Type 0
 HasBeenFed m new bytes text (Ok _) = HasReadSoFar m new bytes text
 HasBeenFed m new bytes text (Err (Refused fault)) = HasFaultForGood m bytes text fault
 HasBeenFed m new bytes text (Err Device) = IsPrefixOfDue m bytes text
 
--- A call fed the reader, and wrote the reader's output to `sink`. `bytes` are all bytes of the
--- message so far, with the call's bytes. `text` had been written before the call.
+-- A call gave bytes to the reader, and wrote the reader's output to `sink`. `bytes` are all bytes of the message so
+-- far, with this call's bytes. `text` is what had been written before the call.
 pub record IsFed (m : Message) (new : List ℕ → List ℕ → Type 0) (bytes text : List ℕ) (sink : Port)
     (answer : Result (Unit {0}) Interruption) : Type 0 where
   pub made : List ℕ
   pub written : Appends sink.had sink.has made
   pub fed : HasBeenFed m new bytes (text ++ made) answer
 
--- The reader's state satisfies the condition `old`. The reader reads the bytes `more`, and the reader's output is
--- written to the sink.
+-- The answer of a call that gives the bytes `more` to the reader, and writes the reader's output to `sink`. Before the
+-- call, the reader's state satisfies `old`. After a success, it satisfies `new`.
 abbrev pub IsFeedAllAnswer : Message → (List ℕ → List ℕ → Type 0) → (List ℕ → List ℕ → Type 0) → List ℕ → Port
     → Result (Unit {0}) Interruption → Type 0
 IsFeedAllAnswer m old new more sink answer =
@@ -88,8 +92,8 @@ IsFeedAllAnswer m old new more sink answer =
 
 -- ---- the end
 
--- The message has ended. Either all text for the message was written, or the sink failed and only a proper prefix of
--- this text was written.
+-- The message has ended. Either all text for the message was written, or the sink failed and took only a proper prefix
+-- of this text.
 abbrev pub HasBeenEnded : Message → List ℕ → List ℕ → Result (Unit {0}) Interruption → Type 0
 HasBeenEnded m bytes text (Ok _) = IsMessageAnswer m bytes text (Ok tt)
 HasBeenEnded m bytes text (Err (Refused fault)) = IsMessageAnswer m bytes text (Err fault)
@@ -103,8 +107,8 @@ pub record IsClosed (m : Message) (bytes text : List ℕ) (sink : Port) (answer 
   pub written : Appends sink.had sink.has made
   pub ended : HasBeenEnded m bytes (text ++ made) answer
 
--- `answer` is right for the end of the message. Before the end, the reader's state satisfies the condition `old`. At
--- the end, the reader writes the rest of its output to `sink`.
+-- The answer of a call that ends the message, and writes the rest of the reader's output to `sink`. Before the call,
+-- the reader's state satisfies `old`.
 abbrev pub IsFinishAnswer : Message → (List ℕ → List ℕ → Type 0) → Port → Result (Unit {0}) Interruption → Type 0
 IsFinishAnswer m old sink answer = (bytes text : List ℕ) → HasReadSoFar m old bytes text
     → IsClosed m bytes text sink answer
@@ -114,7 +118,8 @@ abbrev pub answer_with_fault : Result (Unit {0}) Interruption → Result (Unit {
 answer_with_fault (Ok _) = Ok tt
 answer_with_fault (Err stop) = Err (fault_of_interruption stop)
 
--- A call ends the message. It returns `Device` if the sink failed, and otherwise the message's fault, if there is one.
+-- The answer of a call that ends the message. It is `Device` if the sink failed. Otherwise, it is the message's fault,
+-- or success if there is no fault.
 pub record IsCloseAnswer (m : Message) (old : List ℕ → List ℕ → Type 0) (sink : Port)
     (answer : Result (Unit {0}) FormFault) : Type 0 where
   pub finished : Result (Unit {0}) Interruption
@@ -133,8 +138,8 @@ pub data IsReadStopped (m : Message) (new : List ℕ → List ℕ → Type 0) (s
       → sink.has_failed ≡ (sink.had_failed || is_device_interruption {T = Unit {0}} (Err stop))
       → IsReadStopped m new source sink read text stop
 
--- `count` bytes were taken from the source and fed to the reader, or reading was interrupted. `count` is 0 only at the
--- source's end.
+-- A call has taken the bytes `more` from the source. Either the reader has read them, and the answer is their number,
+-- which is 0 only at the source's end. Or reading was interrupted, as `IsReadStopped` says.
 abbrev pub HasBeenRead : Message → (List ℕ → List ℕ → Type 0) → Port → Port → List ℕ → List ℕ → List ℕ
     → Result ℕ Interruption
     → Type 0
@@ -144,7 +149,8 @@ HasBeenRead m new source sink bytes more text (Ok count) =
     × KeepsFailureFlag sink
 HasBeenRead m new source sink bytes more text (Err stop) = IsReadStopped m new source sink (bytes ++ more) text stop
 
--- At most `room` bytes were taken from the source and fed to the reader. The reader's output was written to the sink.
+-- A call has taken at most `room` bytes from the source, and given them to the reader. It has written the reader's
+-- output to the sink.
 pub record IsChunkRead (m : Message) (new : List ℕ → List ℕ → Type 0) (bytes text : List ℕ) (room : ℕ)
     (source sink : Port)
     (answer : Result ℕ Interruption) : Type 0 where
@@ -155,8 +161,8 @@ pub record IsChunkRead (m : Message) (new : List ℕ → List ℕ → Type 0) (b
   pub written : Appends sink.had sink.has made
   pub read : HasBeenRead m new source sink bytes more (text ++ made) answer
 
--- The reader's state satisfies the condition `old`. The reader reads the source's next bytes, at most `room`, and the
--- reader's output is written to the sink.
+-- The answer of a call that reads the source's next bytes, at most `room`, and writes the reader's output to the sink.
+-- Before the call, the reader's state satisfies `old`. After a success, it satisfies `new`.
 abbrev pub IsReadNextAnswer : Message → (List ℕ → List ℕ → Type 0) → (List ℕ → List ℕ → Type 0) → ℕ → Port → Port
     → Result ℕ Interruption → Type 0
 IsReadNextAnswer m old new room source sink answer =

@@ -1,4 +1,4 @@
--- Kinds of messages. A kind says which faults and which result a message has, and which text is written while the
+-- Kinds of messages. A kind says which faults and which results messages can have. It also says what is written while a
 -- message is read.
 use Rattle.std.specs.Prelude.{◌≡◌, ◌≢◌, ℕ, ◌≤◌, Bool, true, false, List, [], ◌∷◌, ◌++◌, length, Option, None, Some}
 use Rattle.std.specs.Prelude.{Result, Ok, Err, MatchResult}
@@ -40,7 +40,7 @@ IsMessageAnswer m bytes text answer =
 -- Test: tests/cases/desk-messages.toml
 
 -- `text` is all that the call must have written at a certain moment:
--- - `ByThen`: when the call has read `front`. `front` is a prefix of `read`, and has no fault.
+-- - `ByThen`: when the call has read the bytes `front`, which are a prefix of `read` and have no fault.
 -- - `ByTheEnd`: when the call has read the whole message, because the source ends after `read`.
 pub data IsDue (m : Message) (source : Port) (read text : List ℕ) : Type 0 where
   ByThen : (front : List ℕ) → StartsWith read front → IsOpen m front text → IsDue m source read text
@@ -85,7 +85,8 @@ pub data IsStreamAnswer (m : Message) (source sink : Port) (read text : List ℕ
       → FailsAlone sink source
       → answer ≡ Err Device → IsStreamAnswer m source sink read text answer
 
--- The call took the bytes `read` from the source and put the bytes `text` into the sink, as `IsStreamAnswer` says.
+-- The call took the bytes `read` from the source, and put the bytes `text` into the sink. It ended as `IsStreamAnswer`
+-- says.
 pub record IsStreamed (m : Message) (source sink : Port) (answer : Result (Unit {0}) FormFault) : Type 0 where
   pub read : List ℕ
   pub text : List ℕ
@@ -112,8 +113,9 @@ pub record IsUntouched (p : Port) : Type 0 where
   pub has : p.has ≡ p.had
   pub well : KeepsFailureFlag p
 
--- `FaultBefore`: the answer is a fault that satisfies `is_fault`, and source and sink are left as they were.
--- `NoFaultBefore`: the statement `may` holds, and the call streams the message as `IsStreamed` says.
+-- A call that may find a fault before it streams a message:
+-- - `FaultBefore`: the answer is a fault that satisfies `is_fault`. Source and sink are left as they were.
+-- - `NoFaultBefore`: the statement `may` is true, and the call streams the message, as `IsStreamed` says.
 pub data StreamsUnlessFault (is_fault : FormFault → Type 0) (may : Type 0) (message : Message) (source sink : Port)
     (answer : Result (Unit {0}) FormFault) : Type 0 where
   FaultBefore : (fault : FormFault) → is_fault fault → answer ≡ Err fault → IsUntouched source → IsUntouched sink

@@ -58,8 +58,8 @@ pub record IsAllowedUpTo (bytes : List ℕ) (front : ℕ) : Type 0 where
   pub allowed : All (λ b. IsTrue (is_text_byte b)) (take front bytes)
   pub next : front < length bytes → IsFalse (is_text_byte (slice_index bytes front))
 
--- All of `bytes` are allowed and were typed. `text` is their ciphertext, and the engine is set to encipher the
--- bytes that follow.
+-- All of `bytes` are allowed and were typed. `text` is their ciphertext. The engine is set to encipher the bytes that
+-- follow.
 pub record HasTyped (m : Parts) (t : Typist) (bytes text : List ℕ) : Type 0 where
   pub counted : t.read ≡ length bytes
   pub allowed : All (λ b. IsTrue (is_text_byte b)) bytes

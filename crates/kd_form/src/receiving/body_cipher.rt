@@ -96,7 +96,7 @@ fn decipher_pin_body(
 
 /// Deciphers `letters`, the body of the part with the heading `heading`.
 ///
-/// If the body is too long, `letters` may lack letters from the body's end. Even then, `letters` must have more letters
+/// If the body is too long, its last letters may be missing in `letters`. Even then, `letters` must have more letters
 /// than any heading allows, so that the fault is `CountWrong`.
 pub(crate) fn decipher_body(
     day: &SheetDay,

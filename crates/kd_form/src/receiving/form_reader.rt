@@ -109,10 +109,10 @@ impl MessageReader for FormReader {
     }
 }
 
-/// The fault of a form that ends within the heading line of part `number`. `line` is this heading line, or its first 64
-/// bytes if it is longer.
+/// The fault of a form that ends within the heading line of part `number`.
 ///
-/// If the heading is valid and its numbers are right, the fault is `CountWrong`, because the part has no body.
+/// `line` is this heading line, or its first 64 bytes if it is longer. If the heading is valid and its numbers are
+/// right, the fault is `CountWrong`, because the part has no body.
 fn fault_in_heading(
     day: &SheetDay,
     number: u8,
@@ -151,7 +151,7 @@ fn heading_line_start(digit: u8) -> ArrayVec<u8, KEPT_LINE>
     line
 }
 
-/// Returns `heading` if its part number is `number`, and `is_expected` accepts its number of parts.
+/// Returns `heading` if its part number is `number`, and its number of parts is the expected one.
 ///
 /// The fault is `BadHeading` if there is no heading, and `PartOrder` if one of the two numbers is wrong.
 fn check_heading(
@@ -170,8 +170,9 @@ fn check_heading(
     Ok(heading)
 }
 
-/// Whether `parts` equals `expected`, the number of parts in the form's first heading. If `expected` is `None`, the
-/// result is true.
+/// Whether `parts` equals `expected`, the number of parts in the form's first heading.
+///
+/// True if `expected` is `None`.
 fn is_expected(expected: Option<u8>, parts: u8) -> bool
     ensures { IsTrue result ↔ IsExpectedCount expected parts }
 {

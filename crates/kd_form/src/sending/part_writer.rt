@@ -51,10 +51,9 @@ impl PartWriter {
         }
     }
 
-    /// Takes the next letter of the text. If the collected letters fill a part, first writes this part to `output`.
+    /// Takes the next letter of the text. If the letters so far fill a part, first writes this part to `output`.
     ///
-    /// The last part, made with the last line of keys, is left to the function `end`. After this part is full, further
-    /// letters are only counted.
+    /// The last part is left to the function `end`. After this part is full, further letters are only counted.
     fn take_letter(&mut self, day: &SheetDay, keys: &[Keys], letter: Letter, output: &mut Output)
         requires taken { (letters sent : List ℕ) × AreLettersTaken day.now keys.now self.old letters sent
             × (length letters < 2 ^ 63) }

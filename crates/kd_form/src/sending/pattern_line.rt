@@ -1,4 +1,4 @@
-//! Reads a line by its pattern, in which `_` stands for any letter and each other byte stands for itself.
+//! Reads a line by its pattern: `_` stands for any letter, and each other byte stands for itself.
 ghost use Rattle.std.specs.Prelude.{◌≡◌, ◌≤◌, ◌<◌, [], ◌+◌, ◌++◌, MatchResult};
 ghost use Rattle.std.specs.Bool.{OnTrue, OnFalse};
 ghost use Rattle.arrayvec.specs.ArrayVec.{array_vec_len};
