@@ -55,8 +55,8 @@ list_of_body letters = slice_range letters 8 10
 abbrev pub text_of_body : List ℕ → List ℕ
 text_of_body letters = slice_range letters 10 (length letters - 10)
 
--- The result of deciphering a body on the Converter M-209: the text, deciphered with the internal key in the windows at
--- the start. Four tests come first, and the first that fails gives the fault:
+-- The result of deciphering a body on the Converter M-209: the text, or the fault of the first test that fails. The
+-- text is deciphered with the internal key in the windows at the start. The tests, in this order:
 -- - The last ten letters repeat the first ten, and the first two letters are equal (`HasIndicatorsAround`).
 -- - Each external letter is on its wheel.
 -- - The list letters are the day's list letters.

@@ -56,8 +56,8 @@ pub data IsLineText (line text : List ℕ) : Type 0 where
   WithReturn : line ≡ text ++ 13 ∷ [] → IsLineText line text
   WithoutReturn : text ≡ line → ((front : List ℕ) → line ≢ front ++ 13 ∷ []) → IsLineText line text
 
--- `line` is the first line of `text`, without its line end, and `rest` follows this line end. If `text` has no LF,
--- `line` is all of `text`.
+-- `text` begins with the line `line` and a line end, and `rest` comes after this line end. If `text` has no LF, `line`
+-- is all of `text`, and `rest` is empty.
 abbrev pub HasFirstLine : List ℕ → List ℕ → List ℕ → Type 0
 HasFirstLine text line rest =
     ((shown : List ℕ) × IsFirstPart 10 text shown rest × IsLineText shown line)

@@ -98,8 +98,8 @@ IsDecipherAnswer s b others output answer =
     (λ _. IsBodyPlaintext s b.heading letters output)
     (λ fault. IsBodyAnswer s b.heading.part b.heading letters (Err fault))
 
--- `part` has no LF, so it ends within its heading line. `found` is the heading in this line, or `None` if there is no
--- heading.
+-- `found` is the heading of `part`, in which nothing follows the heading line. If `part` has no heading, `found` is
+-- `None`.
 abbrev pub IsOpenHeading : Day → List ℕ → Option Heading → Type 0
 IsOpenHeading s part found =
     MatchOption found ((h : Heading) (body : List ℕ) → ¬ (HasHeading s part h body)) (λ h. HasHeading s part h [])

@@ -65,7 +65,7 @@ IsFormReadTo s Holds form text =
 -- ---- The result of reading a form: its text, or its first fault.
 -- Test: tests/cases/desk-messages.toml, tests/refusals
 
--- `answer` is right for a whole form whose parts before `p` have no fault:
+-- The answer for a whole form whose parts before `p` have no fault:
 -- - If parts are left, the first of them has a fault, and `answer` is this fault.
 -- - If no parts are left, `answer` is success if the form has as many parts as its headings say. Otherwise, it is
 -- `PartOrder`.
@@ -131,7 +131,7 @@ form_message s = record {
 
 -- ---- The text that an order's form has to give back.
 
--- The letters that are enciphered for a text: the text's letters. On the Converter M-209, X is appended until the last
+-- The letters that are sent for a text with the letters `letters`. On the Converter M-209, X is appended until the last
 -- group of five is full.
 abbrev pub sent_letters : Day → List ℕ → List ℕ
 sent_letters (Rotor s) letters = letters

@@ -57,8 +57,7 @@ is_device_interruption _ = false
 
 -- ---- bytes, one after another
 
--- `text` is incomplete: after some of `bytes` were read, a call had to write a text, but wrote only a proper prefix of
--- it.
+-- After a prefix of `bytes` was read, a call had to write a text. It wrote only `text`, a proper prefix of that text.
 pub record IsPrefixOfDue (m : Message) (bytes text : List ℕ) : Type 0 where
   pub front : List ℕ
   pub due : List ℕ
@@ -113,7 +112,7 @@ abbrev pub IsFinishAnswer : Message → (List ℕ → List ℕ → Type 0) → P
 IsFinishAnswer m old sink answer = (bytes text : List ℕ) → HasReadSoFar m old bytes text
     → IsClosed m bytes text sink answer
 
--- the answer, with a `FormFault` in place of an interruption
+-- the answer of a call; if it is an interruption, the `FormFault` for this interruption
 abbrev pub answer_with_fault : Result (Unit {0}) Interruption → Result (Unit {0}) FormFault
 answer_with_fault (Ok _) = Ok tt
 answer_with_fault (Err stop) = Err (fault_of_interruption stop)

@@ -1,4 +1,4 @@
-//! Two functions that append to a list with bounded room: `push_if_room` and `append_letters`.
+//! Two functions that append to a list of bounded length: `push_if_room` and `append_letters`.
 ghost use Rattle.std.specs.Prelude.{◌≡◌, ◌≤◌, ◌+◌, [], ◌∷◌, ◌++◌, length, take};
 
 use arrayvec::ArrayVec;

@@ -39,7 +39,7 @@ fn pick_internal_key(letters: &[Letter]) -> Option<ArrayVec<Letter, 6>>
     if key.is_full() { Some(key) } else { None }
 }
 
-/// Appends `letter` to `key` if it is on the next wheel: the first wheel without a letter in `key`.
+/// Appends `letter` to `key` if the next wheel has `letter`. The next wheel is the first without a letter in `key`.
 fn push_if_on_next_wheel(key: &mut ArrayVec<Letter, 6>, letter: Letter)
     ensures { IsTakenInTurn key.old.items letter key.new.items }
 {

@@ -23,8 +23,9 @@ use kd_tables::{Letter, is_word};
 /// of the next heading.
 const KEPT_LETTERS: usize = 525;
 
-/// The number of letters in `PART`. If a heading line follows a body, the reader keeps the letters of `PART` together
-/// with the body's letters.
+/// The number of letters in `PART`, the beginning of a heading line.
+///
+/// If a heading line follows a body, the reader first keeps these letters together with the body's letters.
 pub(crate) const HEADING_LETTERS: usize = 4;
 
 /// The greatest number of bytes of a line that the reader keeps: enough to recognize a heading line.
@@ -109,7 +110,7 @@ fn keep_letter(letters: &mut ArrayVec<Letter, KEPT_LETTERS>, letter: Option<Lett
     }
 }
 
-/// Appends `byte` if `line` has room; an LF empties `line`, because a new line begins.
+/// Appends `byte` to `line` if there is room. An LF empties `line`, because a new line begins.
 ///
 /// Only the first six bytes of a line are stored. For most bytes nothing is stored, so the next byte needn't wait for a
 /// store.

@@ -28,12 +28,12 @@ pub(crate) struct FormReader {
     pub(crate) number: u8,
     /// The number of parts of the whole form, as the headings say. `None` until the first part has been read.
     pub(crate) expected: Option<u8>,
-    /// The kept bytes or letters of the current part. The variant says whether the next byte belongs to the heading
-    /// line or to the body.
+    /// What the reader keeps of the current part. The variant says whether the next byte belongs to the heading line or
+    /// to the body.
     pub(crate) stage: FormStage,
 }
 
-/// The section to which the next byte of a part belongs, with the bytes or letters kept so far.
+/// What a reader keeps of the current part: bytes of its heading line or, after this line, its heading and body.
 #[derive(Drop)]
 pub(crate) enum FormStage {
     /// The heading line; its first `KEPT_LINE` bytes are kept.

@@ -23,7 +23,7 @@ pub(crate) fn key_pattern(day: &SheetDay) -> &'static [u8]
     }
 }
 
-/// Makes keys from `letters`. These are the letters of a line of keys, in the line's order.
+/// Makes keys from `letters`, the letters of a line of keys in their order.
 pub(crate) fn keys_of_letters(day: &SheetDay, letters: &[Letter]) -> Keys
     requires { AreLetters (blank_count (key_pattern day.now)) letters.now }
     ensures letters { key_letters result ≡ letters.now }

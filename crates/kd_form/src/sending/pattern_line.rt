@@ -60,7 +60,9 @@ fn read_pattern_letters(
     read_pattern_letters(marks, rest, letters)
 }
 
-/// Whether `byte` fits `mark`, a byte of a pattern. If `mark` is `_` and `byte` fits, appends the letter.
+/// Returns whether `byte` fits `mark`, a byte of a pattern.
+///
+/// If `mark` is `_` and `byte` is a capital letter, appends this letter to `letters`.
 fn take_marked_letter(letters: &mut ArrayVec<Letter, MOST_BLANKS>, mark: u8, byte: u8) -> bool
     requires { mark ≡ 95 → array_vec_len letters.old < 13 }
     ensures fits { result ≡ fits_mark mark byte }

@@ -66,7 +66,7 @@ pub(crate) trait MessageReader {
     fn start(day: &SheetDay) -> Self
         ensures { HasReadSoFar (message day.now) (holds day.now result) [] [] };
 
-    /// Takes the message's next byte, and puts the output that can be written now into `output`.
+    /// Takes the message's next byte. What can be written now is put into `output`.
     ///
     /// After a fault, the reader must not be called again.
     fn feed(&mut self, day: &SheetDay, byte: u8, output: &mut Output) -> Result<(), FormFault>
