@@ -20,7 +20,7 @@ abbrev pub engine_key_after : EngineKey → ℕ → EngineKey
 engine_key_after (Rotor key) n = Rotor (key_after key n)
 engine_key_after (Pin key) n = Pin (pin_key_after key n)
 
--- the key after the wheels or the pin wheels were turned until they show the letters `window`
+-- the key after the wheels are turned until they show the letters `window`
 abbrev pub key_with_window : EngineKey → List ℕ → EngineKey
 key_with_window (Rotor key) window = Rotor (key_turned key window)
 key_with_window (Pin key) window = Pin (pin_key_turned key window)

@@ -63,8 +63,8 @@ HasAllPins pins = (wheel : ℕ) → length (wheel_pins pins wheel) ≡ length (r
 -- own rule.
 -- Code: `Machine` has these rules as its invariant.
 
--- The parts make a rotor machine. Each slot is empty or has a wheel that is allowed in this slot, and no wheel is in
--- two slots. The reflector is one of the model's reflectors. Each wheel of the box has a ring and a window letter. No
+-- The parts make a rotor machine. Each slot is empty, or has a wheel that is allowed in this slot. No wheel is in two
+-- slots. The reflector is one of the model's reflectors. Each wheel of the box has a ring and a window letter. No
 -- letter is twice in the cables.
 pub record AreLegalRotorParts (machine : RotorParts) : Type 0 where
   pub seats : AreLegalSeats machine.model machine.slots

@@ -14,7 +14,7 @@ use Rattle.kd_state.specs.declared.sheet_day.rotor_entry.SheetWheel.{SheetWheel}
 use Rattle.kd_state.specs.SameParts.{numbered_item}
 use Rattle.kd_state.specs.Machine.{AreLegalSeats, AreLetters, AreOnWheels, HasAllPins}
 
--- The values of a day of a rotor machine. `wheels` has the wheel for each slot, from the left, with its ring and its
+-- The values of a day of a rotor machine. `wheels` has, for each slot from the left, a wheel with its ring and its
 -- window letter. `pairs` are the plugged pairs. `groups` are groups of three letters that mark the day's messages.
 pub record RotorDay : Type 0 where
   pub day : ℕ

@@ -15,7 +15,7 @@ pub fn column_at(pairs: &[(Letter, Letter)], place: usize) -> Option<(Letter, Le
     pairs.get(place).copied()
 }
 
-/// The cost table of cables: the cost of each cable with each of a day's 13 columns.
+/// The cost table of cables: the cost of each cable for each of a day's 13 columns.
 ///
 /// Entry `[i][j]` is for cable `i` and column `j`, both counted from 0. The first columns are the day's pairs; the
 /// other columns have no pair.
@@ -30,7 +30,7 @@ pub fn cable_costs(cables: &[Cable; 13], pairs: &[(Letter, Letter)]) -> [[u8; 13
     costs
 }
 
-/// The costs of one cable with each of a day's 13 columns.
+/// The costs of one cable for each of a day's 13 columns.
 fn costs_of_cable(cable: &Cable, pairs: &[(Letter, Letter)]) -> [u8; 13]
     requires { length pairs.now ≤ 13 }
     ensures { result ≡ map (costs.cable_cost cable.now) (columns_of pairs.now) }

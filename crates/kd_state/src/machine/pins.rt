@@ -56,7 +56,7 @@ pub(crate) fn set_pin(pins: &mut PinSet, wheel: u8, letter: Letter, effective: b
     }
 }
 
-/// Makes the pin at `letter` effective or not, on the wheel with the letters `ring`.
+/// On the wheel with the letters `ring`, makes the pin at `letter` effective or not.
 fn set_pin_on<const N: usize>(ring: &Ring<N>, pins: &mut [bool; N], letter: Letter, effective: bool)
     requires { IsSome (place_on ring.now letter) }
     ensures { pins.new ≡ slice_set pins.old (unwrap_or (place_on ring.now letter) 0) effective }
