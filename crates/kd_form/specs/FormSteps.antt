@@ -18,7 +18,7 @@ use Rattle.kd_form.specs.FormParts.{BeginsHeading, IsHeading, IsLineText, cut_at
 use Rattle.kd_form.specs.PartReading.{PartStart, HasHeading, HasDueNumbers, IsBodyAnswer}
 use Rattle.kd_form.specs.FormText.{PartsProperty, ReadsPartsTo, first_part_start, plaintext_bytes}
 
--- ---- the words of a heading
+-- ---- The words of a heading line.
 
 -- `found` is the valid heading with the words `words`, or `None` if no valid heading has these words.
 abbrev pub AreHeadingWords : Day → List (List ℕ) → Option Heading → Type 0
@@ -31,7 +31,7 @@ pub record AreFewLetters (letters : List ℕ) : Type 0 where
   pub few : length letters ≤ 4
   pub within : All (λ letter. letter < 26) letters
 
--- ---- the last part
+-- ---- What the reader keeps of the part that it is reading.
 
 -- A heading line can have the byte `byte` at place `place`, counted from 0. Places 0 to 5 have `PART ` and a digit, and
 -- later places can have any byte.
@@ -98,8 +98,8 @@ IsDecipherAnswer s b others output answer =
     (λ _. IsBodyPlaintext s b.heading letters output)
     (λ fault. IsBodyAnswer s b.heading.part b.heading letters (Err fault))
 
--- `found` is the heading of `part`, in which nothing follows the heading line. If `part` has no heading, `found` is
--- `None`.
+-- Either `part` ends with its heading line, and `found` is the heading in this line. Or `part` has no heading, and
+-- `found` is `None`.
 abbrev pub IsOpenHeading : Day → List ℕ → Option Heading → Type 0
 IsOpenHeading s part found =
     MatchOption found ((h : Heading) (body : List ℕ) → ¬ (HasHeading s part h body)) (λ h. HasHeading s part h [])
@@ -113,7 +113,7 @@ IsHeadingAnswer number expected found = do
   _ ← Demands (HasDueNumbers number expected heading) PartOrder
   Yields heading
 
--- ---- the form
+-- ---- The whole form, as far as it has been read.
 
 -- the start of the part that the reader `r` is reading; `front` are the form's bytes before this part
 abbrev pub current_part_start : FormReader → List ℕ → PartStart

@@ -26,7 +26,7 @@ pub record IsFilledLine (pattern letters bytes : List ℕ) : Type 0 where
 abbrev pub IsPatternLine : List ℕ → List ℕ → Type 0
 IsPatternLine pattern bytes = (letters : List ℕ) × IsFilledLine pattern letters bytes
 
--- ---- one byte
+-- ---- Single bytes of a line and of its pattern.
 
 -- whether `byte` fits `mark`, a byte of a pattern: `_` takes any capital letter, and each other mark takes only itself
 abbrev pub fits_mark : ℕ → ℕ → Bool

@@ -55,7 +55,7 @@ abbrev pub is_device_interruption : {T : Type 0} → Result T Interruption → B
 is_device_interruption (Err Device) = true
 is_device_interruption _ = false
 
--- ---- bytes, one after another
+-- ---- Bytes that a reader is given.
 
 -- After a prefix of `bytes` was read, a call had to write a text. It wrote only `text`, a proper prefix of that text.
 pub record IsPrefixOfDue (m : Message) (bytes text : List ℕ) : Type 0 where
@@ -89,7 +89,7 @@ abbrev pub IsFeedAllAnswer : Message → (List ℕ → List ℕ → Type 0) → 
 IsFeedAllAnswer m old new more sink answer =
     (bytes text : List ℕ) → HasReadSoFar m old bytes text → IsFed m new (bytes ++ more) text sink answer
 
--- ---- the end
+-- ---- The end of a message.
 
 -- The message has ended. Either all text for the message was written, or the sink failed and took only a proper prefix
 -- of this text.
@@ -126,7 +126,7 @@ pub record IsCloseAnswer (m : Message) (old : List ℕ → List ℕ → Type 0) 
   pub failed : sink.has_failed ≡ (sink.had_failed || is_device_interruption finished)
   pub answers : answer ≡ answer_with_fault finished
 
--- ---- a read
+-- ---- One read from the source.
 
 -- Why reading a chunk stopped: the source failed, the bytes were refused, or the sink failed.
 pub data IsReadStopped (m : Message) (new : List ℕ → List ℕ → Type 0) (source sink : Port) (read text : List ℕ)
@@ -168,7 +168,7 @@ IsReadNextAnswer m old new room source sink answer =
     (bytes text : List ℕ) → HasReadSoFar m old bytes text → length bytes + room ≤ read_limit
     → IsChunkRead m new bytes text room source sink answer
 
--- ---- a whole message
+-- ---- A whole message in memory.
 
 -- Either the result of the message was written, or the message has a fault, or the sink failed.
 abbrev pub IsWriteMessageAnswer : Message → List ℕ → Port → Result (Unit {0}) Interruption → Type 0
