@@ -27,9 +27,9 @@ use std::alloc::Global;
 ///
 /// On the Converter M-209, the text has a space in place of each Z. `NotReady` and `NotOnKey` are tested first, then
 /// the parts of the form, one after another. For each part, `BadHeading`, `PartOrder`, `BadByte` and `CountWrong` are
-/// tested in this order. After `CountWrong`, the indicators, the external letters, the group (or the list letters) and
-/// the internal key are tested. If parts are missing at the end of the form, the fault is `PartOrder`. `NoMemory` comes
-/// only if the form has no fault.
+/// tested in this order. Then come the indicators, the external letters, the group (or the list letters) and the
+/// internal key. If parts are missing at the end of the form, the fault is `PartOrder`. `NoMemory` comes only if the
+/// form has no fault.
 pub fn receive(
     alloc: Global,
     machine: &Machine,
