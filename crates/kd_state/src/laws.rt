@@ -59,7 +59,7 @@ pub fn engines_encipher_as_their_machines()
     ensures turned { TurnedEngineEnciphersAsMachine }
 {}
 
-/// A machine that is set as the day says, and shows the day's letters, is ready. It enciphers as the day asks.
+/// If a machine is set as the day says and shows the day's letters, it is ready. It enciphers as the day asks.
 #[tactic(auto, using(crate::proofs::Keys::reading_ready, crate::proofs::Keys::reading_cipher))]
 pub fn reads_as_day_enciphers_as_day()
     ensures ready { ReadsAsDayIsReady }
