@@ -26,7 +26,7 @@ abbrev pub next_part_start : PartStart → ℕ → List ℕ → PartStart
 next_part_start p count part = record
     { number = p.number + 1; expected = Some count; bytes_before = p.bytes_before + length part }
 
--- a kind of statements about the parts of a form that are still unread, such as `IsAnswerAt`
+-- a statement about the unread parts of a form, such as `IsAnswerAt`: about where these parts start, and their bytes
 abbrev pub PartsProperty : Type 1
 PartsProperty = PartStart → List (List ℕ) → Type 0
 
