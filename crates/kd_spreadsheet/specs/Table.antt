@@ -57,7 +57,11 @@ pub record TableMeans (options : OptionTexts) (table : List ℕ) (days : List Da
   pub described : AreDaysOfRows options (columns_of head) rows days
   pub some : 0 < length days
 
--- The table is refused: its quotes are wrong, or a column is misnamed, or a row is refused, or no row has a day.
+-- The table is refused for one of these reasons:
+-- - Its quotes are wrong.
+-- - A column is misnamed.
+-- - A row is refused.
+-- - No row has a day. The table may have no rows at all.
 pub data IsRefusedTable (options : OptionTexts) (table : List ℕ) : Type 0 where
   WrongQuotes : is_well_quoted table ≡ false → IsRefusedTable options table
   Misnamed : (head : List (List ℕ)) (rows : List (List (List ℕ))) → AreRows table (head ∷ rows)

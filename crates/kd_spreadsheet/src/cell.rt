@@ -41,7 +41,7 @@ pub enum Cell {
     Bars,
 }
 
-/// Whether each column that the model of `row` needs is in the table or is replaced by an option.
+/// Whether the table has each column that the model of `row` needs. An option, such as `--model`, can replace a column.
 pub fn has_columns(options: &TableOptions<&[u8]>, columns: &Columns, row: &ByteRecord) -> bool
     ensures { result ≡ has_columns (texts_of options.now) columns.now (fields_of row.now) }
 {
@@ -77,7 +77,7 @@ pub fn known_cells(
     }
 }
 
-/// The cells in a row for `model`, except the day's number and the model.
+/// The cells that a day of `model` has besides its number and its model.
 pub fn cells_of(model: Model) -> &'static [Cell]
     ensures { result.now ≡ cells_of model }
 {
@@ -232,7 +232,7 @@ fn has_each_column(options: &TableOptions<&[u8]>, columns: &Columns, cells: &[Ce
     }
 }
 
-/// The cells in a row for a Converter, except the day's number and the model.
+/// The cells that a Converter's day has besides its number and its model.
 static PIN_CELLS: [Cell; 9] = [
     Cell::List,
     Cell::Window,
@@ -245,7 +245,7 @@ static PIN_CELLS: [Cell; 9] = [
     Cell::Bars,
 ];
 
-/// The cells in a row for a rotor machine, except the day's number and the model.
+/// The cells that a rotor machine's day has besides its number and its model.
 static ROTOR_CELLS: [Cell; 6] = [
     Cell::Reflector,
     Cell::Wheels,
