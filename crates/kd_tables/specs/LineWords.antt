@@ -3,7 +3,7 @@
 use Rattle.std.specs.Prelude.{◌≡◌, ◌≢◌, ◌==◌, ℕ, List, ◌∷◌, ◌++◌, All}
 use Rattle.std.specs.List.{slice_split, join_with_byte}
 
--- the words of `line`, which is split at each space; if two spaces follow each other, an empty word is between them
+-- the words of `line`, which is split at each space; between two spaces in a row is an empty word
 abbrev pub words_of : List ℕ → List (List ℕ)
 words_of line = slice_split (λ byte. byte == 32) line
 
@@ -11,7 +11,7 @@ words_of line = slice_split (λ byte. byte == 32) line
 abbrev pub line_of : List (List ℕ) → List ℕ
 line_of words = join_with_byte 32 words
 
--- the text that begins with the line of `words`; after a line feed, `rest` follows
+-- the line of `words`, then a line feed, then `rest`
 abbrev pub line_then : List (List ℕ) → List ℕ → List ℕ
 line_then words rest = line_of words ++ 10 ∷ rest
 

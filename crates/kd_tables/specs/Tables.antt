@@ -48,7 +48,7 @@ is_notch wheel letter = list_any (λ notch. notch == letter) (letters_of (wheel_
 -- Source: the published wirings.
 -- Test: reflectors_are_as_published
 
--- The name and the wiring of each reflector. The wiring: the letters into which the reflector turns A to Z.
+-- The name and the wiring of each reflector. The wiring lists the letters into which the reflector turns A to Z.
 abbrev pub reflector_table : Reflector → List ℕ × List ℕ
 reflector_table reflectors.A = (codes "A", codes "EJMZALYXVBWFCRQUONTSPIKHGD")
 reflector_table reflectors.B = (codes "B", codes "YRUHQSLDPXNGOKMIEBFZCWVJAT")
