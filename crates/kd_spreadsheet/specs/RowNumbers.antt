@@ -56,15 +56,15 @@ abbrev pub StartsRow : List ℕ → Type 0
 StartsRow [] = Unit {0}
 StartsRow (byte ∷ bytes) = IsFalse (ends_line byte)
 
--- For the numbers of rows, `bytes` count as `count` empty rows and then `left`. `left` is at least `count` bytes
--- shorter than `bytes`.
+-- Rows are numbered as if `bytes` were `count` empty rows and then `left`. `left` is at least `count` bytes shorter
+-- than `bytes`.
 pub record AreLineEnds (bytes : List ℕ) (count : ℕ) (left : List ℕ) : Type 0 where
   pub same : (separator number : ℕ) → numbers_from separator (AtStart false) number bytes
       ≡ numbers_from separator (AtStart false) (number + count) left
   pub shorter : count + length left ≤ length bytes
 
--- For the numbers of rows, `bytes` count as one row that isn't empty and then `left`. `left` is empty, or at least two
--- bytes shorter than `bytes`. Or both `bytes` and `left` are empty.
+-- Rows are numbered as if `bytes` were one row that isn't empty and then `left`. `left` is empty, or at least two bytes
+-- shorter than `bytes`. Or both `bytes` and `left` are empty.
 pub data IsRowBefore (separator : ℕ) (bytes left : List ℕ) : Type 0 where
   NoRow : bytes ≡ [] → left ≡ [] → IsRowBefore separator bytes left
   OneRow : ((number : ℕ) → numbers_from separator (AtStart false) number bytes

@@ -35,7 +35,7 @@ impl<'a> Head<'a> {
     ghost use Rattle.kd_spreadsheet.specs.Head.{head_of};
     ghost use Rattle.kd_spreadsheet.specs.Options.{texts_of};
 
-    /// The head of a table whose first row is `names`.
+    /// Makes the `Head` of a table whose first row is `names`.
     pub fn new(
         wording: Wording,
         options: &'a TableOptions<&'a [u8]>,

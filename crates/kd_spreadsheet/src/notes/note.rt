@@ -139,8 +139,8 @@ fn push_cell_name(place: &mut Vec<u8>, head: &Head<'_>, cell: Cell) -> Result<()
     }
 }
 
-/// Appends `bytes`, with `?` for each byte that can't be printed. If `is_long`, also with `?` for each byte outside of
-/// ASCII.
+/// Appends `bytes`, with `?` for each byte that can't be printed. If `is_long` is true, `?` also stands for each byte
+/// outside of ASCII.
 fn push_shown_bytes(note: &mut Vec<u8>, is_long: bool, bytes: &[u8]) -> Result<(), AllocError>
     ensures { IfOk result (λ _. note.new.items
         ≡ note.old.items ++ map (shown_byte is_long) bytes.now) }

@@ -93,8 +93,8 @@ impl Words {
 
     /// Appends the text of a cell to the current line, with `?` for each byte that can't be printed.
     ///
-    /// Of a cell with more than 60 bytes, appends only the first 60 and `...`, also with `?` for each byte outside of
-    /// ASCII.
+    /// Of a cell with more than 60 bytes, appends only the first 60 and `...`. Then `?` also stands for each byte
+    /// outside of ASCII.
     fn add_cell(&mut self, cell: &[u8]) {
         let is_long = cell.len() > SHOWN;
         for byte in cell.iter().take(SHOWN) {
