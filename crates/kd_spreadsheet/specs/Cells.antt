@@ -106,7 +106,7 @@ abbrev pub windows : Option Model → ℕ
 windows (Some model) = by_family (slots_of model) 6 (family_of model)
 windows None = 0
 
--- whether a cell with the text `text`, in a row for `model`, can be read
+-- whether a text can be read as the value of a cell, in a row for `model`
 abbrev pub is_read : Option Model → Cell → List ℕ → Bool
 is_read model cells.Day text = is_some (day_in text)
 is_read model cells.Model text = is_some (model_named text)

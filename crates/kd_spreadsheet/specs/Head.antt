@@ -5,8 +5,8 @@ use Rattle.kd_language.specs.declared.language.Language.{Language}
 use Rattle.kd_spreadsheet.specs.declared.columns.Columns.{Columns}
 use Rattle.kd_spreadsheet.specs.Options.{OptionTexts}
 
--- What is the same for the notes on all rows: the language, the options, the columns, and the table's first row, which
--- has the columns' names.
+-- What is the same for the notes on all rows: the language, the options and the columns. `names` is the table's first
+-- row, which has the columns' names.
 pub record Head : Type 0 where
   pub language : Language
   pub options : OptionTexts

@@ -27,8 +27,8 @@ abbrev pub is_near_column : Cell → List ℕ → Bool
 is_near_column cell name =
     is_near_name name (english_name cell) || is_near_name name (german_name cell) || is_near_name name (short_name cell)
 
--- whether the column at `place` may be meant as the cell's column: it isn't read, and its name nearly equals one of the
--- three names of the cell's column
+-- whether the column at `place` may be meant as the cell's column: it isn't read, and its name nearly equals one of
+-- that column's three names
 unfoldable pub is_meant : Columns → List (List ℕ) → Cell → ℕ → Bool
 is_meant columns head cell place =
     not (is_column_read columns place) && is_near_column cell (cell_at (Some place) head)

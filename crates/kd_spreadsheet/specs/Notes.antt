@@ -145,8 +145,8 @@ pub data TellsCells (options : OptionTexts) (columns : Columns) (head : List (Li
       (flat_map (line_at (cell_place columns head place cell)) words ++ note)
 
 -- The notes on a row: first on columns that the table lacks, then on the row's cells, then on the row as a whole. If
--- the row isn't a day, there is at least one note on the row or its cells, unless the table lacks a column that the row
--- needs.
+-- the row isn't a day, there is at least one note on the row or its cells. The exception: the table lacks a column that
+-- the row needs.
 pub record TellsRow (l : Language) (options : OptionTexts) (columns : Columns) (head : List (List ℕ)) (number : ℕ)
     (row : List (List ℕ)) (note : List ℕ) : Type 0 where
   pub missing : List (List ℕ)
@@ -221,7 +221,7 @@ HasNotesOn l options table (Some faults.NoMemory) notes = Tells notes
 -- ---- Reading row by row. No public contract cites these definitions.
 
 -- `new` is `old`, followed by the notes on a row's cells and on the row as a whole. If the row isn't a day, there is at
--- least one note, unless the table lacks a column that the row needs.
+-- least one note. The exception: the table lacks a column that the row needs.
 pub record TellsPlacedRow (options : OptionTexts) (columns : Columns) (head : List (List ℕ)) (place : List ℕ)
     (row : List (List ℕ)) (old new : List ℕ) : Type 0 where
   pub of_cells : List ℕ

@@ -80,8 +80,8 @@ abbrev pub IsBodyRead : OptionTexts → Columns → List (List (List ℕ)) → L
 IsBodyRead options columns rows days false = AreDaysOfRows options columns rows days
 IsBodyRead options columns rows days true = HasRefusedRow options columns rows
 
--- A table with the first row `head` and the other rows `rows` is refused for one of three reasons: a column is
--- misnamed, a row is refused, or no row has a day.
+-- A table with the first row `head` and the other rows `rows` is refused. Either a column is misnamed, or a row is
+-- refused, or no row has a day.
 abbrev pub AreRefusedRows : OptionTexts → List (List ℕ) → List (List (List ℕ)) → Type 0
 AreRefusedRows options head rows = (is_misnamed (columns_of head) head ≡ true)
     ⊎ (HasRefusedRow options (columns_of head) rows ⊎ AreDaysOfRows options (columns_of head) rows [])

@@ -153,7 +153,7 @@ pub fn is_optional(cell: Cell) -> bool
     matches!(cell, Cell::Groups)
 }
 
-/// Whether `cell` with the text `text`, in a row for `model`, can be read.
+/// Whether `text` can be read as the value of `cell`, in a row for `model`.
 pub fn is_read(model: Option<Model>, cell: Cell, text: &[u8]) -> bool
     ensures { result ≡ is_read model cell text.now }
 {
@@ -212,14 +212,14 @@ pub fn slots(model: Option<Model>) -> usize
     }
 }
 
-/// Whether the table has the column of `cell`, an option replaces the column, or the column is optional.
+/// Whether the table has the column of `cell`, or doesn't need it: the column is optional, or an option replaces it.
 fn has_column(options: &TableOptions<&[u8]>, columns: &Columns, cell: Cell) -> bool
     ensures { result ≡ (is_optional cell || has_text (texts_of options.now) columns.now cell) }
 {
     is_optional(cell) || has_text(options, columns, cell)
 }
 
-/// Whether, for each of `cells`, the table has the column, an option replaces the column, or the column is optional.
+/// Whether the table has the columns of all `cells`, or doesn't need them: they are optional, or options replace them.
 fn has_each_column(options: &TableOptions<&[u8]>, columns: &Columns, cells: &[Cell]) -> bool
     ensures { result ≡ list_all
         (λ cell. is_optional cell || has_text (texts_of options.now) columns.now cell) cells.now }

@@ -107,7 +107,7 @@ fn names_reflector(reflector: Reflector, cell: &[u8]) -> bool
     is_named(reflector.text().as_str(), cell) || is_named(long_name(reflector), cell)
 }
 
-/// The name of a reflector, after `UKW` (*Umkehrwalze*).
+/// The name of `reflector` with `UKW` (*Umkehrwalze*) before it, such as `UKWB`.
 fn long_name(reflector: Reflector) -> &'static str
     ensures name { result.now ≡ codes "UKW" ++ reflector_text reflector }
     ensures short { length result.now ≤ 32 }

@@ -97,8 +97,9 @@ fn lacks_near(columns: &Columns, head: &ByteRecord, cell: Cell) -> bool
     column_of(columns, cell).is_none() && near_column(columns, head, cell).is_some()
 }
 
-/// Whether the column at `place` may be meant as the column of `cell`: it isn't read, and its name nearly equals one of
-/// the three names of that column.
+/// Whether the column at `place` may be meant as the column of `cell`.
+///
+/// Such a column isn't read, and its name nearly equals one of the three names of the column of `cell`.
 #[tactic(auto, unfolding(crate::specs::NearNames::is_meant))]
 fn is_meant(columns: &Columns, head: &ByteRecord, cell: Cell, place: usize) -> bool
     ensures { result ≡ is_meant columns.now (fields_of head.now) cell place }

@@ -8,7 +8,7 @@ use itoa::Buffer;
 use kd_language::template::cut;
 use kd_language::{Language, Text};
 
-/// A value for a sign `~` in a line of words.
+/// A value that replaces a sign `~` in a line of words.
 #[derive(Clone, Copy)]
 pub enum Value<'a> {
     /// The text of a cell, or a part of it.
