@@ -1,5 +1,6 @@
--- How standings are read from a machine file, and readings from a key sheet. A bar's standing has the places of its two
--- lugs. A bar's reading has the numbers of the wheels at these places; the number is 0 at a place without a wheel.
+-- How bars are read: their standings from a machine file, and their readings from a key sheet. A standing such as
+-- `1-0R` names the places of a bar's two lugs. A reading such as `0-1` has the numbers of the wheels at these places;
+-- the number is 0 at a place without a wheel.
 -- Test: tests/cases/desk-files.toml
 use Rattle.std.specs.Prelude.{ℕ, nat_eq, ◌+◌, ◌-◌, ◌==◌, ◌&&◌, ◌||◌, nat_le, not, List, [], ◌∷◌, length, Option}
 use Rattle.std.specs.Prelude.{Some, None, Result, ok_or, if◌then◌else◌}
@@ -13,7 +14,8 @@ use Rattle.kd_sheet.specs.declared.key.Key.TheVariants as keys
 use Rattle.kd_sheet.specs.declared.fault.SheetFault.{SheetFault}
 use Rattle.kd_sheet.specs.declared.fault.SheetFault.TheVariants.{BadRow}
 
--- the value that `parse` gives for the text `item`, or the fault `BadRow` with the item's number, counted from 1
+-- The value that `parse` reads from the text `item`. If `parse` can't read it, the fault is `BadRow` with the item's
+-- number, counted from 1.
 abbrev pub or_bad_row : {A : Type 0} → (List ℕ → Option A) → List A → Data → Result A SheetFault
 or_bad_row parse earlier item = ok_or (from_text parse item) (BadRow (length earlier + 1))
 
@@ -21,8 +23,8 @@ unfoldable pub bars_in : Members → Result (List (Place × Place)) SheetFault
 bars_in table =
     value_at keys.Bars table >>= read_array keys.Bars (nat_eq 27) (or_bad_row (find_by_text standing_text standings))
 
--- the two digits of a row's text, the smaller first: `3-0` gives 0 and 3. Both digits are from 0 to 6, and they differ
--- or both are 0.
+-- The reading that a row's text means, the smaller number first: `3-0` and `0-3` mean 0 and 3. Both digits are from 0
+-- to 6. They differ, or both are 0.
 unfoldable pub reading_of_text : List ℕ → Option (ℕ × ℕ)
 reading_of_text (one ∷ dash ∷ other ∷ []) =
     if list_all (λ x. nat_le 48 x && nat_le x 54) (one ∷ other ∷ []) && dash == 45 && (not (one == other) || one == 48)

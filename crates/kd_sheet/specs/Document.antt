@@ -16,8 +16,8 @@ use Rattle.kd_sheet.specs.declared.key.Key.{Key}
 use Rattle.kd_sheet.specs.declared.fault.SheetFault.{SheetFault}
 use Rattle.kd_sheet.specs.declared.fault.SheetFault.TheVariants.{NotToml, Missing, BadValue}
 
--- the values of the items, in order, or the first fault. For each item, `parse` gets the values of the earlier items,
--- and then the item.
+-- The values that `parse` reads from a list of items, or the first fault. For each item, `parse` gets the values of the
+-- items before it, and the item itself.
 abbrev pub read_items : {A : Type 0} → (List A → Data → Result A SheetFault) → List Data → Result (List A) SheetFault
 read_items parse [] = Ok []
 read_items parse (first ∷ rest) = do
@@ -31,8 +31,8 @@ document_of bytes = if is_utf8 bytes then ok_or (parse_document bytes) NotToml e
 abbrev pub value_at : Key → Members → Result Data SheetFault
 value_at key table = ok_or (get_member (key_name key) table) (Missing key)
 
--- the result of `parse` for the value at `key`. It is the fault `Missing` if the key is absent, and the fault
--- `BadValue` if `parse` gives `None`.
+-- The value that `parse` reads at `key`. The fault is `Missing` if the key is absent, and `BadValue` if `parse` gives
+-- `None`.
 abbrev pub read_at : {A : Type 0} → Key → (Data → Option A) → Members → Result A SheetFault
 read_at key parse table = value_at key table >>= (λ value. ok_or (parse value) (BadValue key))
 
@@ -46,7 +46,8 @@ items_list (item first rest) = first ∷ items_list rest
 abbrev pub as_items : Data → Option (List Data)
 as_items value = option_map items_list (as_array value)
 
--- the values that `parse` gives for the items of the array `value`; the number of items must pass the test `fits`
+-- The values that `parse` reads from the items of the array `value`, or the first fault. The fault is `BadValue` if
+-- `value` isn't an array, or if `fits` is false for the number of items.
 abbrev pub read_array : {A : Type 0} → Key → (ℕ → Bool) → (List A → Data → Result A SheetFault) → Data
     → Result (List A) SheetFault
 read_array key fits parse value = do
@@ -56,6 +57,6 @@ read_array key fits parse value = do
 
 -- ---- What inner functions answer. No public contract cites this definition.
 
--- the result `answer`, with the function `view` applied to its value; a fault stays as it is
+-- the result `answer`, but with `view` applied to the value if there is one; a fault stays as it is
 abbrev pub result_map : {A B : Type 0} → (A → B) → Result A SheetFault → Result B SheetFault
 result_map view answer = result_map_both view (λ fault. fault) answer

@@ -29,8 +29,8 @@ WrittenSheetsAreReadBack = (day : Day) (days : List Day) → AreSheetDays [] (da
 abbrev pub LegalDaysAreDescribed : Type 0
 LegalDaysAreDescribed = (day : Day) → IsLegalDay day ↔ ((entry : Data) × (day_for [] entry ≡ Ok day))
 
--- Suppose that the entries of a key sheet describe `days` without a fault. Then the month's day `number` is the day
--- that the entry for day `number` describes.
+-- Suppose that a key sheet is read without a fault. Then the sheet's day `number` is `day` exactly if `day` has this
+-- number, and one of the sheet's entries describes `day`.
 abbrev pub DaysAreTheEntries : Type 0
 DaysAreTheEntries = (entries : List Data) (days : List Day) (number : ℕ) (day : Day)
     → read_items day_for entries ≡ Ok days

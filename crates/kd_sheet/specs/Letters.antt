@@ -9,7 +9,7 @@ use Rattle.kd_sheet.specs.Document.{read_at, from_text}
 use Rattle.kd_sheet.specs.declared.key.Key.{Key}
 use Rattle.kd_sheet.specs.declared.fault.SheetFault.{SheetFault}
 
--- the letters of `text`, if each byte is a capital letter and the number of letters passes the test `fits`
+-- The letters of `text`. `None` if a byte isn't a capital letter, or if `fits` is false for the number of letters.
 abbrev pub capital_letters : (ℕ → Bool) → List ℕ → Option (List ℕ)
 capital_letters fits text = if fits (length text) && list_all is_capital text then Some (letters_of text) else None
 

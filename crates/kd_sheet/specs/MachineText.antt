@@ -28,11 +28,11 @@ quoted_text text = codes "\"" ++ text ++ codes "\""
 abbrev pub array_text : List (List ℕ) → List ℕ
 array_text texts = codes "[" ++ join_by quoted_text (codes ", ") texts ++ codes "]"
 
--- the line that gives `key` the value `value`
+-- a line of a file: the name of `key`, an equals sign between spaces, and `value`
 abbrev pub key_line : Key → List ℕ → List ℕ
 key_line key value = key_name key ++ codes " = " ++ value ++ codes "\n"
 
--- the version in which machines of `model` are written: the lowest version that has this model
+-- the version of a machine file with a machine of `model`: the lowest version that has this model
 abbrev pub file_version : Model → ℕ
 file_version EnigmaI = 1
 file_version M3 = 1

@@ -11,7 +11,7 @@ abbrev pub number_up_to : ℕ → Data → Option ℕ
 number_up_to last (integer (pos number)) = if nat_le 1 number && nat_le number last then Some number else None
 number_up_to last _ = None
 
--- the letters that `items` mean, if `items` are exactly `count` numbers from 1 (A) to 26 (Z)
+-- the letters that the numbers in `items` mean, if there are exactly `count` numbers, each from 1 (A) to 26 (Z)
 abbrev pub letters_of_numbers : ℕ → List Data → Option (List ℕ)
 letters_of_numbers count items =
     if length items == count && list_all (λ item. is_some (number_up_to 26 item)) items

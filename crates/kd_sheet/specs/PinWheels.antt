@@ -16,7 +16,8 @@ use Rattle.kd_sheet.specs.declared.key.Key.TheVariants as keys
 use Rattle.kd_sheet.specs.declared.fault.SheetFault.{SheetFault}
 use Rattle.kd_sheet.specs.declared.fault.SheetFault.TheVariants.{BadValue}
 
--- the letters that the six wheels show, from wheel 1 to wheel 6: the letters of the text at `key`
+-- The letters that the six wheels show, from wheel 1 to wheel 6, read from the text at `key`. Each letter must be on
+-- its wheel.
 unfoldable pub shown_letters_in : Key → Members → Result (List ℕ) SheetFault
 shown_letters_in key table = do
   letters ← letters_at key 6 table
@@ -30,7 +31,8 @@ pins_of_text ring text =
     if list_all (has_letter (letters_text ring)) text && are_new_and_distinct text []
     then Some (map (has_letter text) (letters_text ring)) else None
 
--- the pins that an item describes; the list `earlier` has the pins of the wheels before the item's wheel
+-- The pins of a wheel, read from the wheel's item. The list `earlier` has the pins of all wheels before this wheel, so
+-- its length tells which wheel this is.
 abbrev pub pins_for : List (List Bool) → Data → Result (List Bool) SheetFault
 pins_for earlier item = ok_or (from_text (pins_of_text (ring_of (length earlier + 1))) item) (BadValue keys.Pins)
 

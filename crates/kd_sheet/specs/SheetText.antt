@@ -19,7 +19,7 @@ section_gap started = if started then codes "\n" else []
 abbrev pub section_text : Bool → List (List ℕ) → List ℕ
 section_text started lines = section_gap started ++ codes "[[day]]\n" ++ concat lines
 
--- the sections of several days; the list has the lines of each day
+-- the sections of several days, made from the lines of each day
 abbrev pub sections_text : Bool → List (List (List ℕ)) → List ℕ
 sections_text started [] = []
 sections_text started (lines ∷ days) = section_text started lines ++ sections_text true days
@@ -68,8 +68,8 @@ day_lines (Pin s) = pin_day_lines s
 unfoldable pub sheet_text : List Day → List ℕ
 sheet_text days = sections_text false (map day_lines days)
 
--- Each of `days` is legal, and its number differs from the numbers of all days before it. The days `earlier` come
--- before `days`.
+-- Each of `days` is legal, and its number is new: neither a day before it in `days` nor a day in `earlier` has this
+-- number.
 abbrev pub AreSheetDays : List Day → List Day → Type 0
 AreSheetDays earlier [] = ⊤
 AreSheetDays earlier (day ∷ days) =

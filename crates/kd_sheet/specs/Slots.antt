@@ -17,8 +17,10 @@ use Rattle.kd_sheet.specs.declared.key.Key.TheVariants as keys
 use Rattle.kd_sheet.specs.declared.fault.SheetFault.{SheetFault}
 use Rattle.kd_sheet.specs.declared.fault.SheetFault.TheVariants.{BadValue, WheelTwice, WheelNotAllowed}
 
--- The wheel that `item` names, for the next slot after `slots`. The model must allow the wheel there, and no slot of
--- `slots` may hold it. If `item` names a wheel that the model lacks, the fault is `WheelNotAllowed`, not `BadValue`.
+-- The wheel that `item` names for a slot, or the first fault. `slots` are the slots to the left of this slot.
+-- - `BadValue`: `item` names no wheel.
+-- - `WheelNotAllowed`: the model doesn't allow the wheel in this slot, or doesn't have the wheel at all.
+-- - `WheelTwice`: one of `slots` has the wheel.
 unfoldable pub wheel_for : Key → Model → List (Option Wheel) → Data → Result Wheel SheetFault
 wheel_for key model slots item = do
   wheel ← ok_or (from_text (find_by_text wheel_text (box_of M4)) item) (BadValue key)
@@ -26,7 +28,8 @@ wheel_for key model slots item = do
   demand (not (list_any (λ slot. option_map_or (same_wheel wheel) slot false) slots)) WheelTwice
   Ok wheel
 
--- the content of the next slot after `slots`: the wheel that `item` names. In a machine file, `""` means an empty slot.
+-- What a slot has: the wheel that `item` names. In a machine file, the item `""` means an empty slot. `slots` are the
+-- slots to the left of this slot.
 unfoldable pub slot_for : Key → Model → List (Option Wheel) → Data → Result (Option Wheel) SheetFault
 slot_for keys.Slots model slots (string []) = Ok None
 slot_for key model slots item = wheel_for key model slots item >>= (λ wheel. Ok (Some wheel))

@@ -41,7 +41,7 @@ pub enum SheetFault {
 }
 
 impl SheetFault {
-    /// The refusal's number and name, followed by the variant's key or number, if it has one.
+    /// The refusal's number and name, then the fault's key or number if there is one, as in `20 Missing rings`.
     pub fn text(&self) -> RefusalText
         ensures { result.bytes ≡ sheet_fault_text self.now }
     {

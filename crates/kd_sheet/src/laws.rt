@@ -19,7 +19,7 @@ pub fn written_sheets_are_read_back()
 
 /// A day is legal exactly if a key sheet with only one entry can describe this day.
 ///
-/// A sheet's day `number` is the day that the sheet's entry for this number describes.
+/// If a key sheet is read without a fault, its day `number` is the day that its entry for this number describes.
 pub fn days_are_the_entries()
     ensures legal { LegalDaysAreDescribed }
     ensures sheet { DaysAreTheEntries }

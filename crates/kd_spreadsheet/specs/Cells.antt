@@ -63,7 +63,7 @@ pin_cells =
     cells.List ∷ cells.Window ∷ cells.Pins1 ∷ cells.Pins2 ∷ cells.Pins3 ∷ cells.Pins4 ∷ cells.Pins5 ∷ cells.Pins6
     ∷ cells.Bars ∷ []
 
--- the cells in a row for `model`, except the day's number and the model
+-- the cells that a day of `model` has besides its number and its model
 abbrev pub cells_of : Model → List Cell
 cells_of model = by_family rotor_cells pin_cells (family_of model)
 
@@ -80,7 +80,7 @@ abbrev pub is_optional : Cell → Bool
 is_optional cells.Groups = true
 is_optional cell = false
 
--- whether each column that the row's model needs is in the table or is replaced by an option
+-- whether the table has each column that the row's model needs; an option, such as `--model`, can replace a column
 abbrev pub has_columns : OptionTexts → Columns → List (List ℕ) → Bool
 has_columns options columns row =
     list_all (λ cell. is_optional cell || has_text options columns cell) (row_cells (row_model options columns row))
@@ -106,7 +106,7 @@ abbrev pub windows : Option Model → ℕ
 windows (Some model) = by_family (slots_of model) 6 (family_of model)
 windows None = 0
 
--- whether a cell with the text `text`, in a row for `model`, can be read
+-- whether a text can be read as the value of a cell, in a row for `model`
 abbrev pub is_read : Option Model → Cell → List ℕ → Bool
 is_read model cells.Day text = is_some (day_in text)
 is_read model cells.Model text = is_some (model_named text)
@@ -125,7 +125,8 @@ is_read model cells.Pins5 text = are_pins 5 text
 is_read model cells.Pins6 text = are_pins 6 text
 is_read model cells.Bars text = is_some (readings_in text >>= exactly 27)
 
--- whether the cell's text can't be read; false unless the table has the cell's column, or the cell's option isn't blank
+-- Whether the text of `cell` in `row` can't be read. False if the table lacks the cell's column, and no option, such as
+-- `--model`, replaces it.
 abbrev pub is_faulty : OptionTexts → Columns → List (List ℕ) → Cell → Bool
 is_faulty options columns row cell =
     has_text options columns cell

@@ -1,11 +1,12 @@
--- `Head`: the options, the columns and the first row of a table, for the notes on its rows. `PlacedRow`: a row with the
+-- What the notes on a table's rows are made from: `Head` is the same for all rows, and `PlacedRow` is one row with the
 -- words for its place. No public contract cites these definitions.
 use Rattle.std.specs.Prelude.{ℕ, List}
 use Rattle.kd_language.specs.declared.language.Language.{Language}
 use Rattle.kd_spreadsheet.specs.declared.columns.Columns.{Columns}
 use Rattle.kd_spreadsheet.specs.Options.{OptionTexts}
 
--- The notes' language, the options, the columns, and the table's first row, which has the columns' names.
+-- What is the same for the notes on all rows: the language, the options and the columns. `names` is the table's first
+-- row, which has the columns' names.
 pub record Head : Type 0 where
   pub language : Language
   pub options : OptionTexts
@@ -16,7 +17,8 @@ abbrev pub head_of : Language → OptionTexts → Columns → List (List ℕ) �
 head_of language options columns names =
     record { language = language; options = options; columns = columns; names = names }
 
--- A row: its cells, and the words for its place. Each line about the row begins with these words.
+-- A row: its cells, and the words for its place, such as `row 5 (day 3), `. Each line about the row begins with these
+-- words.
 pub record PlacedRow : Type 0 where
   pub place : List ℕ
   pub cells : List (List ℕ)

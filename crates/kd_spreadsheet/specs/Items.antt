@@ -19,8 +19,8 @@ is_blank cell = list_all is_gap cell
 abbrev pub normal : ℕ → ℕ
 normal byte = if is_gap byte then 32 else capital byte
 
--- How a cell is split into words. `keeps` says which bytes stay unchanged; all other bytes get
--- their normal form. `alone` says which bytes are words by themselves.
+-- How a cell is split into words. `keeps` says which bytes stay as they are; all others get their normal form. `alone`
+-- says which bytes are words by themselves.
 pub record Bytes : Type 0 where
   pub keeps : ℕ → Bool
   pub alone : ℕ → Bool
@@ -83,7 +83,7 @@ abbrev pub numbered_letter : Option ℕ → Option ℕ
 numbered_letter number =
     option_and_then (λ n. if nat_le 1 n && nat_le n 26 then Some (n - 1) else None) number
 
--- The letter that a word means: the letter itself, or a number from 1 (A) to 26 (Z).
+-- The letter that a word means. The word is a capital letter, or a number from 1 (A) to 26 (Z).
 abbrev pub ring_of_word : List ℕ → Option ℕ
 ring_of_word (byte ∷ []) = if is_capital_letter byte then Some (byte - 65) else numbered_letter (number_of (byte ∷ []))
 ring_of_word word = numbered_letter (number_of word)

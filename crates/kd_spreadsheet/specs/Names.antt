@@ -42,13 +42,14 @@ abbrev pub is_quote : List ℕ → Bool
 is_quote (first ∷ second ∷ third ∷ []) = first == 0xE2 && second == 0x80 && (nat_le 0x98 third && nat_le third 0x9F)
 is_quote _ = false
 
--- the cell without its pair of typographic quotes, if it has such a pair
+-- the cell without the two typographic quotes around its text, if it has both
 abbrev pub unquoted : List ℕ → List ℕ
 unquoted cell =
     if nat_le 6 (length cell) && is_quote (take 3 cell) && is_quote (drop (length cell - 3) cell)
     then take (length cell - 6) (drop 3 cell) else cell
 
--- whether the cell has at most 32 bytes, and its text is the name `name`
+-- Whether the text of `cell` is `name`. Gaps, typographic quotes around the text, and capital or small letters make no
+-- difference. A cell with more than 32 bytes is no name.
 unfoldable pub is_named : List ℕ → List ℕ → Bool
 is_named name cell = nat_le (length cell) 32 && bytes_eq (plain (unquoted cell)) (plain name)
 

@@ -17,33 +17,31 @@ all_cells =
     cells.Day ∷ cells.Model ∷ cells.Reflector ∷ cells.Wheels ∷ cells.Rings ∷ cells.Window ∷ cells.Plugs ∷ cells.Groups
     ∷ cells.List ∷ cells.Pins1 ∷ cells.Pins2 ∷ cells.Pins3 ∷ cells.Pins4 ∷ cells.Pins5 ∷ cells.Pins6 ∷ cells.Bars ∷ []
 
--- whether `name` and `known` differ in at most two successive letters; if `known` has fewer than five letters, in at
--- most one letter
+-- Whether `name` nearly equals `known`: they differ in one stretch of at most two letters, as `wheles` and `wheels` do.
+-- If `known` has fewer than five letters, they differ in at most one letter. Capital and small letters count as equal.
 abbrev pub is_near_name : List ℕ → List ℕ → Bool
 is_near_name name known = is_near (if nat_lt (length known) 5 then 1 else 2) name known
 
--- whether a name is nearly equal to one of the three names of the cell's column
+-- whether `name` nearly equals one of the three names of the cell's column
 abbrev pub is_near_column : Cell → List ℕ → Bool
 is_near_column cell name =
     is_near_name name (english_name cell) || is_near_name name (german_name cell) || is_near_name name (short_name cell)
 
--- whether the column at `place` isn't read, but its name is nearly one of the names for the cell's column
+-- whether the column at `place` may be meant as the cell's column: it isn't read, and its name nearly equals one of
+-- that column's three names
 unfoldable pub is_meant : Columns → List (List ℕ) → Cell → ℕ → Bool
 is_meant columns head cell place =
     not (is_column_read columns place) && is_near_column cell (cell_at (Some place) head)
 
--- the first unread column whose name is nearly one of the names for the cell's column; only the
--- `count` columns from `place` on are searched
+-- the first column that may be meant as the cell's column; only the `count` columns from `place` on are searched
 unfoldable pub near_from : Columns → List (List ℕ) → Cell → ℕ → ℕ → Option ℕ
 near_from columns head cell place count = find (is_meant columns head cell) (range_with_len place count)
 
--- the first unread column whose name is nearly one of the names for the cell's column; only the
--- first 64 columns are searched
+-- the first column that may be meant as the cell's column; only the first 64 columns are searched
 abbrev pub near_column : Columns → List (List ℕ) → Cell → Option ℕ
 near_column columns head cell = near_from columns head cell 0 64
 
--- whether the cell's column is misnamed: the table lacks this column, and an unread column's name is nearly one of the
--- missing column's names
+-- whether the cell's column is misnamed: the table lacks this column, but an unread column may be meant as this column
 abbrev pub lacks_near : Columns → List (List ℕ) → Cell → Bool
 lacks_near columns head cell = not (is_some (column_of columns cell)) && is_some (near_column columns head cell)
 

@@ -1,7 +1,9 @@
 -- The notes on a table, on standard error. The notes on unread columns, and the warnings about days with few pairs or
--- groups, are defined to the byte. The notes on a refused table have a line for each cell that can't be read. They also
--- have a line for each row that isn't a day, unless the table lacks a column that the row needs. Each of these lines
--- begins with the place of the cell or the row. No definition gives the words after the place, or their language.
+-- groups, are defined to the byte.
+--
+-- The notes on a refused table have at least one line for each cell that can't be read. They also have one for each row
+-- that is neither blank nor a day, unless the table lacks a column that the row needs. Each of these lines begins with
+-- the place of the cell or the row. The words after the place aren't defined, nor is their language.
 -- Test: tests/cases/curator-sheet.toml
 use Rattle.std.specs.Prelude.{◌≡◌, ◌<◌, ◌+◌, ◌==◌, ◌&&◌, ◌||◌, codes, decimal, nat_lt, ℕ, Bool, true, false, List, [], ◌∷◌, ◌++◌, drop, flat_map, length, map, slice_get, take, Option, Some, None, IfSome, IsTrue, if◌then◌else◌}
 use Rattle.std.specs.Prelude.{Result, Ok, Err}
@@ -34,8 +36,8 @@ use Rattle.kd_spreadsheet.specs.declared.texts.TheConstants as texts
 
 -- ---- The port of the notes.
 
--- The call only appended text to the port of the notes. If the port had failed before the call, it has failed after the
--- call, too.
+-- The call only appended text to the notes. If the port of the notes had failed before the call, it still counts as
+-- failed.
 pub record Tells (notes : Port) : Type 0 where
   pub text : List ℕ
   pub written : Appends notes.had notes.has text
@@ -48,8 +50,8 @@ pub record TellsText (notes : Port) (text : List ℕ) : Type 0 where
 
 -- ---- What is shown of a cell: of a cell with more than 60 bytes, only the start.
 
--- The byte that a note shows for a byte of a cell: `?` if the byte can't be printed. In a long cell, `?` also stands
--- for each byte outside of ASCII.
+-- The byte that a note shows for a byte of a cell: `?` if the byte can't be printed. In a cell with more than 60 bytes
+-- (`is_long`), `?` also stands for each byte outside of ASCII.
 abbrev pub shown_byte : Bool → ℕ → ℕ
 shown_byte is_long byte = if nat_lt byte 32 || byte == 127 || is_long && nat_lt 127 byte then 63 else byte
 
@@ -88,9 +90,9 @@ HasHead table head = (rows : List (List (List ℕ))) × AreRows table (head ∷ 
 
 -- ---- A table that means days.
 
--- The note on a table that isn't refused, with the first row `head` and the days `days`. This note has the notes on
--- unread columns. It also has a warning about each day that has fewer pairs, or fewer groups, than another day of its
--- model.
+-- The note on a table that isn't refused. The table has the first row `head` and the days `days`. The note begins with
+-- the notes on unread columns. Then it warns about each day that has fewer pairs, or fewer groups, than another day of
+-- its model.
 unfoldable pub taken_note : Language → List (List ℕ) → List Day → List ℕ
 taken_note l head days = unread_note l head ++ few_lines l (text_in l texts.WARNING) (map counts_of days)
 
@@ -109,7 +111,7 @@ TellsTaken l options table notes =
 
 -- ---- Faults.
 
--- the words for a row's place: the row's number and, if the row's day is known, this day
+-- the words for a row's place, such as `row 5, ` or, if the row's day is known, `row 5 (day 3), `
 abbrev pub row_place : Language → ℕ → Option ℕ → List ℕ
 row_place l number None = filled (text_in l texts.ROW) (decimal number ∷ [])
 row_place l number (Some day) = filled (text_in l texts.ROW_AND_DAY) (decimal number ∷ decimal day ∷ [])
@@ -121,13 +123,13 @@ option_name cells.Reflector = codes "--reflector"
 option_name cells.Window = codes "--window"
 option_name cell = []
 
--- the name of a cell's column in the table. If the table lacks the column, the name of the cell's option, such as
--- `--model`.
+-- the name that the table has for a cell's column; if the table lacks the column, the cell's option, such as `--model`
 abbrev pub cell_name : Columns → List (List ℕ) → Cell → List ℕ
 cell_name columns head cell =
     option_map_or (λ place. shown (cell_at (Some place) head)) (column_of columns cell) (option_name cell)
 
--- the words for the place of `cell`: the words `row` for the row's place, and then the name of the cell's column
+-- the words for the place of `cell`, such as `row 5 (day 3), rings: `; they begin with `row`, the words for the row's
+-- place
 abbrev pub cell_place : Columns → List (List ℕ) → List ℕ → Cell → List ℕ
 cell_place columns head row cell = row ++ cell_name columns head cell ++ codes ": "
 
@@ -142,9 +144,9 @@ pub data TellsCells (options : OptionTexts) (columns : Columns) (head : List (Li
       → TellsCells options columns head place row (cell ∷ rest)
       (flat_map (line_at (cell_place columns head place cell)) words ++ note)
 
--- The notes on a row: first on columns that the table lacks, then on the row's cells, then on the row as a whole.
--- Suppose that the row isn't a day, and the table has each column that the row needs. Then there is at least one note
--- on the row or on its cells.
+-- The notes on a row: first on columns that the table lacks, then on the row's cells, then on the row as a whole. If
+-- the row isn't a day, there is at least one note on the row or its cells. The exception: the table lacks a column that
+-- the row needs.
 pub record TellsRow (l : Language) (options : OptionTexts) (columns : Columns) (head : List (List ℕ)) (number : ℕ)
     (row : List (List ℕ)) (note : List ℕ) : Type 0 where
   pub missing : List (List ℕ)
@@ -207,10 +209,10 @@ table_fault (Ok done) = None
 table_fault (Err Device) = None
 table_fault (Err (Unwritten fault)) = Some fault
 
--- The notes on `table`, in language `l`. The argument before the last says why no key sheet is made from the table.
--- - `None`: the table means days, and the note on such a table was written.
+-- Which notes on `table` were written. The fourth argument says why no key sheet is made from the table:
+-- - `None`: the table means days. The note on such a table was written in language `l`.
 -- - `Refused`: the notes on a refused table were written. The words after a place may be in any language.
--- - `NoMemory`: memory ran out, and notes may be missing. The notes may be in any language.
+-- - `NoMemory`: memory ran out. Notes may be missing, or in another language than `l`.
 abbrev pub HasNotesOn : Language → OptionTexts → List ℕ → Option SpreadsheetFault → Port → Type 0
 HasNotesOn l options table None notes = TellsTaken l options table notes
 HasNotesOn l options table (Some faults.Refused) notes = TellsRefused l options table notes
@@ -218,8 +220,8 @@ HasNotesOn l options table (Some faults.NoMemory) notes = Tells notes
 
 -- ---- Reading row by row. No public contract cites these definitions.
 
--- `new` is `old`, followed by the notes on a row's cells and on the row as a whole. If the row isn't a day, and the
--- table has each column that the row needs, there is at least one note.
+-- `new` is `old`, followed by the notes on a row's cells and on the row as a whole. If the row isn't a day, there is at
+-- least one note. The exception: the table lacks a column that the row needs.
 pub record TellsPlacedRow (options : OptionTexts) (columns : Columns) (head : List (List ℕ)) (place : List ℕ)
     (row : List (List ℕ)) (old new : List ℕ) : Type 0 where
   pub of_cells : List ℕ

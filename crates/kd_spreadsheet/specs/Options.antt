@@ -8,7 +8,7 @@ use Rattle.kd_spreadsheet.specs.declared.options.TableOptions.{TableOptions}
 abbrev pub OptionTexts : Type 0
 OptionTexts = TableOptions (List ℕ)
 
--- the options, with plain texts in place of borrowed texts
+-- the texts of `options`: the code has references to texts, and the definitions have the texts themselves
 abbrev pub texts_of : TableOptions (Bor (List ℕ)) → OptionTexts
 texts_of options =
     record { model = options.model.now; reflector = options.reflector.now; window = options.window.now }

@@ -1,6 +1,6 @@
--- The numbers of a table's rows, as a spreadsheet counts them from 1. CR, LF or both end a row, but not within a quoted
--- cell. Empty rows are counted.
--- Code: the numbers are found row by row, and empty rows are skipped.
+-- The numbers of a table's rows, counted from 1 as in a spreadsheet. CR, LF or both end a row, but not within a quoted
+-- cell. An empty row counts, but its number is left out here.
+-- Code: finds the numbers row by row, and passes over empty rows.
 -- Test: tests/cases/curator-sheet.toml
 use Rattle.std.specs.Prelude.{◌≡◌, ◌⊎◌, ◌≤◌, ℕ, ◌+◌, ◌-◌, ◌^◌, ◌==◌, ◌&&◌, ◌||◌, Bool, false, IsFalse, List, [], ◌∷◌, length}
 use Rattle.std.specs.Prelude.{if◌then◌else◌}
@@ -14,14 +14,15 @@ use Rattle.kd_spreadsheet.specs.declared.quotes.Quoting.TheVariants.{CellStart}
 abbrev pub ends_line : ℕ → Bool
 ends_line byte = byte == 13 || byte == 10
 
--- A place between two bytes of a table. `AtStart` is the start of a row, and says whether a CR stands right before it.
--- `Within` is a place within a row.
+-- A place between two bytes of a table:
+-- - `AtStart`: a row starts here; its value is true if the byte before is a CR.
+-- - `Within`: the place is in a row; its value is the state of quotes here.
 pub data RowPlace : Type 0 where
   AtStart : Bool → RowPlace
   Within : Quoting → RowPlace
 
--- The numbers of the rows that start in the given bytes of a table. Empty rows are left out. The first byte is in row
--- `number`.
+-- The numbers of the rows that start in the given bytes, the rest of a table. Empty rows are left out. The first of
+-- these bytes is in row `number`.
 abbrev pub numbers_from : ℕ → RowPlace → ℕ → List ℕ → List ℕ
 numbers_from separator place number [] = []
 numbers_from separator (AtStart after_return) number (byte ∷ bytes) =
@@ -42,11 +43,11 @@ row_numbers table = numbers_from (separator_of table) (AtStart false) 1 (strip_b
 abbrev pub numbers_left : RowNumbers → List ℕ
 numbers_left rows = numbers_from rows.separator (AtStart false) rows.number rows.rest.now
 
--- No bytes are left, or the numbers of all remaining rows fit into 64 bits.
+-- No bytes are left, or so few that all numbers of their rows fit into 64 bits.
 abbrev pub IsCounted : RowNumbers → Type 0
 IsCounted rows = (rows.rest.now ≡ []) ⊎ (rows.number + length rows.rest.now ≤ 2 ^ 64 - 2)
 
--- The list `before` begins with `number`, and `after` is the rest of `before`; or both lists are empty.
+-- `number` is the first item of `before`, and `after` has all other items of `before`. Or both lists are empty.
 abbrev pub IsNext : List ℕ → ℕ → List ℕ → Type 0
 IsNext before number after = (before ≡ number ∷ after) ⊎ ((before ≡ []) × (after ≡ []))
 
@@ -55,13 +56,15 @@ abbrev pub StartsRow : List ℕ → Type 0
 StartsRow [] = Unit {0}
 StartsRow (byte ∷ bytes) = IsFalse (ends_line byte)
 
--- The bytes are `count` line ends, and then the bytes `left`.
+-- Rows are numbered as if `bytes` were `count` empty rows and then `left`. `left` is at least `count` bytes shorter
+-- than `bytes`.
 pub record AreLineEnds (bytes : List ℕ) (count : ℕ) (left : List ℕ) : Type 0 where
   pub same : (separator number : ℕ) → numbers_from separator (AtStart false) number bytes
       ≡ numbers_from separator (AtStart false) (number + count) left
   pub shorter : count + length left ≤ length bytes
 
--- The bytes are a row and its line end, and then the bytes `left`. If there are no bytes, `left` is empty, too.
+-- Rows are numbered as if `bytes` were one row that isn't empty and then `left`. `left` is empty, or at least two bytes
+-- shorter than `bytes`. Or both `bytes` and `left` are empty.
 pub data IsRowBefore (separator : ℕ) (bytes left : List ℕ) : Type 0 where
   NoRow : bytes ≡ [] → left ≡ [] → IsRowBefore separator bytes left
   OneRow : ((number : ℕ) → numbers_from separator (AtStart false) number bytes

@@ -57,7 +57,11 @@ pub record TableMeans (options : OptionTexts) (table : List ℕ) (days : List Da
   pub described : AreDaysOfRows options (columns_of head) rows days
   pub some : 0 < length days
 
--- The table is refused: its quotes are wrong, or a column is misnamed, or a row is refused, or no row has a day.
+-- The table is refused for one of these reasons:
+-- - Its quotes are wrong.
+-- - A column is misnamed.
+-- - A row is refused.
+-- - No row has a day. The table may have no rows at all.
 pub data IsRefusedTable (options : OptionTexts) (table : List ℕ) : Type 0 where
   WrongQuotes : is_well_quoted table ≡ false → IsRefusedTable options table
   Misnamed : (head : List (List ℕ)) (rows : List (List (List ℕ))) → AreRows table (head ∷ rows)
@@ -76,8 +80,8 @@ abbrev pub IsBodyRead : OptionTexts → Columns → List (List (List ℕ)) → L
 IsBodyRead options columns rows days false = AreDaysOfRows options columns rows days
 IsBodyRead options columns rows days true = HasRefusedRow options columns rows
 
--- A table with the first row `head` and the other rows `rows` is refused for one of three reasons: a column is
--- misnamed, a row is refused, or no row has a day.
+-- A table with the first row `head` and the other rows `rows` is refused. Either a column is misnamed, or a row is
+-- refused, or no row has a day.
 abbrev pub AreRefusedRows : OptionTexts → List (List ℕ) → List (List (List ℕ)) → Type 0
 AreRefusedRows options head rows = (is_misnamed (columns_of head) head ≡ true)
     ⊎ (HasRefusedRow options (columns_of head) rows ⊎ AreDaysOfRows options (columns_of head) rows [])

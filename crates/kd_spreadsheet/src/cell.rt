@@ -41,7 +41,7 @@ pub enum Cell {
     Bars,
 }
 
-/// Whether each column that the model of `row` needs is in the table or is replaced by an option.
+/// Whether the table has each column that the model of `row` needs. An option, such as `--model`, can replace a column.
 pub fn has_columns(options: &TableOptions<&[u8]>, columns: &Columns, row: &ByteRecord) -> bool
     ensures { result ≡ has_columns (texts_of options.now) columns.now (fields_of row.now) }
 {
@@ -77,7 +77,7 @@ pub fn known_cells(
     }
 }
 
-/// The cells in a row for `model`, except the day's number and the model.
+/// The cells that a day of `model` has besides its number and its model.
 pub fn cells_of(model: Model) -> &'static [Cell]
     ensures { result.now ≡ cells_of model }
 {
@@ -153,7 +153,7 @@ pub fn is_optional(cell: Cell) -> bool
     matches!(cell, Cell::Groups)
 }
 
-/// Whether `cell` with the text `text`, in a row for `model`, can be read.
+/// Whether `text` can be read as the value of `cell`, in a row for `model`.
 pub fn is_read(model: Option<Model>, cell: Cell, text: &[u8]) -> bool
     ensures { result ≡ is_read model cell text.now }
 {
@@ -212,14 +212,14 @@ pub fn slots(model: Option<Model>) -> usize
     }
 }
 
-/// Whether the table has the column of `cell`, an option replaces the column, or the column is optional.
+/// Whether the table has the column of `cell`, or doesn't need it: the column is optional, or an option replaces it.
 fn has_column(options: &TableOptions<&[u8]>, columns: &Columns, cell: Cell) -> bool
     ensures { result ≡ (is_optional cell || has_text (texts_of options.now) columns.now cell) }
 {
     is_optional(cell) || has_text(options, columns, cell)
 }
 
-/// Whether, for each of `cells`, the table has the column, an option replaces the column, or the column is optional.
+/// Whether the table has the columns of all `cells`, or doesn't need them: they are optional, or options replace them.
 fn has_each_column(options: &TableOptions<&[u8]>, columns: &Columns, cells: &[Cell]) -> bool
     ensures { result ≡ list_all
         (λ cell. is_optional cell || has_text (texts_of options.now) columns.now cell) cells.now }
@@ -232,7 +232,7 @@ fn has_each_column(options: &TableOptions<&[u8]>, columns: &Columns, cells: &[Ce
     }
 }
 
-/// The cells in a row for a Converter, except the day's number and the model.
+/// The cells that a Converter's day has besides its number and its model.
 static PIN_CELLS: [Cell; 9] = [
     Cell::List,
     Cell::Window,
@@ -245,7 +245,7 @@ static PIN_CELLS: [Cell; 9] = [
     Cell::Bars,
 ];
 
-/// The cells in a row for a rotor machine, except the day's number and the model.
+/// The cells that a rotor machine's day has besides its number and its model.
 static ROTOR_CELLS: [Cell; 6] = [
     Cell::Reflector,
     Cell::Wheels,

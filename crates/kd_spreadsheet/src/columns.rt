@@ -9,7 +9,7 @@ use crate::items::is_blank;
 use crate::names::is_named;
 use csv::ByteRecord;
 
-/// How many of a table's columns are looked at: the first 64.
+/// How many of a table's columns are searched for names: the first 64.
 pub const COLUMNS: usize = 64;
 
 /// The number of a table's columns, and the places of the columns that are read. Places are counted from 0. A column

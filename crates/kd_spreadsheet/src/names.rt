@@ -55,7 +55,9 @@ pub fn reflector_named(model: Model, cell: &[u8]) -> Option<Reflector>
     None
 }
 
-/// Whether `cell` has at most 32 bytes, and its text is the name `name`.
+/// Whether the text of `cell` is `name`; a cell with more than 32 bytes is no name.
+///
+/// Gaps, typographic quotes around the text, and capital or small letters make no difference.
 #[tactic(auto, unfolding(crate::specs::Names::is_named))]
 pub fn is_named(name: &str, cell: &[u8]) -> bool
     requires { length name.now ≤ 32 }
@@ -105,7 +107,7 @@ fn names_reflector(reflector: Reflector, cell: &[u8]) -> bool
     is_named(reflector.text().as_str(), cell) || is_named(long_name(reflector), cell)
 }
 
-/// The name of a reflector, after `UKW` (*Umkehrwalze*).
+/// The name of `reflector` with `UKW` (*Umkehrwalze*) before it, such as `UKWB`.
 fn long_name(reflector: Reflector) -> &'static str
     ensures name { result.now ≡ codes "UKW" ++ reflector_text reflector }
     ensures short { length result.now ≤ 32 }
@@ -143,7 +145,7 @@ fn push_plain(name: &mut ArrayVec<u8, 32>, text: &[u8])
     }
 }
 
-/// `cell` without its pair of typographic quotes, if it has such a pair.
+/// `cell` without the two typographic quotes around its text, if it has both.
 fn unquoted(cell: &[u8]) -> &[u8]
     ensures value { result.now ≡ unquoted cell.now }
     ensures short { length result.now ≤ length cell.now }

@@ -39,15 +39,14 @@ pub fn is_misnamed(columns: &Columns, head: &ByteRecord) -> bool
     lacks_near_any(columns, head, &ALL_CELLS)
 }
 
-/// The first unread column whose name is nearly one of the names for the column of `cell`.
+/// The first column that may be meant as the column of `cell`, among the first 64.
 pub fn near_column(columns: &Columns, head: &ByteRecord, cell: Cell) -> Option<usize>
     ensures { result ≡ near_column columns.now (fields_of head.now) cell }
 {
     near_from(columns, head, cell, 0, COLUMNS)
 }
 
-/// The first unread column whose name is nearly one of the names for the column of `cell`. Only the `count` columns
-/// from `place` on are searched.
+/// The first column that may be meant as the column of `cell`, among the `count` columns from `place` on.
 #[tactic(auto, unfolding(crate::specs::NearNames::near_from))]
 fn near_from(
     columns: &Columns,
@@ -68,8 +67,10 @@ fn near_from(
     near_from(columns, head, cell, place + 1, count - 1)
 }
 
-/// Whether `name` and `known` differ in at most two successive letters. If `known` has fewer than five letters, whether
-/// they differ in at most one letter.
+/// Whether `name` nearly equals `known`: they differ in one stretch of at most two letters.
+///
+/// For example, `wheles` nearly equals `wheels`. If `known` has fewer than five letters, they differ in at most one
+/// letter. Capital and small letters count as equal.
 pub fn is_near_name(name: &[u8], known: &str) -> bool
     ensures { result ≡ is_near_name name.now known.now }
 {
@@ -77,8 +78,7 @@ pub fn is_near_name(name: &[u8], known: &str) -> bool
     is_near(slips, name, known.as_bytes())
 }
 
-/// Whether the column of one of `cells` is misnamed. The table then lacks this column, and an unread column's name is
-/// nearly one of the missing column's names.
+/// Whether the column of one of `cells` is misnamed.
 fn lacks_near_any(columns: &Columns, head: &ByteRecord, cells: &[Cell]) -> bool
     ensures { result ≡ list_any (lacks_near columns.now (fields_of head.now)) cells.now }
 {
@@ -90,15 +90,16 @@ fn lacks_near_any(columns: &Columns, head: &ByteRecord, cells: &[Cell]) -> bool
     }
 }
 
-/// Whether the column of `cell` is misnamed: the table lacks this column, and an unread column's name is nearly one of
-/// the missing column's names.
+/// Whether the column of `cell` is misnamed: the table lacks this column, but an unread column may be meant as it.
 fn lacks_near(columns: &Columns, head: &ByteRecord, cell: Cell) -> bool
     ensures { result ≡ lacks_near columns.now (fields_of head.now) cell }
 {
     column_of(columns, cell).is_none() && near_column(columns, head, cell).is_some()
 }
 
-/// Whether the column at `place` isn't read, but its name is nearly one of the names for the column of `cell`.
+/// Whether the column at `place` may be meant as the column of `cell`.
+///
+/// Such a column isn't read, and its name nearly equals one of the three names of the column of `cell`.
 #[tactic(auto, unfolding(crate::specs::NearNames::is_meant))]
 fn is_meant(columns: &Columns, head: &ByteRecord, cell: Cell, place: usize) -> bool
     ensures { result ≡ is_meant columns.now (fields_of head.now) cell place }
@@ -106,7 +107,7 @@ fn is_meant(columns: &Columns, head: &ByteRecord, cell: Cell, place: usize) -> b
     !is_column_read(columns, place) && is_near_column(cell, cell_at(head, Some(place)))
 }
 
-/// Whether `name` is nearly equal to one of the three names of the column of `cell`.
+/// Whether `name` nearly equals one of the three names of the column of `cell`.
 fn is_near_column(cell: Cell, name: &[u8]) -> bool
     ensures { result ≡ is_near_column cell name.now }
 {

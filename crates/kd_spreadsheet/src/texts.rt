@@ -2,8 +2,8 @@
 
 use kd_language::Text;
 
-/// A text that gives a number of things, in two versions: for one thing, and for several things. The values are the
-/// number of things that are there, and the number of things that have to be there.
+/// A text about a wrong number of things, such as letters. It has two versions: for one thing, and for several. The
+/// values are the number of things that are there, and the number of things that should be there.
 pub type CountText = (Text, Text);
 
 // ---- Places.
@@ -48,16 +48,16 @@ pub const MISNAMED: Text = (
     "der Name einer Spalte ist fast der Name einer anderen Spalte, die fehlt",
 );
 
-/// The values are the name that may be meant, and the name in the table.
+/// The question whether a name is mistyped. The values are the name that may be meant, and the name in the table.
 pub const MEANT: Text = (
     "did you mean ~ by ~? If not, give this column another name",
     "ist ~ statt ~ gemeint? Wenn nicht, dieser Spalte einen anderen Namen geben",
 );
 
-/// The value is the name of the missing column.
+/// The words for a missing column. The value is the column's name.
 pub const NO_COLUMN: Text = ("there is no column ~", "es gibt keine Spalte ~");
 
-/// The values are the name of the missing column, and the option that may replace the column.
+/// The words for a missing column that an option can replace. The values are the column's name, and the option.
 pub const NO_COLUMN_OR_OPTION: Text = (
     "there is neither a column ~ nor an option ~",
     "es gibt weder eine Spalte ~ noch eine Option ~",
@@ -81,16 +81,16 @@ pub const NO_NAMES: Text = (
 
 // ---- Rows.
 
-/// The value is the number of an earlier row with the same day.
+/// The words for a day that comes twice. The value is the number of the earlier row with this day.
 pub const SAME_DAY: Text = ("row ~ has this day, too", "diesen Tag hat schon Zeile ~");
 
-/// The value is the name of the first column in which the row has no cell.
+/// The words for a row that is too short. The value is the name of the first column in which the row has no cell.
 pub const ROW_ENDS: Text = (
     "~: the row ends before this column",
     "~: die Zeile endet vor dieser Spalte",
 );
 
-/// The value is the text of the cell.
+/// The words for a text beyond the last column. The value is this text.
 pub const BEYOND: Text = (
     "beyond the last column: ~ is there",
     "hinter der letzten Spalte steht ~",
@@ -120,7 +120,7 @@ pub const IS_NO_DAY: Text = ("~ isn't a day from 1 to 31", "~ ist kein Tag von 1
 
 pub const NO_MODEL: Text = ("there is no model ~", "es gibt kein Modell ~");
 
-/// The values are the name of an Enigma's model, and the text of the cell.
+/// The words for an unknown reflector. The values are the name of an Enigma's model, and the text of the cell.
 pub const NO_REFLECTOR: Text = ("~ has no reflector ~", "die ~ hat keine Umkehrwalze ~");
 
 // ---- Letters.
@@ -148,7 +148,7 @@ pub const LETTER_TWICE: Text = (
     "der Buchstabe ~ steht zweimal da",
 );
 
-/// The values are the number of a Converter's wheel, and a letter.
+/// The words for a letter that isn't on its wheel. The values are the number of a Converter's wheel, and the letter.
 pub const OFF_WHEEL: Text = ("wheel ~ has no ~", "Rad ~ hat kein ~");
 
 pub const IS_NO_PAIR: Text = ("~ isn't a pair of letters", "~ ist kein Buchstabenpaar");

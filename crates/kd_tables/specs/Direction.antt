@@ -1,4 +1,4 @@
--- The words of a command line for sending or receiving a message.
+-- What the command line says to send or to receive a message: a command's name, and the name of its argument.
 -- Test: tests/cases/desk-words.toml, tests/cases/curator-words.toml
 use Rattle.std.specs.Prelude.{codes, ℕ, List}
 use Rattle.kd_tables.specs.declared.direction.Direction.{Direction}

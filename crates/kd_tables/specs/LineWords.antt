@@ -3,7 +3,7 @@
 use Rattle.std.specs.Prelude.{◌≡◌, ◌≢◌, ◌==◌, ℕ, List, ◌∷◌, ◌++◌, All}
 use Rattle.std.specs.List.{slice_split, join_with_byte}
 
--- the parts of a line between its spaces
+-- the words of `line`, which is split at each space; between two spaces in a row is an empty word
 abbrev pub words_of : List ℕ → List (List ℕ)
 words_of line = slice_split (λ byte. byte == 32) line
 
@@ -11,7 +11,7 @@ words_of line = slice_split (λ byte. byte == 32) line
 abbrev pub line_of : List (List ℕ) → List ℕ
 line_of words = join_with_byte 32 words
 
--- the line made of `words`, LF, and then the text `rest`
+-- the line of `words`, then a line feed, then `rest`
 abbrev pub line_then : List (List ℕ) → List ℕ → List ℕ
 line_then words rest = line_of words ++ 10 ∷ rest
 
@@ -19,7 +19,7 @@ line_then words rest = line_of words ++ 10 ∷ rest
 abbrev pub IsWithout : ℕ → List ℕ → Type 0
 IsWithout byte text = All (λ other. other ≢ byte) text
 
--- `text` has the byte `byte`. `part` is the text before the first `byte`, and `rest` is the text after this byte.
+-- `text` is `part`, then the byte `byte`, then `rest`. It is split at its first `byte`, so `part` has no `byte`.
 pub record IsFirstPart (byte : ℕ) (text part rest : List ℕ) : Type 0 where
   pub joined : text ≡ part ++ byte ∷ rest
   pub without : IsWithout byte part

@@ -1,4 +1,5 @@
--- Permutations of the alphabet, as lists of numbers; A is 0. Letter `x` becomes item `x` of the list.
+-- Permutations of the alphabet, as lists of numbers: A is 0, and Z is 25. A permutation maps letter `x` to item `x` of
+-- its list.
 -- Code: a permutation is a table of 32 bytes. A product is one shuffle of bytes. An inverse is one loop over letters.
 -- Test: tests/refusals
 use Rattle.std.specs.Prelude.{◌≡◌, ◌≢◌, ℕ, ◌+◌, ◌%◌, ◌==◌, List, [], ◌∷◌, length, map, slice_index, All, if◌then◌else◌}

@@ -72,7 +72,7 @@ pub record IsReading (numbers : ℕ × ℕ) : Type 0 where
 abbrev pub reading_of : Place × Place → ℕ × ℕ
 reading_of standing = smaller_first (place_number standing.0) (place_number standing.1)
 
--- the digit of a number below 10
+-- a number below 10, as the text of its digit
 abbrev pub digit_text : ℕ → List ℕ
 digit_text number = (number + 48) ∷ []
 

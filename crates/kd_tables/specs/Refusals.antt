@@ -1,5 +1,5 @@
 -- The refusals: the number and the name of each, and the words that follow the name.
--- Source: the table of refusals in docs/FORMATS.md.
+-- Source: the table of refusals in docs/guide/REFUSALS.md.
 -- Test: says_why_it_refuses
 use Rattle.std.specs.Prelude.{codes, ℕ, List, ◌∷◌}
 use Rattle.kd_tables.specs.declared.refusal.Refusal.{Refusal}

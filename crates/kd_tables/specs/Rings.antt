@@ -12,7 +12,7 @@ ring_texts =
     [] ∷ codes "ABCDEFGHIJKLMNOPQRSTUVWXYZ" ∷ codes "ABCDEFGHIJKLMNOPQRSTUVXYZ" ∷ codes "ABCDEFGHIJKLMNOPQRSTUVX"
     ∷ codes "ABCDEFGHIJKLMNOPQRSTU" ∷ codes "ABCDEFGHIJKLMNOPQRS" ∷ codes "ABCDEFGHIJKLMNOPQ" ∷ []
 
--- the letters of pin wheel `number`, which is from 1 to 6; no letters for any other number
+-- the letters of pin wheel `number`, from 1 to 6; for any other number, the empty list
 unfoldable pub ring_of : ℕ → List ℕ
 ring_of number = letters_of (slice_index_or ring_texts number [])
 

@@ -17,9 +17,9 @@ use Rattle.kd_tables.specs.declared.model.Model.TheVariants.{EnigmaI, M3, M4, M2
 abbrev pub letters_of : List ℕ → List ℕ
 letters_of text = map (λ byte. byte - 65) text
 
--- The name, the wiring and the notches of each wheel. The wiring: the letters that A to Z become as the current passes
--- from right to left. The notches: while one of these letters shows, the wheel's next step also moves the wheel to its
--- left. Beta and Gamma never move.
+-- The name, the wiring and the notches of each wheel. The wiring lists the letters that A to Z become as the current
+-- passes from right to left. The notches are window letters: if the wheel steps while it shows one of them, the wheel
+-- to its left steps too. Beta and Gamma never step.
 abbrev pub wheel_table : Wheel → List ℕ × List ℕ × List ℕ
 wheel_table I = (codes "I", codes "EKMFLGDQVZNTOWYHXUSPAIBRCJ", codes "Q")
 wheel_table II = (codes "II", codes "AJDKSIRUXBLHWTMCQGZNPYFVOE", codes "E")
@@ -48,7 +48,7 @@ is_notch wheel letter = list_any (λ notch. notch == letter) (letters_of (wheel_
 -- Source: the published wirings.
 -- Test: reflectors_are_as_published
 
--- The name and the wiring of each reflector. The wiring: the letters into which the reflector turns A to Z.
+-- The name and the wiring of each reflector. The wiring lists the letters into which the reflector turns A to Z.
 abbrev pub reflector_table : Reflector → List ℕ × List ℕ
 reflector_table reflectors.A = (codes "A", codes "EJMZALYXVBWFCRQUONTSPIKHGD")
 reflector_table reflectors.B = (codes "B", codes "YRUHQSLDPXNGOKMIEBFZCWVJAT")
@@ -66,7 +66,7 @@ reflector_of reflector = letters_of (reflector_table reflector).1
 
 -- ---- Models: their names, their slots, their families, and the wheels and reflectors of their boxes.
 -- Source: the published accounts of the models.
--- Code: the box of each model is a prefix of one array.
+-- Code: one array has all wheels, and each model's box is a prefix of this array.
 -- Test: models_have_names_and_parts
 
 -- all models

@@ -1,4 +1,4 @@
--- The bytes of letters, and the bytes that a text of letters may have.
+-- Letters as ASCII codes, and the bytes that a message's text may have.
 -- Test: tests/cases/desk-messages.toml
 use Rattle.std.specs.Prelude.{ℕ, ◌+◌, nat_le, ◌==◌, Bool, ◌&&◌, ◌||◌, List, map}
 
@@ -14,6 +14,6 @@ is_capital byte = nat_le 65 byte && nat_le byte 90
 abbrev pub is_separator : ℕ → Bool
 is_separator byte = byte == 32 || (byte == 13 || byte == 10)
 
--- whether the byte may be in a text: a capital letter or a separator
+-- whether the byte may be in a message's text: a capital letter or a separator
 abbrev pub is_text_byte : ℕ → Bool
 is_text_byte byte = is_capital byte || is_separator byte

@@ -12,7 +12,10 @@ pub enum Lug {
     Right,
 }
 
-/// Calls the macro `$read` (`name_of` or `named`) with `$value` and the table of all lugs and their names.
+/// Looks up `$value` in the table of lugs and their names.
+///
+/// If `$read` is `name_of`, the result is the name of the lug `$value`. If `$read` is `named`, the result is the lug
+/// with the name `$value`.
 macro_rules! names {
     ($read:ident, $value:expr) => {
         $read!($value, {

@@ -43,7 +43,10 @@ pub enum Family {
     Pin,
 }
 
-/// Calls the macro `$read` (`name_of` or `named`) with `$value` and the table of all models and their names.
+/// Looks up `$value` in the table of models and their names.
+///
+/// If `$read` is `name_of`, the result is the name of the model `$value`. If `$read` is `named`, the result is the
+/// model with the name `$value`.
 macro_rules! names {
     ($read:ident, $value:expr) => {
         $read!($value, {

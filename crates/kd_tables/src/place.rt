@@ -28,7 +28,10 @@ pub enum Place {
     Six,
 }
 
-/// Calls the macro `$read` (`name_of` or `named`) with `$value` and the table of all places and their names.
+/// Looks up `$value` in the table of places and their names.
+///
+/// If `$read` is `name_of`, the result is the name of the place `$value`. If `$read` is `named`, the result is the
+/// place with the name `$value`.
 macro_rules! names {
     ($read:ident, $value:expr) => {
         $read!($value, {

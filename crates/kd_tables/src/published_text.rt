@@ -7,10 +7,10 @@ ghost use Rattle.kd_tables.specs.WiringText.{are_capitals, is_permutation, is_ri
 
 use super::letter::Letter;
 
-/// Makes the table of `$part` from its published text. The text's first letter is what A becomes.
+/// Calls `$make` with the published text of the wheel or reflector `$part`. The text's first letter is what A becomes.
 ///
-/// `$make` is `letters` for the table, `inverse_letters` for the inverse, or `reflection` for a reflector's table.
-/// The prover checks that the text is as these functions require.
+/// The function `$make` is one of three: `letters` makes a wheel's table, `inverse_letters` the inverse of a wheel's
+/// table, and `reflection` a reflector's table. The prover checks that each text has what these functions require.
 macro_rules! wiring {
     ($make:ident, $part:expr, { $($variant:path => $text:literal,)* }) => {
         match $part {

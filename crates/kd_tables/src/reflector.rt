@@ -20,7 +20,10 @@ pub enum Reflector {
     ThinC,
 }
 
-/// Calls the macro `$read` (`name_of` or `named`) with `$value` and the table of all reflectors and their names.
+/// Looks up `$value` in the table of reflectors and their names.
+///
+/// If `$read` is `name_of`, the result is the name of the reflector `$value`. If `$read` is `named`, the result is the
+/// reflector with the name `$value`.
 macro_rules! names {
     ($read:ident, $value:expr) => {
         $read!($value, {

@@ -14,7 +14,7 @@ pub type RefusalText = ArrayString<64>;
 pub enum Refusal {
     /// A letter comes twice in a machine's cables, or twice in a day's pairs.
     LetterTwice,
-    /// A letter isn't on its pin wheel. The program never prints this refusal.
+    /// A letter for a pin wheel isn't on this wheel. The program never prints this refusal.
     NotOnWheel,
     /// A machine refuses a setting; the refusal names the reason. The program never prints this refusal.
     Illegal,
@@ -41,7 +41,7 @@ pub enum Refusal {
     IllegalAt,
     /// After a card's lines are carried out, the machine isn't set as the day says, or doesn't show the day's letters.
     NotTheSheet,
-    /// In a cell of the table of costs, the prices of row and column add up to more than the cost.
+    /// In the table of costs, the prices of a row and a column add up to more than the cost in their cell.
     PriceTooHigh,
     /// The sum of a card's prices isn't the number of the card's lines that change a cable or a bar.
     SumDiffers,
@@ -78,9 +78,11 @@ pub enum Refusal {
     PartKeys,
     /// A letter that a message gives for a pin wheel (an external letter) isn't on this wheel.
     KeyNotOnWheel,
-    /// A part's group is none of the day's groups; or, on the Converter, a part's two list letters aren't the day's.
+    /// On an Enigma, a part's group isn't one of the day's groups. On the Converter, a part's two list letters aren't
+    /// the day's.
     WrongGroup,
-    /// A part has no internal key: twelve enciphered letters don't give each pin wheel a letter.
+    /// A part of a Converter's message has no internal key. The key's six letters are picked from twelve enciphered
+    /// letters, but for some wheel no letter on this wheel is left.
     IndicatorSpent,
     /// A part doesn't begin with a heading of the day's model.
     BadHeading,
@@ -158,7 +160,7 @@ impl Refusal {
         text
     }
 
-    /// The text of a refusal with one number, such as a line's or a part's number.
+    /// The refusal's number and name, and then `place`: for example, the number of a line or a part.
     pub fn text_at(self, place: usize) -> RefusalText
         ensures bytes { result.bytes ≡ refusal_name self ++ word_after_space (decimal place) }
         ensures short { array_string_len result ≤ 41 }
@@ -168,7 +170,7 @@ impl Refusal {
         text
     }
 
-    /// The text of a refusal with two numbers, such as the numbers of a cable and a column.
+    /// The refusal's number and name, and then two numbers: for example, of a cable and a column.
     pub fn text_at_both(self, one: usize, other: usize) -> RefusalText
         ensures { result.bytes ≡ refusal_name self ++ word_after_space (decimal one)
             ++ word_after_space (decimal other) }
@@ -188,7 +190,7 @@ impl Refusal {
         text
     }
 
-    /// The text of a refusal with one number, and then `word`, the name of a reason.
+    /// The refusal's number and name, then the number `place`, and then `word`: the name of a reason.
     pub fn text_at_with_word(self, place: usize, word: &str) -> RefusalText
         requires { length word.now ≤ 22 }
         ensures { result.bytes

@@ -43,7 +43,10 @@ macro_rules! wirings {
     };
 }
 
-/// Calls the macro `$read` (`name_of` or `named`) with `$value` and the table of all wheels and their names.
+/// Looks up `$value` in the table of wheels and their names.
+///
+/// If `$read` is `name_of`, the result is the name of the wheel `$value`. If `$read` is `named`, the result is the
+/// wheel with the name `$value`.
 macro_rules! names {
     ($read:ident, $value:expr) => {
         $read!($value, {

@@ -12,7 +12,7 @@ use toml::{Table, Value};
 /// The number of bars of the drum.
 pub const BARS: usize = 27;
 
-/// Reads an item as a bar's standing: the places of the bar's lugs. A fault has the bar's number, counted from 1.
+/// Reads an item as a bar's standing: the places of the bar's lugs. The fault `BadRow` has the bar's number, from 1.
 impl FromItem<()> for Standing {
     ghost parse = { λ _. or_bad_row (find_by_text standing_text standings) };
 

@@ -16,7 +16,7 @@ use toml::{Table, Value};
 /// The number of cables of a plugboard.
 const CABLES: usize = 13;
 
-/// Reads an item as a cable. The cable must share no letter with the cables before it.
+/// Reads an item as a cable. The cable's letters must differ from each other, and from the letters of earlier cables.
 impl FromItem<()> for Cable {
     ghost parse = { λ _. cable_for };
 

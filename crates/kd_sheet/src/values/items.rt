@@ -11,10 +11,10 @@ use toml::{Table, Value};
 
 /// A type whose values can be read from the items of an array.
 ///
-/// `Given` is what a reader needs besides the items, such as the key and the model for wheels in slots.
+/// `Given` is the type of what the reader needs besides the items. For wheels in slots, this is the key and the model.
 pub trait FromItem<Given> {
-    /// The rule for reading an item. The rule gives a value or a fault from three arguments: `Given`, the values of the
-    /// earlier items, and the item.
+    /// How an item is read. The arguments are the value of type `Given`, the values of the earlier items, and the item.
+    /// The result is the item's value or a fault.
     ghost parse: { Given → List Self → Data → Result Self SheetFault };
 
     /// Reads `item`. The slice `earlier` has the values of the earlier items.

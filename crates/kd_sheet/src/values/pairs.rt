@@ -14,7 +14,7 @@ use toml::{Table, Value};
 /// Two letters that a plugged cable exchanges.
 pub type Pair = (Letter, Letter);
 
-/// Reads an item as a pair. The pair must share no letter with the pairs before it.
+/// Reads an item as a pair. The pair's letters must differ from each other, and from the letters of earlier pairs.
 impl FromItem<()> for Pair {
     ghost parse = { λ _. pair_for };
 

@@ -28,7 +28,7 @@ pub fn shown_letters_in(table: &Table, key: Key) -> Result<[Letter; 6], SheetFau
     Ok(letters)
 }
 
-/// Reads the effective pins of one wheel from a text of their letters; no letter may come twice.
+/// Reads the effective pins of a wheel from `text`, which has the letters of these pins; no letter may come twice.
 pub fn pins_of_text<const N: usize>(ring: &Ring<N>, text: &[u8]) -> Option<[bool; N]>
     ensures { result ≡ pins_of_text ring.now text.now }
 {
@@ -88,7 +88,7 @@ fn pins_of_items(items: [&Value; 6]) -> Option<PinSet>
     })
 }
 
-/// Reads the effective pins of one wheel: `item` is a text of their letters.
+/// Reads the effective pins of a wheel from `item`, a text with the letters of these pins.
 fn pins_of_item<const N: usize>(ring: &Ring<N>, item: &Value) -> Option<[bool; N]>
     ensures { result ≡ from_text (pins_of_text ring.now) (view item.now) }
 {

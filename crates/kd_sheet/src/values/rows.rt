@@ -9,7 +9,7 @@ use crate::{Key, SheetFault};
 use kd_tables::Reading;
 use toml::{Table, Value};
 
-/// Reads an item as a row: the reading that a bar must have. A fault has the row's number, counted from 1.
+/// Reads an item as a row: the reading that a bar must have. The fault `BadRow` has the row's number, from 1.
 impl FromItem<()> for Reading {
     ghost parse = { λ _. or_bad_row reading_of_text };
 

@@ -36,7 +36,10 @@ pub fn slots_in(table: &Table, key: Key, model: Model) -> Result<PerSlot<Option<
     Ok(PerSlot::new(slots.as_slice()).unwrap())
 }
 
-/// The wheel named `name`, if this wheel may be in the slot after `slots`. Otherwise, the fault that says why not.
+/// The wheel named `name`, for the slot after `slots`, or the first fault.
+///
+/// The fault is `BadValue` if there is no such wheel, `WheelNotAllowed` if the wheel may not be in this slot, and
+/// `WheelTwice` if one of `slots` has the wheel.
 #[tactic(auto, using(crate::proofs::ReadBack::Described::KeyValues::seating), unfolding(crate::specs::Slots::wheel_for))]
 fn wheel_for(
     key: Key,

@@ -22,7 +22,7 @@ pub(crate) fn letters_text(letters: &[Letter]) -> ItemString
     text
 }
 
-/// Appends the line of `key` with `letters` in double quotes.
+/// Appends a line: `key`, ` = ` and `letters` in double quotes.
 pub fn push_letters_line(text: &mut FileString, key: Key, letters: &[Letter])
     requires room { array_string_len text.old + 47 ≤ 2048 }
     requires few { length letters.now ≤ 32 }

@@ -11,7 +11,7 @@ use kd_tables::push_number;
 /// A text of at most 2048 bytes: a machine file, or one day of a key sheet.
 pub type FileString = ArrayString<2048>;
 
-/// Appends the line of `key` with the number `number`.
+/// Appends a line: `key`, ` = ` and `number`.
 pub fn push_number_line(text: &mut FileString, key: Key, number: u8)
     requires { array_string_len text.old + 16 ≤ 2048 }
     ensures bytes { text.new.bytes ≡ text.old.bytes ++ key_line key (decimal number) }
@@ -22,7 +22,7 @@ pub fn push_number_line(text: &mut FileString, key: Key, number: u8)
     text.push_str("\n");
 }
 
-/// Appends the line of `key` with `value` in double quotes.
+/// Appends a line: `key`, ` = ` and `value` in double quotes.
 pub fn push_text_line(text: &mut FileString, key: Key, value: &str)
     requires { array_string_len text.old + length value.now + 15 ≤ 2048 }
     ensures bytes { text.new.bytes ≡ text.old.bytes ++ key_line key (quoted_text value.now) }
@@ -33,7 +33,7 @@ pub fn push_text_line(text: &mut FileString, key: Key, value: &str)
     text.push_str("\n");
 }
 
-/// Appends the line of `key`; its value is an array of the texts of `items`.
+/// Appends a line: `key`, ` = ` and an array of the texts of `items`.
 pub fn push_list_line<T: ItemText>(text: &mut FileString, key: Key, items: &[T])
     requires { array_string_len text.old + 36 * length items.now + 15 ≤ 2048 }
     ensures bytes { text.new.bytes

@@ -40,8 +40,8 @@ pub fn cell_words(language: Language, cell: Cell, model: Option<Model>, text: &[
     words
 }
 
-/// Writes the line `what` for each word of `text` that can't be read as a value. The template `what` has one value: the
-/// word. If `text` is blank or too long, says so.
+/// Writes the line `what` for each word of `text` that can't be read as a value. If `text` is blank or too long, writes
+/// a line that says so. `what` is a template with one value: the word.
 pub fn item_words<T: FromWord + Copy>(lines: &mut Words, text: &[u8], what: Text) {
     if is_blank(text) {
         lines.tell(NOTHING, &[]);
@@ -75,7 +75,7 @@ fn tell_words<T: FromWord + Copy>(lines: &mut Words, words: &[&[u8]], what: Text
     }
 }
 
-/// Says that there are `found` things in place of `count` things.
+/// Says that `found` letters, wheels or bars are in a cell that should have `count`.
 fn count_words(lines: &mut Words, found: usize, count: usize, text: CountText) {
     let text = if found == 1 { text.0 } else { text.1 };
     lines.tell(
@@ -127,7 +127,7 @@ fn letter_words(lines: &mut Words, text: &[u8], count: usize) {
     }
 }
 
-/// Says what is wrong with the window letters. A Converter's wheel may lack a letter.
+/// Says what is wrong with the window letters. On a Converter, also says which of them aren't on their wheels.
 fn window_words(lines: &mut Words, model: Option<Model>, text: &[u8]) {
     letter_words(lines, text, windows(model));
     if model == Some(Model::M209)

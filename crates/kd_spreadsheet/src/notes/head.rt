@@ -4,8 +4,8 @@ use crate::options::TableOptions;
 use csv::ByteRecord;
 use kd_language::{Language, Wording};
 
-/// The options, the columns and the first row of a table, for the notes on each row. The first row has the columns'
-/// names. `wording` has the notes' language, and the memory for them.
+/// What is the same for the notes on all rows. `names` is the table's first row, which has the columns' names.
+/// `wording` has the notes' language, and the memory for the notes.
 #[derive(Drop)]
 pub struct Head<'a> {
     wording: Wording,
@@ -35,7 +35,7 @@ impl<'a> Head<'a> {
     ghost use Rattle.kd_spreadsheet.specs.Head.{head_of};
     ghost use Rattle.kd_spreadsheet.specs.Options.{texts_of};
 
-    /// The head of a table whose first row is `names`.
+    /// Makes the `Head` of a table whose first row is `names`.
     pub fn new(
         wording: Wording,
         options: &'a TableOptions<&'a [u8]>,
@@ -53,7 +53,7 @@ impl<'a> Head<'a> {
         }
     }
 
-    /// The language of the notes, and the memory for them.
+    /// The language of the notes, and the memory for the notes.
     pub fn wording(&self) -> Wording
         ensures { result.language ≡ self.now.language }
     {
@@ -86,7 +86,7 @@ impl<'a> Head<'a> {
     }
 }
 
-/// A row, and the words for its place. Each line about the row begins with these words.
+/// A row, and the words for its place, such as `row 5 (day 3), `. Each line about the row begins with these words.
 #[derive(Drop)]
 pub struct PlacedRow<'a> {
     place: &'a [u8],

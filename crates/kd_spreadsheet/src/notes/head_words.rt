@@ -49,8 +49,7 @@ pub fn missing_of_model(head: &Head<'_>, model: Model) -> Words {
     lines
 }
 
-/// Asks whether an unread column is meant as the column of `cell`. Asks only if the table lacks the column of `cell`,
-/// and the unread column's name is nearly the missing column's name.
+/// If the column of `cell` is misnamed, asks whether this column is meant by the mistyped name.
 fn tell_near(lines: &mut Words, head: &Head<'_>, cell: Cell) {
     if column_of(head.columns(), cell).is_none()
         && let Some(column) = near_column(head.columns(), head.names(), cell)
@@ -102,7 +101,7 @@ fn says_separator(cell: &[u8]) -> bool {
     is_named("sep=", start)
 }
 
-/// The English, German or short German name of the column of `cell`: the name that `name` nearly equals.
+/// The name of the column of `cell` that `name` nearly equals: the English, German or short German name.
 fn meant_name(cell: Cell, name: &[u8]) -> &'static str {
     if is_near_name(name, english_name(cell)) {
         english_name(cell)

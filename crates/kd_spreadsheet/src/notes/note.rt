@@ -69,7 +69,7 @@ pub fn push_line(note: &mut Vec<u8>, place: &[u8], words: &[u8]) -> Result<(), A
     push_bytes(note, b"\n")
 }
 
-/// The words for a row's place: the row's number and, if the row's day is known, this day.
+/// The words for a row's place, such as `row 5, ` or, if the row's day is known, `row 5 (day 3), `.
 pub fn row_place(wording: Wording, number: u64, day: Option<u8>) -> Result<String, AllocError>
     ensures { IfOk result (λ place. string_bytes place ≡ row_place wording.language number day) }
 {
@@ -81,7 +81,8 @@ pub fn row_place(wording: Wording, number: u64, day: Option<u8>) -> Result<Strin
     }
 }
 
-/// The words for the place of `cell`: the words `row` for the row's place, and then the name of the cell's column.
+/// The words for the place of `cell`, such as `row 5 (day 3), rings: `. They begin with `row`, the words for the row's
+/// place.
 pub fn cell_place(head: &Head<'_>, row: &[u8], cell: Cell) -> Result<Vec<u8>, AllocError>
     ensures { IfOk result (λ place. place.items
         ≡ cell_place head.now.columns head.now.names row.now cell) }
@@ -138,8 +139,8 @@ fn push_cell_name(place: &mut Vec<u8>, head: &Head<'_>, cell: Cell) -> Result<()
     }
 }
 
-/// Appends `bytes`, with `?` for each byte that can't be printed. If `is_long`, `?` also stands for each byte outside
-/// of ASCII.
+/// Appends `bytes`, with `?` for each byte that can't be printed. If `is_long` is true, `?` also stands for each byte
+/// outside of ASCII.
 fn push_shown_bytes(note: &mut Vec<u8>, is_long: bool, bytes: &[u8]) -> Result<(), AllocError>
     ensures { IfOk result (λ _. note.new.items
         ≡ note.old.items ++ map (shown_byte is_long) bytes.now) }

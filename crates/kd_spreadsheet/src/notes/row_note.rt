@@ -40,7 +40,7 @@ pub fn push_row(
     push_placed_row(note, head, place.as_str().as_bytes(), row, &day_words)
 }
 
-/// The words for a row's place: the row's number and, if the row's day is known, this day.
+/// The words for the place of `row`, such as `row 5, ` or, if the row's day is known, `row 5 (day 3), `.
 fn place_of_row(head: &Head<'_>, number: u64, row: &ByteRecord) -> Result<String, AllocError>
     ensures { IfOk result (λ place. string_bytes place ≡ row_place head.now.language number
         (day_in (cell_at head.now.columns.day (fields_of row.now)))) }
@@ -117,8 +117,8 @@ fn push_cell(
     push_due_words(note, place.as_slice(), words, is_due, otherwise)
 }
 
-/// Whether the text of `cell` can't be read. False unless the table has the column of `cell`, or the option of `cell`
-/// isn't blank.
+/// Whether the text of `cell` can't be read. False if the table lacks the cell's column, and no option, such as
+/// `--model`, replaces it.
 fn is_faulty(head: &Head<'_>, row: &PlacedRow<'_>, cell: Cell) -> bool
     ensures { result ≡ is_faulty head.now.options head.now.columns row.now.cells cell }
 {
@@ -161,8 +161,10 @@ fn push_cells(
     Ok(())
 }
 
-/// Whether a row isn't a day, though its cells have no notes. `start` and `end` are the note's lengths before and after
-/// the cells' notes. False if the table lacks a column that the row needs.
+/// Whether the row needs a note as a whole: it isn't a day, but its cells have no notes that say why.
+///
+/// False if the table lacks a column that the row needs. `start` and `end` are the note's lengths before and after the
+/// notes on the row's cells.
 fn is_untold(head: &Head<'_>, row: &ByteRecord, start: usize, end: usize) -> bool
     ensures { IsNoDay (row_values head.now.options head.now.columns (fields_of row.now))
         → has_columns head.now.options head.now.columns (fields_of row.now) ≡ true

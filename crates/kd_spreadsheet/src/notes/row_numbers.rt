@@ -15,7 +15,7 @@ pub struct RowNumbers<'a> {
 }
 
 impl<'a> RowNumbers<'a> {
-    /// Creates the iteration over the rows of `table`, at the table's start. The first row has the number 1.
+    /// Starts at the first row of `table`, which has the number 1.
     pub fn new(separator: u8, table: &'a [u8]) -> Self
         ensures left { numbers_left result ≡ numbers_from separator (AtStart false) 1 table.now }
         ensures counted { IsCounted result }

@@ -8,7 +8,7 @@ use itoa::Buffer;
 use kd_language::template::cut;
 use kd_language::{Language, Text};
 
-/// A value in a line of words.
+/// A value that replaces a sign `~` in a line of words.
 #[derive(Clone, Copy)]
 pub enum Value<'a> {
     /// The text of a cell, or a part of it.
@@ -91,8 +91,10 @@ impl Words {
         }
     }
 
-    /// Appends the text of a cell to the current line. `?` stands for each byte that can't be printed and, in a long
-    /// cell, for each byte outside of ASCII. Only the start of a long cell is appended.
+    /// Appends the text of a cell to the current line, with `?` for each byte that can't be printed.
+    ///
+    /// Of a cell with more than 60 bytes, appends only the first 60 and `...`. Then `?` also stands for each byte
+    /// outside of ASCII.
     fn add_cell(&mut self, cell: &[u8]) {
         let is_long = cell.len() > SHOWN;
         for byte in cell.iter().take(SHOWN) {
@@ -122,8 +124,8 @@ impl Words {
     }
 }
 
-/// The byte that a note shows for `byte`: `?` if `byte` can't be printed. In a long cell, `?` also stands for each byte
-/// outside of ASCII.
+/// The byte that a note shows for `byte`: `?` if `byte` can't be printed. In a cell with more than 60 bytes
+/// (`is_long`), `?` also stands for each byte outside of ASCII.
 pub fn shown_byte(is_long: bool, byte: u8) -> u8
     ensures { result ≡ shown_byte is_long byte }
 {
