@@ -5,7 +5,8 @@ use Rattle.kd_tables.specs.Permutation.{alphabet, followed_by, inverse}
 use Rattle.kd_tables.specs.declared.wheel.Wheel.{Wheel}
 use Rattle.kd_enigma.specs.Rotor.{rotor}
 
--- A wheel, its ring, and the board to the wheel's right: the plugboard, or a permutation that changes nothing.
+-- A wheel with its ring and its board. The board is a permutation that the current passes on its way in, just before
+-- the wheel: the plugboard, or a permutation that changes nothing.
 pub record SeatedWheel : Type 0 where
   pub wheel : Wheel
   pub ring : ℕ
