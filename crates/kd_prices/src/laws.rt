@@ -8,7 +8,7 @@ pub fn a_card_is_in_one_doubt_at_most()
     ensures one { OneDoubt }
 {}
 
-/// After any number of lines of a card that proves itself, the remaining lines are a shortest list.
+/// After any number of lines of a card that proves itself, the remaining lines are a shortest list to the day.
 pub fn rest_of_a_card_is_shortest()
     ensures { RestIsShortest }
 {}
