@@ -2,7 +2,7 @@
 use Rattle.std.specs.Prelude.{ℕ, zero, suc, ◌+◌, ◌-◌, ◌*◌, ◌/◌, ◌≤◌}
 
 -- `scans` is the number of comparisons for a table of `n` rows. It is at least `n * n`: one for each cell. It is at
--- most 1 + 4 + ... + `n * n`: so many if all `n` trees grow to their full size.
+-- most 1 + 4 + ... + `n * n`: the number if all `n` trees grow to their full size.
 pub record IsScanCount (n scans : ℕ) : Type 0 where
   pub least : n * n ≤ scans
   pub most : scans ≤ n * (n + 1) * (2 * n + 1) / 6
