@@ -10,7 +10,7 @@ use Rattle.kd_form.specs.Streams.{is_off_key}
 abbrev pub LacksMemory : {A : Type 0} → Result A DeskFault → Type 0
 LacksMemory answer = answer ≡ Err (File NoMemory)
 
--- The answer is `fault`, unless the call ran out of memory.
+-- The answer is `fault`, or it is `NoMemory`.
 abbrev pub AnswersFault : Result (Unit {0}) DeskFault → DeskFault → Type 0
 AnswersFault answer fault = (answer ≡ Err fault) ⊎ LacksMemory answer
 
