@@ -1,4 +1,4 @@
--- What a plan says about a day's settings, and about the machine to which these settings lead.
+-- A day's plan: a shortest list of settings to the day, in the order of a page, and the machine to which they lead.
 -- Test: tests/cases/curator-pages.toml
 use Rattle.std.specs.Prelude.{◌≡◌, ◌≤◌, List, length}
 use Rattle.kd_state.specs.declared.machine.parts.Parts.{Parts}

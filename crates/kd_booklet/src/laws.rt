@@ -11,7 +11,7 @@ pub fn hand_order_leads_alike()
     ensures leads { HandOrderLeads }
 {}
 
-/// Each setting of a day's list makes a lasting change to the thing that it sets.
+/// Each setting of a day's list makes a change that lasts to the end of the list.
 pub fn settings_change_things()
     ensures { DaySettingsChangeThings }
 {}
