@@ -58,7 +58,7 @@ impl<const N: usize> Nearest<N> {
         }
     }
 
-    /// Makes `offer` the ceiling of `column` and `row` its nearest row, if `offer` is below the ceiling.
+    /// If `offer` is below the ceiling of `column`, makes `row` its nearest row, and `offer` its ceiling.
     ///
     /// A column of the tree (`reached`) stays as it is. A column's ceiling is the lowest offer so far.
     fn compare(&mut self, reached: bool, row: usize, column: usize, offer: i16, scans: &mut Scans)
