@@ -79,7 +79,7 @@ with_files f g command = record { machine = f command.machine; action = with_act
 abbrev pub unborrowed_command : Command (Bor (List ℕ)) (Bor (List ℕ)) → Command (List ℕ) (List ℕ)
 unborrowed_command command = with_files (λ name. name.now) (λ name. name.now) command
 
--- the command, with `g` applied to its streamed file, if the command has a streamed file
+-- the command, with `g` applied to its streamed file, if it has one
 abbrev pub with_command_stream : {F O P : Type 0} → (O → P) → Command F O → Command F P
 with_command_stream g command = with_files (λ file. file) g command
 
