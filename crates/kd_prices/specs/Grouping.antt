@@ -1,6 +1,6 @@
 -- How keys with prices are grouped into kinds, and how a key's price is found among kinds. A kind stands for equal
--- cables, columns, bars or rows. Its key is what they have in common: the letters of a cable, the pair of a column, the
--- standing of a bar, or the reading of a row. No public contract cites this file.
+-- cables, columns, bars or rows. Its key is the cable's letters, the column's pair, the bar's standing or the row's
+-- reading. No public contract cites this file.
 use Rattle.std.specs.Prelude.{IsPermutation, List, Option, replicate, unsigned_abs, ◌++◌}
 use Rattle.std.specs.{List.{Contains, Sorted.IsSorted}, Prelude.{All, map, ℤ, ◌∷◌, ◌≡◌, ◌≢◌, ◌≤◌}}
 use Rattle.kd_card.specs.{Kinds.{AreKinds, ComesAfter, KindFormat, expansion, key_cmp}, declared.kinds.KindOf.KindOf}

@@ -40,8 +40,8 @@ fn kind_of_one<T: Copy>(pair: &(T, i16)) -> KindOf<T>
 
 /// Appends `kind` to `kinds`, and then the kinds of `pairs`, which are keys with prices.
 ///
-/// Items at the beginning of `pairs` that have the key and the price of `kind` only raise the count of `kind` by 1
-/// each.
+/// The first items of `pairs` may have the key and the price of `kind`. Each of these items only raises the count of
+/// `kind` by 1.
 fn push_kinds<K: Kind, const N: usize>(
     kind: KindOf<K::Key>,
     pairs: &[(K::Key, i16)],
