@@ -5,8 +5,8 @@ use Rattle.std.specs.declared.io.ErrorKind.TheVariants.{NotADirectory, NotFound,
 use Rattle.kd_new_file.specs.declared.why_unread.WhyUnread.{WhyUnread}
 use Rattle.kd_new_file.specs.declared.why_unread.WhyUnread.TheVariants as whys
 
--- The reason why a file can't be read, by the kind of the system's error: no file has this name, reading isn't
--- permitted, or another reason. If `a.txt` is a file, no file has the name `a.txt/b`.
+-- The reason for a kind of system error: no file has this name, reading isn't permitted, or another reason. If `a.txt`
+-- is a file, no file has the name `a.txt/b`.
 abbrev pub why_by_kind : ErrorKind → WhyUnread
 why_by_kind NotFound = whys.NotThere
 why_by_kind NotADirectory = whys.NotThere
