@@ -23,8 +23,8 @@ abbrev pub with_commands : App → List (Bor (List ℕ) × Bor (List (Bor (List 
 with_commands app commands = fold (λ a command. with_subcommand a (borrowed_shape command.0.now command.1.now)) app
     commands
 
--- `grammar` is the command `name` with an argument for each of `words`, and no argument is global, which would make it
--- valid in subcommands, too.
+-- `grammar` is the command `name` with an argument for each of `words`. No argument is global, that is, valid in
+-- subcommands, too.
 pub record IsMadeOf (grammar : Grammar) (name : List ℕ) (words : List (Bor (List ℕ))) : Type 0 where
   pub shape : app_of grammar ≡ app_without_subcommands (borrowed_shape name words)
   pub local : (out-Command grammar).has_globals ≡ false
