@@ -1,4 +1,4 @@
--- A day's plan: a shortest list of settings to the day, in the order of a page, and the machine to which they lead.
+-- A day's plan: a shortest list of settings to the day, in the order of the page's checkboxes.
 -- Test: tests/cases/curator-pages.toml
 use Rattle.std.specs.Prelude.{◌≡◌, ◌≤◌, List, length}
 use Rattle.kd_state.specs.declared.machine.parts.Parts.{Parts}

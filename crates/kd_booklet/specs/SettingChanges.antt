@@ -22,8 +22,8 @@ abbrev pub lug_at : Parts → ℕ → Lug → Option Place
 lug_at m bar Left = option_map (λ standing. standing.0) (machine_standing m bar)
 lug_at m bar Right = option_map (λ standing. standing.1) (machine_standing m bar)
 
--- `before` and `after` are a thing's values before and after a list of settings, and `due` is the value that a setting
--- asks for. `after` equals `due`, but `before` doesn't.
+-- A thing's value is `before` at first, and `after` at the end of a list of settings. Only `after` equals the value
+-- `due`, which a setting asks for.
 abbrev pub Becomes : {A : Type 0} → A → A → A → Type 0
 Becomes before after due = (before ≢ due) × (after ≡ due)
 
