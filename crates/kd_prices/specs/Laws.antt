@@ -1,5 +1,4 @@
--- Laws of checked cards: the doubts about a card, the settings left after its first lines, and the
--- prices of equal cables or bars.
+-- Laws of cards that prove themselves, and of the first doubt about any other card.
 use Rattle.std.specs.Prelude.{◌≡◌, ℕ, ◌-◌, ◌<◌, ◌≤◌, List, length, take, drop}
 use Rattle.kd_state.specs.{SheetDay.{Day, IsLegalDay}, declared.{machine.parts.Parts.Parts, setting.Setting.Setting}}
 use Rattle.kd_state.specs.{Machine.IsMachine, Setting.Leads}

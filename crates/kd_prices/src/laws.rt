@@ -1,5 +1,4 @@
-//! Laws of checked cards: the doubts about a card, the settings left after its first lines, and the
-//! prices of equal cables or bars.
+//! Laws of cards that prove themselves, and of the first doubt about any other card.
 ghost use Rattle.kd_prices.specs.Laws.{ProvingCardsAreInNoDoubt, OneDoubt, RestIsShortest, AlikePricesAreEqual};
 
 /// If a card proves itself, there is no doubt about the card. No card has two different first doubts.
