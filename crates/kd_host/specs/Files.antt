@@ -57,7 +57,7 @@ pub record IsReadWhole (source : Port) (answer : Result (List ℕ) FileFault) : 
   pub is : IsReadWholeAs source read answer
 
 -- ---- Which names of files were asked for.
--- Code: `HostFiles` keeps the file names that were asked for in a record, `AskedNames`.
+-- Code: `HostFiles` keeps a record, `AskedNames`, of the file names that were asked for.
 -- Test: tests/cases/desk-program.toml
 
 -- A file name that the program asked for, and whether the file could be read or opened.
