@@ -1,4 +1,4 @@
--- Answers of a call: lack of memory, a fault, a refusal before anything was written, or a failed device.
+-- Answers that a call may give: lack of memory, a fault, a refusal before anything was written, or a failed device.
 -- Test: tests/cases/desk-program.toml
 use Rattle.std.specs.Prelude.{◌≡◌, ◌⊎◌, Bool, true, false, Result, Ok, Err}
 use Rattle.kd_sheet.specs.declared.fault.SheetFault.TheVariants.{NoMemory}
