@@ -82,7 +82,7 @@ fn draw_desk<W: Sink>(sink: &mut W, language: Language, machine: &Machine)
     }
 }
 
-/// Writes the script's data, which stand before the table: the letters that the machine shows, and the script's words.
+/// Writes the script's data: the letters that the machine shows, and the script's words. The machine's table follows.
 fn draw_data<W: Sink>(sink: &mut W, language: Language, model: Model, rows: &MachineRows)
     ensures { Draws W.taken W.has_failed sink.old sink.new
         (data_text language model (shown_letters (rows_key rows.now))) }
