@@ -66,8 +66,8 @@ PairedKeysGiveBack =
 
 -- ---- A text in chunks.
 
--- The text `first ++ rest` can be enciphered in two chunks. The chunk `rest` is enciphered with the key that the
--- machine has after it enciphered `first`.
+-- The text `first ++ rest` can be enciphered in two chunks. After the chunk `first`, the machine enciphers the chunk
+-- `rest` with the key that it then has.
 abbrev pub EnigmaCipherOfChunks : Type 0
 EnigmaCipherOfChunks =
     (key : RotorKey) (first rest : List ℕ)
