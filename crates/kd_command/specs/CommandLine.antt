@@ -58,7 +58,7 @@ desk_grammar = record {
 }
 
 -- ---- A command with other values in place of its files.
--- Code: `Command` has two type parameters: for files that are read whole, and for a file that is streamed.
+-- Code: `Command` has two type parameters: one for files that are read whole, and one for a file that is streamed.
 -- Test: tests/cases/desk-program.toml
 
 -- the task, with `f` applied to its file if the file is read whole, or `g` if the file is streamed

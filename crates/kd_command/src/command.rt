@@ -29,7 +29,7 @@ pub struct Command<F, O> {
 /// What a command does with the machine.
 #[derive(Drop)]
 pub enum Action<F, O> {
-    /// Types standard input on the machine.
+    /// Types the text from standard input on the machine.
     Type,
     /// Carries out the settings in `list`, and prints the new machine file.
     Apply {
