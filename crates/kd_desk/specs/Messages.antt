@@ -37,8 +37,8 @@ pub record IsAnswered (is_so : Result (Unit {0}) FormFault → Type 0) (answer :
 abbrev pub TypesText : Parts → Port → Port → Result (Unit {0}) DeskFault → Type 0
 TypesText m source sink answer = IsAnswered (TypesIfReady m source sink) answer
 
--- The message was streamed or refused. Streaming means that a message is read in chunks, and its result is written
--- meanwhile.
+-- The message was streamed or refused. Streaming a message means writing its result while the message is still being
+-- read.
 abbrev pub IsStreamedOn : Parts → Day → Message → Port → Port → Result (Unit {0}) DeskFault → Type 0
 IsStreamedOn m s message source sink answer = IsAnswered (StreamsOnKey m s message source sink) answer
 
