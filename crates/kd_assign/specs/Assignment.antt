@@ -1,4 +1,4 @@
--- An assignment of rows to columns: a list that has the column of each row.
+-- An assignment gives each row a column. Item `i` of the list is the column of row `i`, counted from 0.
 -- Test: answers_three_rows, answers_small_tables, answers_the_largest_tables
 use Rattle.std.specs.Prelude.{ℕ, ◌+◌, ◌<◌, ◌≢◌, List, [], ◌∷◌, length, slice_index, All, AllPairs}
 

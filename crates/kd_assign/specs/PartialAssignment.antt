@@ -1,5 +1,5 @@
--- A partial assignment of columns to rows: `holders` has each column's row, or `None` for a free column. No public
--- contract cites this file.
+-- A partial assignment: some rows have a column, and others don't have one yet. For each column, the list `holders` has
+-- the row that has it, or `None` if the column is free. No public contract cites this file.
 use Rattle.std.specs.Prelude.{◌≡◌, ℕ, ◌*◌, ◌<◌, List, length, Option, Some, None, is_some, slice_index_or, count_by, ℤ}
 use Rattle.std.specs.Prelude.{pos, ◌+ℤ◌, ◌≤ℤ◌}
 use Rattle.kd_assign.specs.Prices.{cost_at, price_at}
@@ -16,13 +16,13 @@ IsColumnFree holders j = slice_index_or holders j None ≡ None
 abbrev pub IsRowAssigned : List (Option ℕ) → ℕ → Type 0
 IsRowAssigned holders i = (j : ℕ) × IsColumnTakenBy holders j i
 
--- Column `j` is the cheapest for row `i`: its cost in row `i` minus its price is the least.
+-- Column `j` is the cheapest for row `i`: its cost in row `i` minus its price is the least of all columns.
 abbrev pub IsCheapestColumn : ℕ → List (List ℕ) → List ℤ → ℕ → ℕ → Type 0
 IsCheapestColumn n cost prices i j =
     (k : ℕ) → k < n → (pos (cost_at cost i j) +ℤ price_at prices k) ≤ℤ (pos (cost_at cost i k) +ℤ price_at prices j)
 
--- Each row before row `next` has a column, and no other row has a column. At the prices `prices`, each row's column is
--- the cheapest column for this row.
+-- The rows before row `next` have columns, and the other rows have none. At the prices `prices`, each of these columns
+-- is the cheapest for its row.
 pub record IsSolvedUpTo (n : ℕ) (cost : List (List ℕ)) (prices : List ℤ)
     (holders : List (Option ℕ)) (next : ℕ) : Type 0 where
   pub places : length holders ≡ n

@@ -13,7 +13,7 @@ cost_at cost i j = slice_index (slice_index_or cost i []) j
 abbrev pub AreCostsAtMost : ℕ → List (List ℕ) → Type 0
 AreCostsAtMost greatest cost = All (λ line. All (λ c. c ≤ greatest) line) cost
 
--- price `i` of the list, counted from 0; 0 if the list has no price `i`
+-- price `i` of the list, counted from 0; a missing price counts as 0
 abbrev pub price_at : List ℤ → ℕ → ℤ
 price_at prices i = slice_index_or prices i (pos 0)
 

@@ -1,8 +1,8 @@
 -- How often `assign` compares a column with a row. It grows a tree for each of `n` rows.
 use Rattle.std.specs.Prelude.{ℕ, zero, suc, ◌+◌, ◌-◌, ◌*◌, ◌/◌, ◌≤◌}
 
--- `scans`, the number of comparisons, is at least `n * n`: one for each cell of the table. `scans` is at most 1 + 4 +
--- ... + `n * n`, the number of comparisons if all `n` trees grow to their full size.
+-- `scans` is the number of comparisons for a table of `n` rows. It is at least `n * n`: one for each cell. It is at
+-- most 1 + 4 + ... + `n * n`: the number if all `n` trees grow to their full size.
 pub record IsScanCount (n scans : ℕ) : Type 0 where
   pub least : n * n ≤ scans
   pub most : scans ≤ n * (n + 1) * (2 * n + 1) / 6

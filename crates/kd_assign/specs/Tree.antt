@@ -25,18 +25,17 @@ pub record IsNearest (n : ℕ) (prices : List ℤ) (reached : List Bool) (ceilin
   pub outside : has_column reached end ≡ false
   pub least : (j : ℕ) → j < n → has_column reached j ≡ false → room_at ceilings prices end ≤ℤ room_at ceilings prices j
 
--- A column is compared with `row`, which offers the price `offer` for this column. Before the comparison, the column's
--- nearest row is `near`, which offers `ceiling`. After the comparison, the nearest row is `near'`, which offers
--- `ceiling'`. If the column is outside the tree, `near'` is the row that offers less: `near` or `row`. If the tree has
--- the column (`reached`), nothing changes.
+-- What happens to a column if `row` offers the price `offer` for it. Before the offer, the column's nearest row is
+-- `near`, and its ceiling is `ceiling`. After the offer, they are `near'` and `ceiling'`. A column outside the tree
+-- takes the lower of the two prices, and the row that offers it. A column of the tree (`reached`) stays as it is.
 pub record IsCompared (reached : Bool) (row : ℕ) (offer : ℤ) (near : ℕ) (ceiling : ℤ)
     (near' : ℕ) (ceiling' : ℤ) : Type 0 where
   pub one : ((near' ≡ near) × (ceiling' ≡ ceiling)) ⊎ ((reached ≡ false) × (near' ≡ row) × (ceiling' ≡ offer))
   pub least : ceiling' ≤ℤ ceiling
   pub here : reached ≡ false → ceiling' ≤ℤ offer
 
--- For each column `j`, the ceiling is compared with the price that `row` offers for `j`. This price is `level` plus the
--- cost in row `row` and column `j`.
+-- Each column gets an offer from `row`, as in `IsCompared`. The offer for column `j` is `level` plus the cost in row
+-- `row` and column `j`.
 pub record AreCompared (n : ℕ) (cost : List (List ℕ)) (reached : List Bool) (row : ℕ) (level : ℤ) (near : List ℕ)
     (ceilings : List ℤ) (near' : List ℕ) (ceilings' : List ℤ) : Type 0 where
   pub at : (j : ℕ) → j < n

@@ -13,9 +13,9 @@ pub struct Nearest<const N: usize> {
     pub row: [usize; N],
     /// The ceiling of each column: the lowest price that a row of the tree offers for it.
     ///
-    /// A column's room is its ceiling minus its price. The tree grows by the column with the least room, until this
-    /// column is free. Let `r` be the room of the free column. Each column of the tree with less room than `r` gets a
-    /// lower price, so that its room becomes `r`.
+    /// A column's room is its ceiling minus its price. In each round, the column outside the tree with the least room
+    /// joins the tree. If this column is free, the growth ends instead. Let `r` be the room of the free column. Each
+    /// column of the tree with less room than `r` then gets a lower price, so that its room becomes `r`.
     pub ceiling: [i16; N],
 }
 
@@ -58,8 +58,9 @@ impl<const N: usize> Nearest<N> {
         }
     }
 
-    /// If `column` is outside the tree, and `offer` is below the column's ceiling (the lowest offer so far), makes
-    /// `row` the column's nearest row.
+    /// If `offer` is below the ceiling of `column`, makes `row` its nearest row, and `offer` its ceiling.
+    ///
+    /// A column of the tree (`reached`) stays as it is. A column's ceiling is the lowest offer so far.
     fn compare(&mut self, reached: bool, row: usize, column: usize, offer: i16, scans: &mut Scans)
         requires column { column < N }
         requires room { scans.old < 4294967295 }
@@ -91,7 +92,7 @@ impl<const N: usize> Nearest<N> {
 
     /// The level of `row`, which holds `column`: the column's ceiling minus the cost in the cell of `row` and `column`.
     ///
-    /// For any column, a row of the tree offers a price: the row's level plus the cost in their cell.
+    /// A row of the tree offers a price for each column: the row's level plus the cost in their cell.
     pub fn level(&self, cost: &[[u8; N]; N], row: usize, column: usize) -> i16
         requires row { row < N }
         requires column { column < N }
@@ -123,11 +124,10 @@ impl<const N: usize> Nearest<N> {
         least.unwrap()
     }
 
-    /// The column with less room (ceiling minus price), `first` or `second`. The result is `first` if the tree has
-    /// `second` already.
+    /// The column with less room (ceiling minus price): `first` or `second`.
     ///
-    /// If both columns have equal room, `second` wins exactly if it is free, because a free column ends the tree's
-    /// growth. The contract leaves this choice open.
+    /// If the tree has `second` already, the result is `first`. If both columns have equal room, `second` wins exactly
+    /// if it is free, because a free column ends the tree's growth. The contract leaves this choice open.
     fn nearer(
         &self,
         reached: &[bool; N],

@@ -1,4 +1,4 @@
--- What a plan says about a day's settings, and about the machine to which these settings lead.
+-- A day's plan: a shortest list of settings to the day, in the order of the page's checkboxes.
 -- Test: tests/cases/curator-pages.toml
 use Rattle.std.specs.Prelude.{◌≡◌, ◌≤◌, List, length}
 use Rattle.kd_state.specs.declared.machine.parts.Parts.{Parts}

@@ -34,7 +34,7 @@ abbrev pub is_seat : Setting → Bool
 is_seat (Seat slot wheel) = true
 is_seat _ = false
 
--- whether no setting seats a wheel after an earlier setting has turned a window
+-- whether each setting that seats a wheel comes before all settings that turn a window
 abbrev pub seats_before_turning : List Setting → Bool
 seats_before_turning [] = true
 seats_before_turning (x ∷ xs) =
@@ -44,8 +44,8 @@ seats_before_turning (x ∷ xs) =
 abbrev pub HandOrderIsPermutation : Type 0
 HandOrderIsPermutation = (xs : List Setting) → IsPermutation xs (in_hand_order xs)
 
--- Suppose that no setting of `xs` seats a wheel after an earlier setting has turned a window. If `xs` lead to machine
--- `n`, they lead to `n` in the operator's order, too.
+-- Suppose that the settings `xs` seat all their wheels before they turn a window. If `xs` lead to machine `n`, they
+-- lead to `n` in the operator's order, too.
 abbrev pub HandOrderLeads : Type 0
 HandOrderLeads =
     (m n : Parts) (xs : List Setting) → IsTrue (seats_before_turning xs) → Leads m xs n → Leads m (in_hand_order xs) n

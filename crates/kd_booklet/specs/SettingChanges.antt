@@ -1,4 +1,4 @@
--- Each setting of a day's list makes a lasting change to the thing that it sets.
+-- Each setting of a day's list changes the thing that it sets, and the change lasts to the end of the list.
 use Rattle.std.specs.Prelude.{◌≡◌, ◌≢◌, ℕ, true, false, All, Option, Some, option_map}
 use Rattle.kd_tables.specs.declared.lug.Lug.{Lug}
 use Rattle.kd_tables.specs.declared.lug.Lug.TheVariants.{Left, Right}
@@ -22,8 +22,8 @@ abbrev pub lug_at : Parts → ℕ → Lug → Option Place
 lug_at m bar Left = option_map (λ standing. standing.0) (machine_standing m bar)
 lug_at m bar Right = option_map (λ standing. standing.1) (machine_standing m bar)
 
--- `before` and `after` are a thing's values before and after a list of settings, and `due` is the value that a setting
--- asks for. `after` equals `due`, but `before` doesn't.
+-- A thing's value is `before` at first, and `after` at the end of a list of settings. Only `after` equals the value
+-- `due`, which a setting asks for.
 abbrev pub Becomes : {A : Type 0} → A → A → A → Type 0
 Becomes before after due = (before ≢ due) × (after ≡ due)
 
@@ -36,8 +36,8 @@ WindowTurns (Rotor m) n number letter =
 WindowTurns (Pin m) n number letter =
     Becomes (machine_pin_letter (Pin m) number) (machine_pin_letter n number) (Some letter)
 
--- The setting changes one thing: on the machine `m`, the thing isn't as the setting says; on the machine `n`, it is. A
--- page marks this difference between `m` and `n`, unless the thing is a Converter's letter.
+-- On machine `m`, the thing that the setting sets isn't as the setting says. On machine `n`, it is. A page marks this
+-- difference between `m` and `n`, unless the thing is a Converter's letter.
 abbrev pub Changes : Parts → Parts → Setting → Type 0
 Changes m n (RingTo wheel letter) = Becomes (machine_ring m wheel) (machine_ring n wheel) (Some letter)
 Changes m n (SeatReflector reflector) = Becomes (machine_reflector m) (machine_reflector n) (Some reflector)
@@ -49,8 +49,8 @@ Changes m n (PinTo wheel letter effective) =
 Changes m n (LugTo bar lug place) = Becomes (lug_at m bar lug) (lug_at n bar lug) (Some place)
 Changes m n (Turn number letter) = WindowTurns m n number letter
 
--- Each setting of a day's list makes a lasting change to the thing that it sets. Other lists may have settings without
--- a lasting change, such as the first of two turns of one wheel.
+-- Each setting of a day's list changes the thing that it sets, and the change lasts to the end of the list. Other lists
+-- may have settings without a lasting change, such as the first of two turns of one wheel.
 abbrev pub DaySettingsChangeThings : Type 0
 DaySettingsChangeThings =
     (m n : Parts) (s : Day) (plan : DayPlan) → IsMachine m → IsLegalDay s → IsDayPlan m s plan n

@@ -58,10 +58,10 @@ desk_grammar = record {
 }
 
 -- ---- A command with other values in place of its files.
--- Code: `Command` has two type parameters: for files that are read whole, and for a file that is streamed.
+-- Code: `Command` has two type parameters: one for files that are read whole, and one for a file that is streamed.
 -- Test: tests/cases/desk-program.toml
 
--- the task, with `f` applied to a file that is read whole, and `g` applied to a file that is streamed
+-- the task, with `f` applied to its file if the file is read whole, or `g` if the file is streamed
 abbrev pub with_task_files : {F G O P : Type 0} → (F → G) → (O → P) → Task F O → Task G P
 with_task_files f g tasks.Card = tasks.Card
 with_task_files f g (tasks.Check card) = tasks.Check (f card)
@@ -75,11 +75,11 @@ with_action_files f g (actions.OnDay sheet day task) = actions.OnDay (f sheet) d
 abbrev pub with_files : {F G O P : Type 0} → (F → G) → (O → P) → Command F O → Command G P
 with_files f g command = record { machine = f command.machine; action = with_action_files f g command.action }
 
--- the command, with its borrowed file names replaced by the names themselves
+-- the command, with each borrowed file name replaced by the name itself
 abbrev pub unborrowed_command : Command (Bor (List ℕ)) (Bor (List ℕ)) → Command (List ℕ) (List ℕ)
 unborrowed_command command = with_files (λ name. name.now) (λ name. name.now) command
 
--- the command, with `g` applied to its streamed file, if the command has a streamed file
+-- the command, with `g` applied to its streamed file, if it has one
 abbrev pub with_command_stream : {F O P : Type 0} → (O → P) → Command F O → Command F P
 with_command_stream g command = with_files (λ file. file) g command
 
@@ -140,12 +140,12 @@ HasActionWords rows actions.Type = Unit {0}
 HasActionWords rows (actions.Apply list) = first_of (codes "LIST") rows ≡ Some list
 HasActionWords rows (actions.OnDay sheet day task) = HaveSheetAndDay rows sheet day × HasTaskFile rows task
 
--- `said` is a command's name and the values of its arguments. The name and the values mean the action `action`.
+-- `said` is a command's name and the values of its arguments. Together they mean the action `action`.
 pub record IsActionOf (said : List ℕ × List Row) (action : NamedAction) : Type 0 where
   pub name : said.0 ≡ action_name action
   pub words : HasActionWords said.1 action
 
--- `said` is a command's name and the values of its arguments. The name and the values mean the command `command`.
+-- `said` is a command's name and the values of its arguments. Together they mean the command `command`.
 pub record IsCommandOf (said : List ℕ × List Row) (command : NamedCommand) : Type 0 where
   pub machine : first_of (codes "MACHINE") said.1 ≡ Some command.machine
   pub action : IsActionOf said command.action

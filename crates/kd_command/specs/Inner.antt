@@ -13,29 +13,30 @@ use Rattle.kd_command.specs.CommandLine.{NamedCommand, IsCommandOf, command_shap
 abbrev pub app_without_subcommands : Shape → App
 app_without_subcommands shape = record { top = shape; subs = [] }
 
--- the result of `command_shape` for arguments whose names are borrowed texts
+-- `command_shape` of `name` and `words`, where the arguments' names in `words` are borrowed
 abbrev pub borrowed_shape : List ℕ → List (Bor (List ℕ)) → Shape
 borrowed_shape name words = command_shape name (map (λ word. word.now) words)
 
--- The grammar `app`, with a subcommand added for each of `commands`. Each of `commands` has a command's name, and the
--- names of this command's arguments.
+-- The grammar `app`, with a subcommand added for each item of `commands`. An item has the command's name, and the names
+-- of the command's arguments.
 abbrev pub with_commands : App → List (Bor (List ℕ) × Bor (List (Bor (List ℕ)))) → App
 with_commands app commands = fold (λ a command. with_subcommand a (borrowed_shape command.0.now command.1.now)) app
     commands
 
--- `grammar` is the command `name` with an argument for each of `words`, and no argument is global.
+-- `grammar` is the command `name` with an argument for each of `words`. No argument is global, that is, valid in
+-- subcommands, too.
 pub record IsMadeOf (grammar : Grammar) (name : List ℕ) (words : List (Bor (List ℕ))) : Type 0 where
   pub shape : app_of grammar ≡ app_without_subcommands (borrowed_shape name words)
   pub local : (out-Command grammar).has_globals ≡ false
 
--- No command has the name and the argument values in `said`.
+-- No command is meant by the name and the argument values in `said`.
 abbrev pub IsNoCommand : List ℕ × List Row → Type 0
 IsNoCommand said = (command : NamedCommand) → ¬ (IsCommandOf said command)
 
--- the task, with its borrowed file names replaced by the names themselves
+-- the task, with its borrowed file name, if it has one, replaced by the name itself
 abbrev pub unborrowed_task : Task (Bor (List ℕ)) (Bor (List ℕ)) → Task (List ℕ) (List ℕ)
 unborrowed_task task = with_task_files (λ name. name.now) (λ name. name.now) task
 
--- the action, with its borrowed file names replaced by the names themselves
+-- the action, with each borrowed file name replaced by the name itself
 abbrev pub unborrowed_action : Action (Bor (List ℕ)) (Bor (List ℕ)) → Action (List ℕ) (List ℕ)
 unborrowed_action action = with_action_files (λ name. name.now) (λ name. name.now) action

@@ -29,7 +29,7 @@ pub struct Command<F, O> {
 /// What a command does with the machine.
 #[derive(Drop)]
 pub enum Action<F, O> {
-    /// Types standard input on the machine.
+    /// Types the text from standard input on the machine.
     Type,
     /// Carries out the settings in `list`, and prints the new machine file.
     Apply {
@@ -212,7 +212,7 @@ fn grammar<'a>(alloc: Global) -> Result<Grammar<'a>, AllocError>
     with_commands(alloc, desk, &COMMANDS)
 }
 
-/// Adds `commands` to `grammar`. Each of `commands` has a command's name, and the names of this command's arguments.
+/// Adds `commands` to `grammar`. An item of `commands` has a command's name, and the names of this command's arguments.
 fn with_commands<'a>(
     alloc: Global,
     grammar: Grammar<'a>,

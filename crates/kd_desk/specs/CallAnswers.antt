@@ -1,4 +1,4 @@
--- Answers of a call: lack of memory, a fault, a refusal before anything was written, or a failed device.
+-- Answers that a call may give: lack of memory, a fault, a refusal before anything was written, or a failed device.
 -- Test: tests/cases/desk-program.toml
 use Rattle.std.specs.Prelude.{◌≡◌, ◌⊎◌, Bool, true, false, Result, Ok, Err}
 use Rattle.kd_sheet.specs.declared.fault.SheetFault.TheVariants.{NoMemory}
@@ -6,11 +6,11 @@ use Rattle.kd_desk.specs.declared.fault.DeskFault.{DeskFault}
 use Rattle.kd_desk.specs.declared.fault.DeskFault.TheVariants.{File, Device, ReadTooLong, Message}
 use Rattle.kd_form.specs.Streams.{is_off_key}
 
--- The answer is `NoMemory`, whether or not memory has really run out.
+-- The answer is `NoMemory`. Whether memory has really run out is left open.
 abbrev pub LacksMemory : {A : Type 0} → Result A DeskFault → Type 0
 LacksMemory answer = answer ≡ Err (File NoMemory)
 
--- The answer is `fault`, unless the call ran out of memory.
+-- The answer is `fault`, or it is `NoMemory`.
 abbrev pub AnswersFault : Result (Unit {0}) DeskFault → DeskFault → Type 0
 AnswersFault answer fault = (answer ≡ Err fault) ⊎ LacksMemory answer
 

@@ -1,4 +1,4 @@
--- The text of each `DeskFault`: a text of its own, or the text of a lower crate's fault.
+-- The text of each `DeskFault`. A fault that comes from another crate, such as a card's fault, keeps its text.
 -- Test: says_why_it_refuses
 use Rattle.std.specs.Prelude.{ℕ, List}
 use Rattle.kd_tables.specs.declared.refusal.Refusal.TheVariants as refusals

@@ -1,5 +1,4 @@
--- If a machine uses only its first `number` cables, these cables suffice for a month in which each day has at most
--- `number` pairs.
+-- If a machine uses only its first `number` cables, these cables suffice for a month with at most `number` pairs a day.
 use Rattle.std.specs.Prelude.{◌≡◌, ℕ, List, Option, Some, Ok, All}
 use Rattle.kd_state.specs.declared.machine.parts.Parts.{Parts}
 use Rattle.kd_state.specs.declared.setting.Setting.{Setting}

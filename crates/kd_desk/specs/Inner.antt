@@ -17,11 +17,11 @@ use Rattle.kd_desk.specs.Stops.{stop_after}
 
 -- ---- Reading and carrying out a part of a command. No public contract cites these definitions.
 
--- the task, with `g` applied to its streamed file, if the task has a streamed file
+-- the task, with `g` applied to its streamed file, if it has one
 abbrev pub with_task_stream : {F O P : Type 0} → (O → P) → Task F O → Task F P
 with_task_stream g task = with_task_files (λ file. file) g task
 
--- the action, with `g` applied to the action's streamed file, if there is one
+-- the action, with `g` applied to its streamed file, if it has one
 abbrev pub with_action_stream : {F O P : Type 0} → (O → P) → Action F O → Action F P
 with_action_stream g action = with_action_files (λ file. file) g action
 
@@ -29,9 +29,9 @@ with_action_stream g action = with_action_files (λ file. file) g action
 abbrev pub HasNoFailedRead : {O : Type 0} → (O → Bool) → Option O → Type 0
 HasNoFailedRead failed file = IfSome file (λ f. failed f ≡ false)
 
--- A task was carried out with the machine file `machine` and day `number` of the key sheet `sheet`: its function, such
--- as `run_card`, was called. The program's answer `answer` is made from the function's answer. `left` is what is known
--- of the opened file after the call.
+-- The function for a task, such as `run_card`, was called with the machine file `machine` and day `number` of the key
+-- sheet `sheet`. `answer` is the answer of this function, with a fault turned into a `Stop`. `left` is what is known of
+-- the opened file after the call.
 pub record IsTaskDone (left : KnownFile) (machine sheet : List ℕ) (number : ℕ) (task : KnownTask) (sink : Port)
     (answer : Result (Unit {0}) Stop) : Type 0 where
   pub told : Result (Unit {0}) DeskFault

@@ -21,12 +21,12 @@ fault_of_message message.Device = faults.Device
 fault_of_message message.ReadTooLong = faults.ReadTooLong
 fault_of_message fault = faults.Message fault
 
--- the desk's answer, made from the answer of the call that typed, sent or received a message
+-- the answer of a call that typed, sent or received a message, with its fault turned into a `DeskFault`
 abbrev pub answer_to_message : Result (Unit {0}) FormFault → Result (Unit {0}) DeskFault
 answer_to_message answer = result_map_both (λ done. done) fault_of_message answer
 
--- A call that types, sends or receives a message gave an answer that satisfies `is_so`. The desk's answer `answer` is
--- made from the call's answer.
+-- A call that types, sends or receives a message gave an answer that satisfies `is_so`. `answer` is this answer, with
+-- its fault turned into a `DeskFault`.
 pub record IsAnswered (is_so : Result (Unit {0}) FormFault → Type 0) (answer : Result (Unit {0}) DeskFault)
     : Type 0 where
   pub told : Result (Unit {0}) FormFault
@@ -37,7 +37,8 @@ pub record IsAnswered (is_so : Result (Unit {0}) FormFault → Type 0) (answer :
 abbrev pub TypesText : Parts → Port → Port → Result (Unit {0}) DeskFault → Type 0
 TypesText m source sink answer = IsAnswered (TypesIfReady m source sink) answer
 
--- The message was streamed: it was read in chunks, and its result was written meanwhile.
+-- The message was streamed or refused. Streaming a message means writing its result while the message is still being
+-- read.
 abbrev pub IsStreamedOn : Parts → Day → Message → Port → Port → Result (Unit {0}) DeskFault → Type 0
 IsStreamedOn m s message source sink answer = IsAnswered (StreamsOnKey m s message source sink) answer
 
@@ -45,9 +46,10 @@ IsStreamedOn m s message source sink answer = IsAnswered (StreamsOnKey m s messa
 abbrev pub Sends : Parts → Day → Port → Port → Result (Unit {0}) DeskFault → Type 0
 Sends m s order sink answer = IsStreamedOn m s (order_message s) order sink answer
 
--- How the forms and the orders of day `s` agree. If a form is made from an order, the form's text
--- is the text that the receiver must get. A form made from an order has no fault. No prefix of this
--- form has a fault that stays whatever bytes follow.
+-- The forms and the orders of day `s` agree. Suppose that a form is made from an order.
+-- - The form's text is the order's plaintext, as `IsPlaintextOf` defines it.
+-- - The form has no fault.
+-- - No prefix of the form has a fault that stays whatever bytes follow.
 pub record FormsAgreeWithOrders (s : Day) : Type 0 where
   pub back : (form text order given : List ℕ) → IsTextOf s form text → IsFormOf s order form
       → IsPlaintextOf s order given → text ≡ given

@@ -24,8 +24,10 @@ machine_and_day machine sheet number = do
   day ← ok_or (day_of month number) NoSuchDay
   Ok (m, day)
 
--- Either the machine and the day satisfy `Holds`, or the machine or the day can't be found, or memory ran out. If the
--- machine or the day can't be found, the answer is the first fault.
+-- One of three things holds:
+-- - The machine and the day are found, and they satisfy `Holds`.
+-- - The machine or the day can't be found, and the answer is the first fault.
+-- - The answer is `NoMemory`.
 abbrev pub IsAnswerOnDay : List ℕ → List ℕ → ℕ → (Parts → Day → Type 0) → Result (Unit {0}) DeskFault → Type 0
 IsAnswerOnDay machine sheet number Holds answer =
     MatchResult (machine_and_day machine sheet number) (λ found. Holds found.0 found.1) (λ fault. answer ≡ Err fault)

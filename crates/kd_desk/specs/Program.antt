@@ -33,8 +33,7 @@ use Rattle.kd_desk.specs.RunCard.{IsChosenCard, Prints}
 use Rattle.kd_desk.specs.RunCheck.{Checks}
 use Rattle.kd_desk.specs.CallAnswers.{LacksMemory, AnswersFault, is_refused_before_message, is_device}
 
--- A task whose files have been read or opened. It has the bytes of a file that was read whole, or what is known of a
--- file that was opened.
+-- A task with its file, if it needs one: the bytes of a card, or what is known of an opened order or form.
 abbrev pub KnownTask : Type 0
 KnownTask = Task (List ℕ) KnownFile
 
@@ -49,7 +48,7 @@ abbrev pub with_file : {F X : Type 0} → Result F FileFault → (F → Result X
 with_file (Ok file) made = made file
 with_file (Err fault) made = Err fault
 
--- the task with its files read or opened, or the fault of the first file that couldn't be read or opened
+-- the task with its file read or opened, or the fault if the file can't be read or opened
 abbrev pub known_task : (List ℕ → Option (List ℕ)) → NamedTask → Result KnownTask FileFault
 known_task held tasks.Card = Ok tasks.Card
 known_task held (tasks.Check card) = with_file (content_of (held card)) (λ bytes. Ok (tasks.Check bytes))
@@ -116,8 +115,8 @@ has_file_failed (Some file) left = left.failed
 abbrev pub StopsForMemory : Result (Unit {0}) Stop → Type 0
 StopsForMemory answer = (answer ≡ Err (Refused (File NoMemory))) ⊎ (answer ≡ Err (Unread files.NoMemory))
 
--- A command was carried out: its function, such as `run_card`, was called. The program's answer `answer` is made from
--- the function's answer. `left` is what is known of the opened file after the call.
+-- The function for a command, such as `run_card`, was called. `answer` is the answer of this function, with a fault
+-- turned into a `Stop`. `left` is what is known of the opened file after the call.
 pub record IsCommandDone (left : KnownFile) (command : KnownCommand) (source sink : Port)
     (answer : Result (Unit {0}) Stop) : Type 0 where
   pub told : Result (Unit {0}) DeskFault

@@ -40,7 +40,9 @@ pub record WritesCard (Promise : List Setting → PriceParts → Type 0) (number
   pub written : WritesText Device (card_text number settings prices) sink answer
   pub failure : IsErr answer → IsTrue sink.has_failed
 
--- The machine and the day are of different models, or a card that satisfies `Promise` was written.
+-- One of two things holds:
+-- - The machine and the day are of different models, and the answer is `OtherModel`.
+-- - A card that satisfies `Promise` was written, as `WritesCard` says.
 pub data Prints (Promise : List Setting → PriceParts → Type 0) (machine : Parts) (day : Day) (number : ℕ) (sink : Port)
     (answer : Result (Unit {0}) DeskFault) : Type 0 where
   Different : model_of machine ≢ day_model day → answer ≡ Err OtherModel

@@ -1,4 +1,4 @@
--- Settings as bytes: a card if the bytes begin as a card does, otherwise a list.
+-- Settings as bytes: a card if the bytes begin with `CARD` and a space, otherwise a list.
 -- Code: `read_settings` looks at the first five bytes, and then calls the reader of cards or of lists.
 -- Test: tests/cases/desk-cards.toml
 use Rattle.std.specs.Prelude.{codes, ◌≡◌, ℕ, nat_eq, Bool, List, IsTrue, IsFalse}

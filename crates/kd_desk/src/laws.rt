@@ -41,8 +41,8 @@ pub fn months_are_fewest()
     ensures { MonthsAreFewest }
 {}
 
-/// If a machine uses only its first `number` cables, these cables suffice for a month in which each day has at most
-/// `number` pairs.
+/// If a machine uses only its first `number` cables, these cables suffice for a month with at most `number` pairs a
+/// day.
 ///
 /// For example, suppose that a machine uses only its first ten cables, and that each day has at most ten pairs. Then
 /// the month's cards name only these cables, and only these cables are used.

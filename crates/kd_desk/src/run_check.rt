@@ -19,10 +19,11 @@ use std::alloc::Global;
 
 /// Checks that `card` proves itself shortest, from the machine in `machine` to day `number` of `sheet`.
 ///
-/// `machine` is a machine file, and `sheet` a key sheet. If the card's prices prove the card shortest, writes SHORTEST
-/// and the number of the card's settings. Faults are tested in this order: faults of the machine file, faults of the
-/// sheet, `NoSuchDay`, faults of the card, `OtherDay`, `Doubtful`. `Doubtful` has the first reason why the card doesn't
-/// prove itself. For all of these faults, nothing is written. For `Device`, only a prefix of the line is written.
+/// `machine` is a machine file, and `sheet` a key sheet. If the card's prices prove the card shortest, writes a line:
+/// SHORTEST and the number of the card's settings. Faults are tested in this order: faults of the machine file, faults
+/// of the sheet, `NoSuchDay`, faults of the card, `OtherDay`, `Doubtful`. `Doubtful` has the first reason why the card
+/// doesn't prove itself. For all of these faults, nothing is written. For `Device`, only a prefix of the line is
+/// written.
 pub fn run_check<W: Sink>(
     alloc: Global,
     machine: &[u8],

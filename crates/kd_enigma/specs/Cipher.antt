@@ -1,5 +1,5 @@
 -- The key of a rotor machine before and after key presses, the current's path, and the cipher.
--- Code: `Enigma` keeps each part of the key in a field; the window is in its stepper.
+-- Code: `Enigma` has a field for each part of the key, but keeps the window letters in its field `stepper`.
 -- Test: the_rings_do_not_turn_the_notches
 use Rattle.std.specs.Prelude.{ℕ, List, [], ◌∷◌, ◌++◌, map, reverse, slice_index}
 use Rattle.std.specs.List.{enumerate_from}
@@ -24,7 +24,7 @@ pub record IsPlugboard (plugs : List ℕ) : Type 0 where
   pub permutation : IsPermutation26 plugs
   pub own_inverse : IsOwnInverse plugs
 
--- `key`, with the letters `window` in the windows
+-- `key` with the window letters `window` instead of its own
 abbrev pub key_turned : RotorKey → List ℕ → RotorKey
 key_turned key window = record key { window = window }
 
@@ -34,7 +34,7 @@ key_after key n = key_turned key (window_after key.wheels key.window n)
 
 -- ---- The current's path as a product of permutations, and the cipher that steps the wheels before each letter.
 -- Source: the published accounts of the current's path.
--- Code: `Enigma` keeps the path for the letters in the windows as one table, and makes this table anew after each step.
+-- Code: `Enigma` keeps one table: the whole path at the letters that show. Each step makes this table anew.
 -- Test: tests/refusals
 
 -- for each wheel, its permutation at the given ring letter and window letter; all lists are in order from the left

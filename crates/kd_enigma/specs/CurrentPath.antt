@@ -5,7 +5,8 @@ use Rattle.kd_tables.specs.Permutation.{alphabet, followed_by, inverse}
 use Rattle.kd_tables.specs.declared.wheel.Wheel.{Wheel}
 use Rattle.kd_enigma.specs.Rotor.{rotor}
 
--- A wheel, its ring, and the board to the wheel's right: the plugboard, or a permutation that changes nothing.
+-- A wheel with its ring and its board. The board is a permutation that the current passes on its way in, just before
+-- the wheel. It is the plugboard, or changes nothing.
 pub record SeatedWheel : Type 0 where
   pub wheel : Wheel
   pub ring : ℕ
@@ -24,8 +25,8 @@ around_wheels core (s ∷ seated) (letter ∷ window) = around_wheels
     (around_wheel s.board core (rotor s.wheel s.ring letter)) seated window
 around_wheels core _ _ = core
 
--- for each letter that a wheel can show, two permutations: the way in through the board and the wheel, and the way back
--- through both
+-- for each letter that a wheel can show, two permutations: the current's way in through board and wheel, and its way
+-- back
 abbrev pub ways_by_window : Wheel → ℕ → List ℕ → List (List ℕ × List ℕ)
 ways_by_window wheel ring board = map (λ window. let turns = rotor wheel ring window in
     (followed_by board turns, followed_by (inverse turns) board)) alphabet

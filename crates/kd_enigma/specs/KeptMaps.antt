@@ -8,7 +8,7 @@ use Rattle.kd_step.specs.Stepper.{Stepping}
 use Rattle.kd_enigma.specs.CurrentPath.{SeatedWheel, around_wheels}
 use Rattle.kd_enigma.specs.Cipher.{RotorKey, IsPlugboard, path}
 
--- `slots` without its last item: the right wheel's item, if each slot has an item.
+-- `slots` without its last item. If each slot has an item, the last item belongs to the right wheel.
 abbrev pub slow_slots : {X : Type 0} → List X → List X
 slow_slots slots = take (length slots - 1) slots
 

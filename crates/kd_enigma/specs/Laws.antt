@@ -66,13 +66,13 @@ PairedKeysGiveBack =
 
 -- ---- A text in chunks.
 
--- The text `first ++ rest` can be enciphered in two chunks. The chunk `rest` is enciphered with the key that the
--- machine has after it enciphered `first`.
+-- The text `first ++ rest` can be enciphered in two chunks. After the chunk `first`, the machine enciphers the chunk
+-- `rest` with the key that it then has.
 abbrev pub EnigmaCipherOfChunks : Type 0
 EnigmaCipherOfChunks =
     (key : RotorKey) (first rest : List ℕ)
     → enigma_cipher key (first ++ rest) ≡ enigma_cipher key first ++ enigma_cipher (key_after key (length first)) rest
 
--- `m` key presses and then `n` more give the key that `m + n` key presses give.
+-- `m` key presses and then `n` more lead to the same key as `m + n` key presses.
 abbrev pub EnigmaKeyAfterChunks : Type 0
 EnigmaKeyAfterChunks = (key : RotorKey) (m n : ℕ) → key_after (key_after key m) n ≡ key_after key (m + n)

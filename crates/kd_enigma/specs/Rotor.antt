@@ -1,14 +1,13 @@
 -- The permutation of one wheel in the machine.
 -- Source: the published accounts of rings and windows.
--- Code: `Rotor::new` makes the permutations of a wheel for all 26 window letters, once.
+-- Code: `Rotor::new` computes a wheel's permutations for all 26 window letters in advance.
 -- Test: tests/refusals
 use Rattle.std.specs.Prelude.{ℕ, ◌+◌, ◌-◌, ◌%◌, List}
 use Rattle.kd_tables.specs.Permutation.{followed_by, shift}
 use Rattle.kd_tables.specs.Tables.{wiring_of}
 use Rattle.kd_tables.specs.declared.wheel.Wheel.{Wheel}
 
--- the number of places that a wheel is turned from the position of its published wiring: window letter minus ring
--- letter
+-- how many places a wheel is turned away from its published wiring: window letter minus ring letter, modulo 26
 abbrev pub offset : ℕ → ℕ → ℕ
 offset ring letter = (letter + (26 - ring)) % 26
 

@@ -123,7 +123,7 @@ impl<const S: usize> Enigma<S> {
     /// Steps the wheels, and updates the permutations that depend on the window.
     ///
     /// `slow_map` is the path through all wheels but the right one. It changes only if the second wheel from the right
-    /// moves, because the wheels further left move only together with that wheel.
+    /// moves. The wheels to the left of that wheel never move without it.
     fn step(&mut self)
         ensures { self.new ≡ key_after self.old 1 }
     {

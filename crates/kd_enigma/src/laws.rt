@@ -1,4 +1,4 @@
-//! Laws of the Enigma's cipher: they follow from its definition, whatever the code does.
+//! Laws of the Enigma's cipher. They follow from the cipher's definition, not from the code.
 ghost use Rattle.std.specs.Prelude.{[]};
 ghost use Rattle.kd_tables.specs.Permutation.{exchange};
 ghost use Rattle.kd_enigma.specs.Cipher.{IsPlugboard};

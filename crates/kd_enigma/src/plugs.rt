@@ -24,7 +24,7 @@ impl LetterTwice {
     }
 }
 
-/// A plugboard: for each letter, the other letter of this letter's cable. A letter without a cable stands for itself.
+/// A plugboard: a table of the letter that each letter becomes. A letter without a cable becomes itself.
 #[derive(Clone, Copy)]
 pub struct Plugs {
     table: [Letter; 26],

@@ -34,15 +34,16 @@ opening_of (Some bytes) = Ok (record { bytes = Some bytes; failed = false })
 abbrev pub bytes_in_files : List (Bor (List ℕ) × Bor (List ℕ)) → List ℕ → Option (List ℕ)
 bytes_in_files files name = option_map (λ file. file.1.now) (find (λ file. bytes_eq file.0.now name) files)
 
--- `answer` agrees with `meant`: both are the same fault, or `known` maps the opened file to the file in `meant`.
+-- `meant` is the expected result of opening a file, and `answer` fits it. Either both are the same fault, or `answer`
+-- is an opened file, which `known` maps to the file in `meant`.
 abbrev pub IsOpenAnswer : {O : Type 0} → Result KnownFile FileFault → (O → KnownFile) → Result O FileFault → Type 0
 IsOpenAnswer meant known answer = result_map_both known (λ fault. fault) answer ≡ meant
 
--- The list `read` has the bytes that were read from a source.
--- - With `Ok`, these are all bytes of the source.
--- - With `ReadTooLong`, the list has one byte more than a file may have.
--- - With `Device`, the next read failed, and the list has at most as many bytes as a file may have.
--- - With `NoMemory`, memory ran out, and the list has at most one byte more than a file may have.
+-- The list `read` has the bytes that were read from a source. A file may have at most `read_limit` bytes.
+-- - `Ok`: the result has all bytes up to the source's end, at most `read_limit`.
+-- - `ReadTooLong`: one byte more than `read_limit` was read.
+-- - `Device`: a read failed, after at most `read_limit` bytes.
+-- - `NoMemory`: memory ran out, after at most `read_limit + 1` bytes.
 abbrev pub IsReadWholeAs : Port → List ℕ → Result (List ℕ) FileFault → Type 0
 IsReadWholeAs source read (Ok bytes) = (bytes ≡ read) × (length read ≤ read_limit) × IsAtEnd source.has
     × KeepsFailureFlag source
@@ -56,7 +57,7 @@ pub record IsReadWhole (source : Port) (answer : Result (List ℕ) FileFault) : 
   pub is : IsReadWholeAs source read answer
 
 -- ---- Which names of files were asked for.
--- Code: `HostFiles` keeps the names in a record, `AskedNames`.
+-- Code: `HostFiles` keeps a record, `AskedNames`, of the file names that were asked for.
 -- Test: tests/cases/desk-program.toml
 
 -- A file name that the program asked for, and whether the file could be read or opened.
@@ -85,7 +86,9 @@ AreAskedFor names old new false = MissesOne names old new
 
 -- ---- What an inner function answers that reads or opens several files. No public contract cites this definition.
 
--- Either `answer` is `NoMemory`, or it agrees with `meant`: both are the same fault, or `known` maps the value of
--- `answer` to the value of `meant`.
+-- `meant` is the expected result of reading files, and `answer` fits it. One of three things holds:
+-- - `answer` is `NoMemory`.
+-- - `answer` and `meant` are the same fault.
+-- - `known` maps the value of `answer` to the value of `meant`.
 abbrev pub IsReadAnswer : {X Y : Type 0} → Result Y FileFault → (X → Y) → Result X FileFault → Type 0
 IsReadAnswer meant known answer = AgreesOrNoMemory NoMemory meant (result_map_both known (λ fault. fault) answer)

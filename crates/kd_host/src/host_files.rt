@@ -20,7 +20,7 @@ pub struct HostFiles<'n> {
 }
 
 impl<'n> HostFiles<'n> {
-    /// Gives access to the files that `rt` can open. The record of names is empty.
+    /// Gives access to the files that `rt` can open. The record of the names asked for is empty at first.
     pub fn new(rt: &'n HostRuntime) -> Self
         ensures { result.asked ≡ [] }
     {

@@ -1,4 +1,4 @@
--- Why there is no new file, by the kind of the system's error.
+-- Why there is no new file: the fault for each kind of system error.
 -- Test: tests/new-files
 use Rattle.std.specs.declared.io.ErrorKind.{ErrorKind}
 use Rattle.std.specs.declared.io.ErrorKind.TheVariants.{AlreadyExists, OutOfMemory}

@@ -1,5 +1,5 @@
 -- Files by their names, and what a new file adds to these files.
--- Code: `begin` makes a file under another name, and `publish` renames it. Files in memory are a map.
+-- Code: `begin` makes the new file under another name, and `publish` renames it. Files in memory are a `BTreeMap`.
 -- Test: tests/new-files
 use Rattle.std.specs.Prelude.{codes, decimal, ◌≡◌, ◌≢◌, ◌≤◌, ◌++◌, ℕ, List, Option, Some, None, String, Vec, bytes_eq}
 use Rattle.std.specs.Prelude.{◌↔◌, IfSome, IsSome, option_map}
@@ -22,21 +22,21 @@ abbrev pub AddsFile : Option FilesByName → Option FilesByName → List ℕ →
 AddsFile None new name bytes = new ≡ None
 AddsFile (Some files) new name bytes = (files name ≡ None) × (new ≡ Some (with_content files name bytes))
 
--- the name under which the file `name` is written at first: `name`, `.part` and `number`
+-- the name under which the file `name` is written at first: `name`, `.part` and `number`, for example `a.txt.part1`
 abbrev pub part_name : List ℕ → ℕ → List ℕ
 part_name name number = name ++ (codes ".part" ++ decimal number)
 
--- Why no file could be begun under any of the 100 names that `part_name` gives for `name`. The reason is never `Taken`,
--- since after a taken name, the next name is tried. If the files are known, the reason is `Device` only if all these
--- names are taken.
+-- `fault` is the reason why no file could be begun for `name`. A taken name is no reason: after it, the next of the 100
+-- names that `part_name` gives is tried. If the files are known, the reason is `Device` only if all 100 names are
+-- taken.
 pub record IsWhyNotBegun (files : Option FilesByName) (name : List ℕ) (fault : NewFileFault) : Type 0 where
   pub other : fault ≢ Taken
   pub device : IfSome files (λ known. fault ≡ Device → (number : ℕ) → 1 ≤ number → number ≤ 100
       → IsSome (known (part_name name number)))
 
--- Why a file that was begun under another name wasn't renamed to `name`. `files` are the files before the file was
--- begun. If `files` are known, the reason is `Taken` exactly if one of them is called `name`, and the reason is never
--- `Device`.
+-- `fault` is the reason why a file that was begun under another name wasn't renamed to `name`. `files` are the files
+-- before this file was begun. If they are known, the reason is never `Device`, and is `Taken` exactly if one of them is
+-- called `name`.
 abbrev pub IsWhyUnnamed : Option FilesByName → List ℕ → NewFileFault → Type 0
 IsWhyUnnamed files name fault = IfSome files (λ known. ((fault ≡ Taken) ↔ IsSome (known name)) × (fault ≢ Device))
 

@@ -21,9 +21,9 @@ NamesNoneAbove number (Pull cable letter) = cable ≤ number
 NamesNoneAbove number (Put cable letter) = cable ≤ number
 NamesNoneAbove number _ = Unit {0}
 
--- Suppose that only the first `number` cables are in use, and that the day has at most `number` pairs. Suppose also
--- that the machine carries out settings which leave spare cables free. Then these settings name only the first `number`
--- cables, and at the end only these cables are in use.
+-- Suppose that only the first `number` cables are in use, and that the day has at most `number` pairs. If the machine
+-- carries out settings that leave spare cables free, these settings name only the first `number` cables. Afterwards,
+-- only these cables are in use.
 abbrev pub FewCablesServe : Type 0
 FewCablesServe =
     (number : ℕ) (machine after : Parts) (day : Day) (settings : List Setting) → UsesNoneAbove number machine

@@ -1,4 +1,4 @@
-//! Plans a card: settings for all but cables and bars, and a minimum-cost assignment for cables or bars.
+//! Plans a card. Its settings for cables or bars carry out a minimum-cost assignment.
 ghost use Rattle.std.specs.Prelude.{◌≡◌, ◌≢◌, ◌≤◌, ◌*◌, ◌==◌, if◌then◌else◌, IfOk, IsErr, ◌↔◌};
 ghost use Rattle.std.specs.Prelude.{All, length, pos, replicate, unsigned_abs};
 ghost use Rattle.kd_card.specs.Prices.{ArePrices};

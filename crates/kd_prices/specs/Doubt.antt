@@ -24,8 +24,8 @@ PricesSuitMachine _ _ = ⊥
 abbrev pub CellComesBefore : ℕ → ℕ → ℕ → ℕ → Type 0
 CellComesBefore i j row column = (i < row) ⊎ ((i ≡ row) × (j < column))
 
--- The cells of a table are ordered row by row. The first cell where `Holds` is false is in row `row` and column
--- `column`, counted from 0. The table has `number` rows and `number` columns.
+-- Row by row, the first cell where `Holds` is false is in row `row` and column `column`, counted from 0. The table has
+-- `number` rows and `number` columns.
 pub record IsFirstWithout (Holds : ℕ → ℕ → Type 0) (number row column : ℕ) : Type 0 where
   pub row_within : row < number
   pub column_within : column < number
@@ -97,8 +97,8 @@ IsByPricesAnswer machine day settings number rows columns answer =
     (prices : PriceParts) → machine_prices prices ≡ rows → day_prices prices ≡ columns → table_size prices ≡ number
     → IsByNumberAnswer machine day settings prices answer
 
--- The result of finding the prices of the table's rows and columns: two lists of prices, or the first doubt. `make`
--- makes the prices of a card from the two lists.
+-- The result of finding the prices of the table's rows and columns: two lists of prices, or the first doubt. The
+-- function `make` turns the two lists into the prices of a card.
 abbrev pub ArePricesFound : Parts → Day → PriceParts → (List ℤ → List ℤ → PriceParts)
     → AnswerRule Doubt (List ℤ × List ℤ)
 ArePricesFound machine day prices make = do

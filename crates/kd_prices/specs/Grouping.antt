@@ -1,16 +1,16 @@
--- Grouping keys with prices into kinds, and finding the price of a key in the kinds. A key is the letters of a cable,
--- the pair of a column, a standing or a reading. No public contract cites this file.
+-- How keys with prices are grouped into kinds, and how a key's price is found among kinds. A kind stands for equal
+-- cables, columns, bars or rows. Its key is the cable's letters, the column's pair, the bar's standing or the row's
+-- reading. No public contract cites this file.
 use Rattle.std.specs.Prelude.{IsPermutation, List, Option, replicate, unsigned_abs, ◌++◌}
 use Rattle.std.specs.{List.{Contains, Sorted.IsSorted}, Prelude.{All, map, ℤ, ◌∷◌, ◌≡◌, ◌≢◌, ◌≤◌}}
 use Rattle.kd_card.specs.{Kinds.{AreKinds, ComesAfter, KindFormat, expansion, key_cmp}, declared.kinds.KindOf.KindOf}
 
--- `pairs` are keys (letters, standings or readings) with their prices. Equal keys have equal
--- prices.
+-- `pairs` is a list of keys, each with a price. Equal keys have equal prices.
 abbrev pub HaveOnePriceEach : {X : Type 0} → List (X × ℤ) → Type 0
 HaveOnePriceEach {X} pairs =
     (key : X) (price other : ℤ) → Contains pairs (key, price) → Contains pairs (key, other) → price ≡ other
 
--- A card may have the key (letters, a standing or a reading), and the price is from -9999 to 9999.
+-- The key is valid on a card, and the price is from -9999 to 9999.
 abbrev pub IsValidKeyAndPrice : {K X : Type 0} → KindFormat K X → X × ℤ → Type 0
 IsValidKeyAndPrice format pair = format.InForm pair.0 × (unsigned_abs pair.1 ≤ 9999)
 
@@ -29,11 +29,12 @@ pub record CanBeKinds {K X : Type 0} (format : KindFormat K X) (pairs : List (X 
   pub one_price : HaveOnePriceEach pairs
   pub fine : All (IsValidKeyAndPrice format) pairs
 
--- The list `new` is the list `old`, followed by added kinds. The expansion of a kind repeats its
--- key and price as often as its count says. The added kinds' expansion is the expansion of `kind`,
--- and then `pairs`. Suppose that the keys of `kind` and `pairs` can be grouped into valid kinds.
--- Then the added kinds are valid and strictly ascending. If the key of `kind` comes after the kind
--- `last`, all added kinds come after `last`, too.
+-- The list `new` is the list `old`, followed by added kinds. To expand a kind is to repeat its key and price as often
+-- as its count says.
+-- - Expanded, the added kinds are the expansion of `kind`, and then `pairs`.
+-- - If the keys of `kind` and `pairs` can be grouped into valid kinds, the added kinds are valid and strictly
+--   ascending.
+-- - If, besides, the key of `kind` comes after the kind `last`, so do all added kinds.
 pub record AppendsKinds {K X : Type 0} (format : KindFormat K X) (kind : KindOf X) (pairs : List (X × ℤ))
     (old new : List K) : Type 0 where
   pub made : List K
@@ -49,7 +50,7 @@ pub record AppendsKinds {K X : Type 0} (format : KindFormat K X) (kind : KindOf 
 abbrev pub HasNoneLeft : {X : Type 0} → List (KindOf X) → X → Type 0
 HasNoneLeft kinds key = All (λ pair. pair.0 ≢ key) (expansion kinds)
 
--- `left` are the kinds that remain of `kinds` after one copy of `key` and `price` is taken away. A kind stands for as
--- many copies of its key and price as its count says.
+-- A kind stands for as many copies of its key and price as its count says. The kinds `left` stand for the copies of
+-- `kinds`, less one copy of `key` and `price`.
 abbrev pub TakesOne : {X : Type 0} → List (KindOf X) → X → ℤ → List (KindOf X) → Type 0
 TakesOne kinds key price left = IsPermutation (expansion kinds) ((key, price) ∷ expansion left)

@@ -1,5 +1,4 @@
--- Laws of checked cards: the doubts about a card, the settings left after its first lines, and the
--- prices of equal cables or bars.
+-- Laws of cards that prove themselves, and of the first doubt about any other card.
 use Rattle.std.specs.Prelude.{◌≡◌, ℕ, ◌-◌, ◌<◌, ◌≤◌, List, length, take, drop}
 use Rattle.kd_state.specs.{SheetDay.{Day, IsLegalDay}, declared.{machine.parts.Parts.Parts, setting.Setting.Setting}}
 use Rattle.kd_state.specs.{Machine.IsMachine, Setting.Leads}
@@ -31,7 +30,7 @@ pub record AreShortest (machine : Parts) (day : Day) (settings : List Setting) (
   pub shortest : IsShortest machine day settings
   pub count : length settings ≡ number
 
--- After the first `lines` settings of a card that proves itself, the remaining settings are a shortest list.
+-- After the first `lines` settings of a card that proves itself, the remaining settings are a shortest list to the day.
 abbrev pub RestIsShortest : Type 0
 RestIsShortest =
     (machine between : Parts) (day : Day) (settings : List Setting) (prices : PriceParts) (lines : ℕ)

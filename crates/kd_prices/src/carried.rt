@@ -18,8 +18,8 @@ pub(crate) struct Carried {
 /// Carries out `settings` in turn. Returns the machine after the settings, and the doubt about the first needless
 /// setting, if there is one.
 ///
-/// A setting is needed if it changes a cable or a bar, or lowers the number of loose things by one. The error is the
-/// doubt about the first setting that the machine refuses.
+/// A setting is needed if it changes a cable or a bar, or lowers the number of loose things by one. If the machine
+/// refuses a setting, the error is the doubt about this setting.
 #[tactic(auto, using(kd_state::proofs::Carrying::stops_at))]
 pub(crate) fn carry_settings(
     machine: &Machine,

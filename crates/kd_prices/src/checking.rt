@@ -98,7 +98,7 @@ fn bar_prices(
     }
 }
 
-/// Finds the first doubt about a card's `settings`, with the prices of the table's rows and columns.
+/// Finds the first doubt about a card's `settings`, given the prices of the table's rows and columns.
 ///
 /// If `prices` is an error, returns this error's doubt.
 fn check_by_prices<const N: usize>(

@@ -22,8 +22,8 @@ pub enum Doubt {
     NotTheSheet,
     /// In the table of costs, the prices of this row and this column together exceed the cost in their cell.
     ///
-    /// Row by row, this cell is the first whose prices are too high. Rows and columns are counted from 1. A row of the
-    /// table is for a cable or a bar. A column is for a pair, for no pair, or for a row of the sheet.
+    /// Of all cells whose prices are too high, this cell is the first, row by row. Rows and columns are counted from 1.
+    /// A row of the table is for a cable or a bar. A column is for a pair, for no pair, or for a row of the sheet.
     PriceTooHigh(u8, u8),
     /// The sum of the prices isn't the number of lines that change a cable or a bar.
     SumDiffers,

@@ -7,11 +7,11 @@ use super::kind_keys::is_same_key;
 use arrayvec::ArrayVec;
 use kd_card::{Kind, KindOf};
 
-/// Groups keys with prices into kinds. If equal keys have equal prices, and all keys and prices are valid, equal keys
-/// share one kind.
+/// Groups `pairs`, which are keys with prices, into kinds.
 ///
-/// `pairs` are keys (the letters of a cable or column, a standing or a reading) with their prices. If equal keys have
-/// different prices, several kinds have this key, and `Prices` refuses the kinds.
+/// A key is the letters of a cable or column, a standing or a reading. If all keys and prices are valid, and equal keys
+/// have equal prices, equal keys share one kind. If equal keys have different prices, several kinds have this key, and
+/// `Prices` refuses the kinds.
 pub(crate) fn kinds_of<K: Kind, const N: usize>(pairs: ArrayVec<(K::Key, i16), N>) -> ArrayVec<K, N>
     requires small { N ≤ 255 }
     ensures expand { IsPermutation pairs.items (expansion (map K.format.kind result.items)) }
@@ -40,8 +40,8 @@ fn kind_of_one<T: Copy>(pair: &(T, i16)) -> KindOf<T>
 
 /// Appends `kind` to `kinds`, and then the kinds of `pairs`, which are keys with prices.
 ///
-/// The first items of `pairs` may have the key and the price of `kind`. Each of these items raises the count of `kind`
-/// by 1.
+/// The first items of `pairs` may have the key and the price of `kind`. Each of these items only raises the count of
+/// `kind` by 1.
 fn push_kinds<K: Kind, const N: usize>(
     kind: KindOf<K::Key>,
     pairs: &[(K::Key, i16)],

@@ -26,7 +26,7 @@ pub fn by_kind(machine: &Machine, day: &SheetDay, card: &Card) -> Option<Card>
     Some(Card { settings, prices })
 }
 
-/// Converts prices by number to prices by kind. `None` in the cases in which `by_kind` returns `None`.
+/// Converts prices by number to prices by kind. Returns `None` in the same three cases as `by_kind`.
 fn prices_by_kind(machine: &Machine, day: &SheetDay, prices: &Prices) -> Option<Prices>
     ensures some { IsSome result ↔ CanBeByKind machine.now day.now prices.now }
     ensures kinds { IfSome result (λ kinds. (version_of kinds ≡ ByKind)

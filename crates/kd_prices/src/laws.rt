@@ -1,5 +1,4 @@
-//! Laws of checked cards: the doubts about a card, the settings left after its first lines, and the
-//! prices of equal cables or bars.
+//! Laws of cards that prove themselves, and of the first doubt about any other card.
 ghost use Rattle.kd_prices.specs.Laws.{ProvingCardsAreInNoDoubt, OneDoubt, RestIsShortest, AlikePricesAreEqual};
 
 /// If a card proves itself, there is no doubt about the card. No card has two different first doubts.
@@ -8,7 +7,7 @@ pub fn a_card_is_in_one_doubt_at_most()
     ensures one { OneDoubt }
 {}
 
-/// After any number of lines of a card that proves itself, the remaining lines are a shortest list.
+/// After any number of lines of a card that proves itself, the remaining lines are a shortest list to the day.
 pub fn rest_of_a_card_is_shortest()
     ensures { RestIsShortest }
 {}

@@ -33,7 +33,8 @@ desk_text l m = if is_converter (model_of m) then pin_desk l (model_of m) else r
 abbrev pub script_words : Language → Model → List ℕ
 script_words l model = if is_converter model then text_in l texts.PIN_WORDS else text_in l texts.ROTOR_WORDS
 
--- the data for the script: the letters that the machine shows, and the script's words. The data stand before the table.
+-- the data for the script: the letters that the machine shows, and the script's words. The data stand before the
+-- machine's table.
 unfoldable pub data_text : Language → Model → List ℕ → List ℕ
 data_text l model letters = texts.START.now ++ letters_text letters ++ script_words l model
 

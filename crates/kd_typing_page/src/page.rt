@@ -71,8 +71,7 @@ fn draw_page_head<W: Sink>(sink: &mut W, language: Language, model: Model)
     draw(sink, BODY);
 }
 
-/// Writes the parts of the machine: windows and lamps of a rotor machine, or pin wheels of a Converter; then the keys
-/// and the tape.
+/// Writes a rotor machine's windows and lamps, or a Converter's pin wheels and knob. Then writes the keys and the tape.
 fn draw_desk<W: Sink>(sink: &mut W, language: Language, machine: &Machine)
     ensures { Draws W.taken W.has_failed sink.old sink.new (desk_text language machine.now) }
 {
@@ -83,8 +82,7 @@ fn draw_desk<W: Sink>(sink: &mut W, language: Language, machine: &Machine)
     }
 }
 
-/// Writes the data that stands before the table, for the script: the letters that the machine shows, and the script's
-/// words.
+/// Writes the script's data: the letters that the machine shows, and the script's words. The machine's table follows.
 fn draw_data<W: Sink>(sink: &mut W, language: Language, model: Model, rows: &MachineRows)
     ensures { Draws W.taken W.has_failed sink.old sink.new
         (data_text language model (shown_letters (rows_key rows.now))) }

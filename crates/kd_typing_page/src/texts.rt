@@ -1,5 +1,5 @@
-//! The fixed texts of a page for typing on a machine. Texts with words are in English and in German. In a template,
-//! each sign `~` stands for a value. In the words of the script, values stand in place of `%s`.
+//! The fixed texts of a page for typing on a machine. Texts with words are in English and in German. In a template, a
+//! value replaces each sign `~`. In the words of the script, a value replaces each `%s`.
 
 use kd_language::Text;
 
@@ -25,8 +25,8 @@ pub const PIN_HEAD: Text = (
     "<main class=alphabet>\n<header><h1>~ <small>Buchstaben drücken: Die Maschine druckt einen.</small></h1></header>\n<p id=off>Diese Seite braucht JavaScript: Ohne JavaScript wirkt keine Taste. Ist dies nur eine Vorschau, die Datei in einem Browser öffnen.</p>\n<div>\n<div class=windows role=group aria-label=\"Räder\">\n",
 );
 
-/// The start of a slot's window. `LETTERS` follows: the letters, which are equal in all windows. `WINDOW_END` is the
-/// end of the window.
+/// The start of a slot's window. `LETTERS` follows: the letters that can show, the same in all windows. `WINDOW_END` is
+/// the end of the window.
 pub const WINDOW: Text = (
     "<div class=wheel><button type=button value=1 aria-label=\"slot ~: next letter\">▲</button><label><span>slot ~</span><select autocomplete=off aria-label=\"slot ~: window\">",
     "<div class=wheel><button type=button value=1 aria-label=\"Platz ~: nächster Buchstabe\">▲</button><label><span>Platz ~</span><select autocomplete=off aria-label=\"Platz ~: Fenster\">",
