@@ -17,10 +17,9 @@ pub fn parts_read_are_shown_whole()
     ensures numbers { PartsReadHaveNumbers }
 {}
 
-/// If `receive` reads a form, this crate cuts the form into the parts that `receive` finds, and reads the text that
-/// `receive` returns, without a warning.
+/// If `receive` reads a form, this crate shows the text that `receive` gives, without a warning.
 ///
-/// No line before the form's first heading is passed over.
+/// The form's parts are those that `receive` finds, and nothing before the first heading is dropped.
 pub fn forms_read_are_shown_whole()
     ensures tidy { FormsReadAreTidy }
     ensures parts { FormsReadHaveTheirParts }

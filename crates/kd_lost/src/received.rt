@@ -114,8 +114,10 @@ pub(crate) fn body_letters(body: &[u8]) -> ArrayVec<Option<Letter>, 525>
     letters
 }
 
-/// The letter for a byte of a body, when parts are compared. It is `Some(None)` for a lost letter, and for a sign that
-/// isn't allowed in a body.
+/// The letter that a byte of a body counts as, when parts are compared:
+/// - for a letter: this letter
+/// - for a lost letter, or a sign that isn't allowed in a body: a lost letter, `Some(None)`
+/// - for a blank or a line end: no letter, `None`
 fn body_letter(byte: u8) -> Option<Option<Letter>>
     ensures { result ≡ body_letter byte }
 {

@@ -80,9 +80,9 @@ pub fn shown_under(parts: &[DamagedPart], number: u16) -> Option<&DamagedPart>
     }
 }
 
-/// Whether the text of `other` is better than the text of `one`. It is better in these cases:
-/// - `other` has a text, but `one` has none.
-/// - `other` has fewer lost letters.
+/// Whether the text of `one` is worse than the text of `other`. It is worse in these cases:
+/// - `one` has no text, but `other` has a text.
+/// - `one` has more lost letters.
 /// - Both have equally many lost letters, and only `other` was read with the heading's count.
 fn is_worse(one: &DamagedPart, other: &DamagedPart) -> bool
     ensures { result ≡ is_worse one.now other.now }
@@ -108,8 +108,9 @@ pub fn is_one_message(parts: &[DamagedPart]) -> bool
     are_of_one_message(parts) && are_covered(parts, parts)
 }
 
-/// Whether the part shown under a number has all letters of each part in `parts` with this number.
-/// The shown part is one of `all`.
+/// Whether repetitions hide no letter of `parts`.
+///
+/// If one of `parts` has a number, all its letters are in the part of `all` that is shown under this number.
 fn are_covered(all: &[DamagedPart], parts: &[DamagedPart]) -> bool
     ensures { result ≡ are_covered all.now parts.now }
 {
@@ -119,8 +120,9 @@ fn are_covered(all: &[DamagedPart], parts: &[DamagedPart]) -> bool
     }
 }
 
-/// Whether the part shown under the number of `part` has all letters of `part`.
-/// The shown part is one of `all`.
+/// Whether repetitions hide no letter of `part`.
+///
+/// If `part` has a number, all its letters are in the part of `all` that is shown under this number.
 fn is_covered(all: &[DamagedPart], part: &DamagedPart) -> bool
     ensures { result ≡ is_covered all.now part.now }
 {
