@@ -52,8 +52,8 @@ pub fn whole_messages_are_on_the_page()
 /// Take a form that is a whole message, with no lost letter, no small letter, no tab, and no needless blank in a
 /// heading.
 ///
-/// Then `desk receive` reads some of its parts: one for each number, in the order of the numbers. From these parts,
-/// `desk receive` gives the text that the page shows.
+/// Then `desk receive` reads some of its parts: one for each part number, in the order of the numbers. From these
+/// parts, `desk receive` gives the text that the page shows.
 pub fn whole_messages_are_read()
     ensures { WholeMessagesAreRead }
 {}
