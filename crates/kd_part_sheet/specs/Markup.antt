@@ -17,7 +17,7 @@ lost_letter = codes "?"
 abbrev pub struck_out : List ℕ
 struck_out = codes "-"
 
--- the separators: between letters, between numbers, and between values
+-- separators in lists: a space, two no-break spaces, and a comma with a space
 abbrev pub space : List ℕ
 space = codes " "
 

@@ -38,8 +38,7 @@ is_nothing signs.Open = false
 is_nothing signs.Lost = false
 is_nothing (signs.Letter letter) = false
 
--- Whether the group has received letters that the operator doesn't press. The first cell decides, since either all
--- letters of a group are pressed, or none.
+-- whether the group's first cell has a received letter that the operator doesn't press
 abbrev pub is_skipped : List Cell → Bool
 is_skipped [] = false
 is_skipped (cell ∷ cells) = if cell.is_pressed then false else not (is_nothing cell.above)
@@ -95,7 +94,7 @@ shown_after is_converter letters =
     else letter_words false markup.ROW_LETTERS.now two_spaces letters
     ++ letter_words true markup.ROW_NUMBERS.now space letters
 
--- the letters that the machine shows after a row; nothing if the last argument is `true`
+-- the letters that the machine shows after a row; nothing if they are hidden (the last argument is `true`)
 abbrev pub windows_after : Day → List ℕ → ℕ → Bool → List ℕ
 windows_after s start presses is_hidden =
     if is_hidden then [] else shown_after (is_converter (day_model s)) (letters_after s start presses)

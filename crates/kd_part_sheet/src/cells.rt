@@ -37,7 +37,7 @@ pub struct Cell {
 /// The mark of a letter that a Converter prints while the operator finds the internal key.
 #[derive(Clone, Copy)]
 pub enum Mark {
-    /// No mark: the cell isn't for the internal key.
+    /// No mark: the cell isn't for the internal key, or is on a worksheet.
     NoMark,
     /// No wheel needs the letter, as the internal key is already complete.
     NotNeeded,
@@ -120,9 +120,9 @@ fn sign_of(letter: Option<Letter>) -> Sign
     }
 }
 
-/// Appends the cells of received letters. The operator presses these letters.
+/// Appends the cells of `keys`, received letters that the operator presses.
 ///
-/// Below item `i` of `keys` stands item `i` of `text`. If the item of `text` is `for_space`, nothing stands below.
+/// Below each of them stands the letter at the same place of `text`, or nothing if this letter is `for_space`.
 pub fn push_received<const N: usize>(
     cells: &mut ArrayVec<Cell, N>,
     for_space: &Option<Letter>,
@@ -182,8 +182,11 @@ pub fn push_choice<const N: usize>(
     }
 }
 
-/// The mark of `letter`, which a Converter prints while the operator finds the internal key. `taken` is the last wheel
-/// that took a letter; 0 if no wheel took one.
+/// The mark of `letter`, the next printed letter, while the internal key is found. `taken` is the last wheel that took
+/// a letter; 0 if no wheel took one.
+/// - If `taken` is 6, the key is complete, and `letter` isn't needed.
+/// - Otherwise, if the next wheel has `letter`, this wheel takes `letter`.
+/// - Otherwise, `letter` is struck out.
 fn mark_of(taken: u8, letter: Letter) -> Mark
     requires { taken ≤ 6 }
     ensures { result ≡ mark_of taken letter }
@@ -197,7 +200,7 @@ fn mark_of(taken: u8, letter: Letter) -> Mark
     }
 }
 
-/// The last wheel that has taken a letter, after one more letter is printed. `mark` is the mark of this letter.
+/// The last wheel that has taken a letter, once one more printed letter has the mark `mark`.
 ///
 /// `taken` is the last wheel that took an earlier letter; 0 if none did.
 fn taken_after(taken: u8, mark: Mark) -> u8
@@ -209,7 +212,7 @@ fn taken_after(taken: u8, mark: Mark) -> u8
     }
 }
 
-/// The cells with their results. If `results` are left open, the cells are as on a worksheet.
+/// The cells as the sheet shows them: with their results or, if `results` are left open, as on a worksheet.
 pub(crate) fn cells_with<const N: usize>(
     results: Results,
     cells: &ArrayVec<Cell, N>,
@@ -223,8 +226,9 @@ pub(crate) fn cells_with<const N: usize>(
     shown
 }
 
-/// `cell` with its result; if `results` are left open, `cell` as on a worksheet. If the cell's
-/// letter is pressed, a worksheet leaves the sign below the line open, and has no mark.
+/// `cell` as the sheet shows it: with its result or, if `results` are left open, as on a worksheet.
+///
+/// If the cell's letter is pressed, a worksheet leaves the sign below the line open, and has no mark.
 fn cell_with(results: Results, cell: Cell) -> Cell
     ensures { result ≡ cell_with results cell }
 {
@@ -239,7 +243,7 @@ fn cell_with(results: Results, cell: Cell) -> Cell
     }
 }
 
-/// A line of a group: the signs above the line to write on, the signs below it, or the marks.
+/// One of the three lines of a group: the signs above the line to write on, the signs below it, or the marks.
 #[derive(Clone, Copy)]
 pub(crate) enum Line {
     Above,
@@ -247,7 +251,7 @@ pub(crate) enum Line {
     Marks,
 }
 
-/// Writes the sign or the mark that a cell has in the line `line` of a group.
+/// Writes what a cell shows in the line `line` of its group: a sign, or a mark.
 pub(crate) fn draw_place<W: Sink>(sink: &mut W, line: Line, cell: &Cell)
     ensures { Draws W.taken W.has_failed sink.old sink.new (place_text line cell.now) }
 {

@@ -114,7 +114,7 @@ fn row_number(is_converter: bool, progress: Progress) -> u16
     }
 }
 
-/// Writes the windows after `presses` key presses; nothing if `is_hidden`.
+/// Writes the windows after `presses` key presses; writes nothing if `is_hidden` is true.
 fn draw_windows_after<W: Sink>(
     sink: &mut W,
     day: &SheetDay,
@@ -171,8 +171,7 @@ fn draw_group<W: Sink>(sink: &mut W, group: &[Cell])
     draw(sink, GROUP_END);
 }
 
-/// Whether the group has received letters that the operator doesn't press. The first cell decides, since either all
-/// letters of a group are pressed, or none.
+/// Whether the group's first cell has a received letter that the operator doesn't press.
 fn is_skipped(group: &[Cell]) -> bool
     ensures { result ≡ is_skipped group.now }
 {
