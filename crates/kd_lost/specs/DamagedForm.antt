@@ -31,7 +31,7 @@ use Rattle.kd_lost.specs.WrongSign.{IsFirstWrongSign}
 abbrev pub ends_part : ℕ → List ℕ → Bool
 ends_part byte bytes = byte == 10 && is_heading_line bytes
 
--- The first part of a damaged form, and the list of its other parts.
+-- The first part of a damaged form, and the list of all other parts.
 abbrev pub cut_at_heading_lines : List ℕ → List ℕ × List (List ℕ)
 cut_at_heading_lines [] = ([], [])
 cut_at_heading_lines (byte ∷ bytes) =
@@ -69,8 +69,8 @@ pub data IsMeant (s : Day) (part meant : List ℕ) : Type 0 where
   Respaced : ((h : Heading) → ¬ (IsDamagedHeading s (first_line part) h)) → meant ≡ respaced part
       → IsMeant s part meant
 
--- `read` has what can be read of `part` as it stands: all fields of `read` are right but `respaced` and `line`. `given`
--- are the numbers in the received heading.
+-- `read` has what can be read of `part` as it stands. Only the fields `respaced` and `line` of `read` may have any
+-- values. `given` are the numbers in the received heading.
 pub record IsReadAs (s : Day) (part : List ℕ) (read : DamagedPart) : Type 0 where
   pub given : Option PartNumbers
   pub given_there : AreNumbersRead s (first_line part) given

@@ -32,7 +32,7 @@ fitting_signs (letter ∷ word) (byte ∷ bytes) =
 fitting_signs [] bytes = 0
 fitting_signs (letter ∷ word) [] = 0
 
--- whether there is a byte, and it is a letter, capital or small
+-- whether there is a byte that is a letter, capital or small
 unfoldable pub is_letter : Option ℕ → Bool
 is_letter None = false
 is_letter (Some byte) = is_capital (meant_byte byte)
@@ -117,17 +117,17 @@ begins_with_groups bytes =
 unfoldable pub may_be_part : List ℕ → Bool
 may_be_part bytes = is_part_line bytes || begins_with_groups bytes
 
--- the rest of `bytes` after the first word, which ends before the first blank or LF
+-- `bytes` after their first word: from the first blank or LF on
 abbrev pub after_word : List ℕ → List ℕ
 after_word [] = []
 after_word (byte ∷ bytes) = if is_blank byte || byte == 10 then byte ∷ bytes else after_word bytes
 
--- whether there is a byte, and it stands for a lost sign
+-- whether there is a byte that stands for a lost sign
 abbrev pub is_lost_sign : Option ℕ → Bool
 is_lost_sign None = false
 is_lost_sign (Some byte) = is_lost byte
 
--- whether there is a byte, and it is a blank
+-- whether there is a byte that is a blank
 abbrev pub is_blank_at : Option ℕ → Bool
 is_blank_at None = false
 is_blank_at (Some byte) = is_blank byte

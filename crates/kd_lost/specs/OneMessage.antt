@@ -42,7 +42,7 @@ same_keys (text_keys.Pin one) (text_keys.Pin other) =
 same_keys (text_keys.Rotor one) (text_keys.Pin other) = false
 same_keys (text_keys.Pin one) (text_keys.Rotor other) = false
 
--- Whether the texts of two parts may be one text, sent twice. If one of the parts couldn't be read, they may.
+-- Whether the texts of two parts may be one text, sent twice. True if one of the parts couldn't be read.
 abbrev pub texts_agree : Result DamagedText PartDamage → Result DamagedText PartDamage → Bool
 texts_agree (Ok one) (Ok other) =
     letters_agree one.received.items other.received.items && same_keys one.keys other.keys
@@ -84,8 +84,8 @@ keys_agree one other = signs_agree (key_signs one.heading.bytes) (key_signs othe
 abbrev pub count_signs : List ℕ → List ℕ
 count_signs heading = first_word (later_words (later_words heading))
 
--- whether two letter counts may be the same: they are equally long, and at each place, the signs are equal or one is
--- lost
+-- Whether two letter counts may be the same. They have equally many signs, and at each place, the signs are equal or
+-- one is lost.
 abbrev pub same_count : List ℕ → List ℕ → Bool
 same_count one other = length one == length other && signs_agree one other
 

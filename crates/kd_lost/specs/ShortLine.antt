@@ -1,5 +1,5 @@
--- The first short line of a body: this line has letters, but not 50, and more letters follow. `desk send` writes lines
--- of 50 letters.
+-- The first short line of a body: this line has letters, but not exactly 50, and more letters follow. `desk send`
+-- writes lines of 50 letters.
 use Rattle.std.specs.Prelude.{ℕ, ◌+◌, ◌-◌, ◌==◌, ◌&&◌, not, nat_lt, Bool, if◌then◌else◌, List, [], ◌∷◌, length}
 use Rattle.std.specs.Prelude.{Option, None, Some}
 use Rattle.kd_lost.specs.declared.short_line.ShortLine.{ShortLine}

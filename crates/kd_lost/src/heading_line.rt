@@ -40,7 +40,7 @@ fn has_short_word(bytes: &[u8]) -> bool
     is_blank_at(bytes.get(3).copied()) || is_blank_at(bytes.get(4).copied())
 }
 
-/// Whether there is a byte, and it is a blank.
+/// Whether there is a byte that is a blank.
 fn is_blank_at(byte: Option<u8>) -> bool
     ensures { result ≡ is_blank_at byte }
 {
@@ -59,7 +59,7 @@ fn begins_lost(bytes: &[u8]) -> bool
     }
 }
 
-/// The rest of `bytes` after the first word, which ends before the first blank or LF.
+/// `bytes` after their first word: from the first blank or LF on.
 fn after_word(bytes: &[u8]) -> &[u8]
     ensures { result.now ≡ after_word bytes.now }
 {
@@ -273,7 +273,7 @@ fn is_letter_at(bytes: &[u8], place: usize) -> bool
     is_letter(bytes.get(place).copied())
 }
 
-/// Whether there is a byte, and it is a letter, capital or small.
+/// Whether there is a byte that is a letter, capital or small.
 #[tactic(auto, unfolding(crate::specs::HeadingLine::is_letter))]
 fn is_letter(byte: Option<u8>) -> bool
     ensures { result ≡ is_letter byte }

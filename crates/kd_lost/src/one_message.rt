@@ -167,7 +167,7 @@ fn numbers_agree(one: &PartNumbers, other: &PartNumbers, agree: bool) -> bool
     one.parts == other.parts && (one.part != other.part || agree)
 }
 
-/// Whether the texts of two parts may be one text, sent twice. If one of the parts couldn't be read, they may.
+/// Whether the texts of two parts may be one text, sent twice. True if one of the parts couldn't be read.
 fn texts_agree(
     one: &Result<DamagedText, PartDamage>,
     other: &Result<DamagedText, PartDamage>,

@@ -82,7 +82,7 @@ fn completed_byte(
     }
 }
 
-/// The letter at `place` in the first copy of the part `read` that didn't lose this letter.
+/// The received letter at `place` of the part `read`, from the first copy of this part that has the letter.
 fn known_letter(
     copies: &[DamagedPart],
     read: &DamagedPart,
