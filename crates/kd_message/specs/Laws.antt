@@ -70,8 +70,8 @@ abbrev pub message_letters : List DamagedPart → List (Option ℕ)
 message_letters parts =
     flat_map (λ number. letters_of_part (shown_under parts number)) (range_with_len 1 (total_of parts))
 
--- If `desk receive` reads a form, the form is one whole message. The page shows a text for each number of a part.
--- Joined in the order of the numbers, these texts are the text that `desk receive` gives.
+-- If `desk receive` reads a form, the form is one whole message. The page shows a text for each part number. Joined in
+-- the order of the numbers, these texts are the text that `desk receive` gives.
 abbrev pub FormsReadAreWhole : Type 0
 FormsReadAreWhole =
     (s : Day) (form text : List ℕ) (parts : List DamagedPart) → IsTextOf s form text → AreFormParts s form parts
@@ -132,7 +132,7 @@ RepetitionsHaveTheLetters =
 
 -- ---- The converse.
 
--- The part has no small letter and no tab, and no byte of the part stands for a lost letter.
+-- The part has no small letter, no tab, and no lost letter.
 abbrev pub IsClear : List ℕ → Type 0
 IsClear part = All (λ byte. IsFalse (is_lost byte) × (meant_byte byte ≡ byte)) part
 

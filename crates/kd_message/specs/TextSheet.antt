@@ -124,7 +124,7 @@ unfoldable pub groups_words : Language → ℕ → ℕ → List ℕ
 groups_words l first last =
     text_in l texts.GROUPS ++ decimal first ++ text_in l texts.TO_GROUP ++ decimal last
 
--- the words for the group `number` and the `more` groups after it
+-- the words for the group `number` and the `more` groups after it, such as *groups 3 to 5*
 abbrev pub range_words : Language → ℕ → ℕ → List ℕ
 range_words l number more = if more == 0 then group_words l number else groups_words l number (number + more)
 
@@ -180,8 +180,8 @@ abbrev pub is_copy_lost : Option LostCopies → Bool
 is_copy_lost None = false
 is_copy_lost (Some copies) = copies.at_start || copies.at_end
 
--- whether the day couldn't be tested: a letter of the indicator group is lost, or a list letter is
--- lost in both copies
+-- whether the part's day couldn't be tested: a letter of the indicator group is lost, or a list letter is lost in both
+-- copies
 abbrev pub is_not_tested : GroupTest → Bool
 is_not_tested tests.Right = false
 is_not_tested tests.Wrong = false

@@ -67,7 +67,7 @@ fn run_length(letters: &[Option<Letter>]) -> usize
     }
 }
 
-/// Writes the words for the group `number` and the `more` groups after it.
+/// Writes the words for the group `number` and the `more` groups after it, such as *groups 3 to 5*.
 fn draw_range<W: Sink>(sink: &mut W, language: Language, number: usize, more: usize)
     requires { number + more ≤ 1000 }
     ensures { Draws W.taken W.has_failed sink.old sink.new (range_words language number more) }

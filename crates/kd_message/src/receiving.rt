@@ -279,9 +279,9 @@ fn draw_lone_after<W: Sink>(
     }
 }
 
-/// Whether a part has no number, and the last numbered part before it has the number `after`.
+/// Whether a part has no number, and comes after the part with the number `after`.
 ///
-/// That number is given as `before`.
+/// `before` is the number of the last numbered part before it.
 fn is_lone_after(after: u8, before: u8, numbers: &Option<PartNumbers>) -> bool
     ensures { result ≡ (is_none numbers.now && before == after) }
 {
