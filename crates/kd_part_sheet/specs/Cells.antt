@@ -81,9 +81,9 @@ taken_after taken marks.NotNeeded = taken
 taken_after taken marks.StruckOut = taken
 taken_after taken (marks.Taken wheel) = wheel
 
--- The cells with which the internal key is found. Each cell has the letter `chosen` above the line. Below the line, it
--- has the letter that was printed for `chosen`, with a mark. `taken` is the last wheel that took a letter before these
--- cells; 0 if no wheel took one.
+-- The cells with which the internal key is found. Each cell has the letter `chosen` above the line to write on. Below
+-- this line, it has the letter that was printed for `chosen`, with a mark. `taken` is the last wheel that took a letter
+-- before these cells; 0 if no wheel took one.
 abbrev pub choice_cells : ℕ → ℕ → List ℕ → List Cell
 choice_cells taken chosen [] = []
 choice_cells taken chosen (letter ∷ printed) =
@@ -92,8 +92,8 @@ choice_cells taken chosen (letter ∷ printed) =
 
 -- ---- Worksheets.
 
--- The cell on a worksheet. If the cell's letter is pressed, the sign below the line is left open, and the cell has no
--- mark.
+-- The cell on a worksheet. If the cell's letter is pressed, the sign below the line to write on is left open, and the
+-- cell has no mark.
 abbrev pub open_cell : Cell → Cell
 open_cell cell = if cell.is_pressed then record cell { below = signs.Open; mark = marks.NoMark } else cell
 

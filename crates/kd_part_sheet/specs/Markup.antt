@@ -27,8 +27,8 @@ two_spaces = wide_space ++ wide_space
 abbrev pub comma : List ℕ
 comma = codes ", "
 
--- The markup of a group, in this order: the group's start, the end of the signs above the line, small print, marks, and
--- the group's end. Small print and marks each have a start and an end.
+-- The markup of a group, in this order: the group's start, the end of the signs above the line to write on, small
+-- print, marks, and the group's end. Small print and marks each have a start and an end.
 abbrev pub group_start : List ℕ
 group_start = codes "<span><b>"
 

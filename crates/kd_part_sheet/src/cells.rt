@@ -16,7 +16,7 @@ use kd_tables::{Letter, Sink, place_on_wheel};
 #[derive(Clone, Copy)]
 pub enum Sign {
     Nothing,
-    /// A letter that a worksheet leaves open.
+    /// A letter that a worksheet leaves for the operator to find.
     Open,
     Lost,
     Letter(Letter),
@@ -25,11 +25,11 @@ pub enum Sign {
 /// The cell of a letter in a row.
 #[derive(Clone, Copy)]
 pub struct Cell {
-    /// The sign above the line.
+    /// The sign above the line to write on.
     pub above: Sign,
-    /// The sign below the line.
+    /// The sign below the line to write on.
     pub below: Sign,
-    /// Whether the letter is pressed.
+    /// Whether the operator presses the letter.
     pub is_pressed: bool,
     pub mark: Mark,
 }
@@ -42,7 +42,7 @@ pub enum Mark {
     /// No wheel needs the letter, as the internal key is already complete.
     NotNeeded,
     StruckOut,
-    /// This wheel takes the letter.
+    /// The wheel with this number takes the letter.
     Taken(u8),
 }
 
@@ -156,8 +156,8 @@ fn text_sign(for_space: &Option<Letter>, letter: Option<Letter>) -> Sign
     }
 }
 
-/// Appends the cells with which the internal key is found. Each cell has the letter `chosen` above the line. Below the
-/// line, it has the letter that was printed for `chosen`, with a mark.
+/// Appends the cells with which the internal key is found. Each cell has the letter `chosen` above the line to write
+/// on. Below this line, it has the letter that was printed for `chosen`, with a mark.
 ///
 /// `taken` is the last wheel that took a letter before these cells; 0 if no wheel took one.
 pub fn push_choice<const N: usize>(
@@ -228,7 +228,7 @@ pub(crate) fn cells_with<const N: usize>(
 
 /// `cell` as the sheet shows it: with its result or, if `results` are left open, as on a worksheet.
 ///
-/// If the cell's letter is pressed, a worksheet leaves the sign below the line open, and has no mark.
+/// If the cell's letter is pressed, a worksheet leaves the sign below the line to write on open, and has no mark.
 fn cell_with(results: Results, cell: Cell) -> Cell
     ensures { result ≡ cell_with results cell }
 {
@@ -251,7 +251,7 @@ pub(crate) enum Line {
     Marks,
 }
 
-/// Writes what a cell shows in the line `line` of its group: a sign, or a mark.
+/// Writes what a cell shows in one of the three lines of its group: a sign, or a mark.
 pub(crate) fn draw_place<W: Sink>(sink: &mut W, line: Line, cell: &Cell)
     ensures { Draws W.taken W.has_failed sink.old sink.new (place_text line cell.now) }
 {

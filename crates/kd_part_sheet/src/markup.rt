@@ -20,8 +20,8 @@ pub const ROW_LETTERS: &str = "<br>";
 
 pub const ROW_NUMBERS: &str = "<br>";
 
-/// The start of a group, before the signs above the line. `ABOVE_END` stands after these signs. `GROUP_END` ends the
-/// group.
+/// The start of a group, before the signs above the line to write on. `ABOVE_END` stands after these signs. `GROUP_END`
+/// ends the group.
 pub const GROUP: &str = "<span><b>";
 
 pub const ABOVE_END: &str = "</b>";
