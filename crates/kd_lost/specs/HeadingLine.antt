@@ -24,7 +24,7 @@ right_signs (letter ∷ word) (byte ∷ bytes) =
 right_signs [] bytes = 0
 right_signs (letter ∷ word) [] = 0
 
--- how many signs of `word` stand at the same place in the first line of `bytes`, or may have been lost there
+-- how many signs of `word` stand at the same place in the first line of `bytes`, or are lost there
 unfoldable pub fitting_signs : List ℕ → List ℕ → ℕ
 fitting_signs (letter ∷ word) (byte ∷ bytes) =
     if byte == 10 then 0

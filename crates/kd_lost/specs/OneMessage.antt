@@ -70,7 +70,8 @@ key_signs heading = later_words (later_words (later_words heading))
 abbrev pub sign_agrees : ℕ → ℕ → Bool
 sign_agrees sign again = sign == again || (is_lost sign || is_lost again)
 
--- whether, at each place up to the end of the shorter list, the signs of two lists are equal or one is lost
+-- whether two lists of signs may be equal up to the end of the shorter list: at each place, the signs are equal or one
+-- is lost
 abbrev pub signs_agree : List ℕ → List ℕ → Bool
 signs_agree (sign ∷ one) (again ∷ other) = sign_agrees sign again && signs_agree one other
 signs_agree [] other = true

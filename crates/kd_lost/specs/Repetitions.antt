@@ -98,7 +98,6 @@ are_kept (alone ∷ parts) (again ∷ others) = is_kept alone again && are_kept 
 are_kept [] (again ∷ others) = false
 are_kept (alone ∷ parts) [] = false
 
--- `again` (the parts, read a second time) if each part has kept its number and its letters; otherwise `alone` (the
--- parts, each read alone)
+-- the second reading, `again`, if each part has kept its number and its letters; otherwise the first reading, `alone`
 abbrev pub completed_or : List DamagedPart → List DamagedPart → List DamagedPart
 completed_or alone again = if are_kept alone again then again else alone

@@ -31,7 +31,7 @@ abbrev pub numbers_of : List DamagedPart → List ℕ
 numbers_of [] = []
 numbers_of (part ∷ parts) = number_before part.numbers (numbers_of parts)
 
--- whether each number is at least the number before it, and the first number is at least `before`
+-- whether the numbers never fall, and the first number is at least `before`
 abbrev pub are_in_order : ℕ → List ℕ → Bool
 are_in_order before [] = true
 are_in_order before (number ∷ numbers) = nat_le before number && are_in_order number numbers
@@ -71,8 +71,8 @@ better part (Some later) =
     if is_worse part later then Some later else Some part
 
 -- The part that is shown under `number`: of the parts with this number, the first with the best text. A text is better
--- if it has fewer lost letters. With equally many lost letters, a text read with the heading's letter count is better
--- than a text read with the number of received letters.
+-- if it has fewer lost letters. If equally many are lost, a text that was read with the heading's letter count is
+-- better than a text by count.
 abbrev pub shown_under : List DamagedPart → ℕ → Option DamagedPart
 shown_under [] number = None
 shown_under (part ∷ parts) number =

@@ -30,8 +30,8 @@ later_heading (byte ∷ bytes) =
 abbrev pub from_heading : List ℕ → List ℕ
 from_heading bytes = if may_be_part bytes then bytes else unwrap_or (later_heading bytes) bytes
 
--- the form, without a byte order mark and without the lines before its first heading; these lines stay if one of them
--- may belong to a part
+-- The form, without a byte order mark and without the lines before its first heading. These lines stay if one of them
+-- may belong to a part.
 abbrev pub tidied : List ℕ → List ℕ
 tidied form = from_heading (without_mark form)
 

@@ -227,7 +227,7 @@ fn are_right(least: usize, word: &[u8], bytes: &[u8]) -> bool
     right_signs(word, bytes) >= least
 }
 
-/// Whether at least `least` signs of `word` stand at the same place in `bytes`, or may have been lost there.
+/// Whether at least `least` signs of `word` stand at the same place in `bytes`, or are lost there.
 ///
 /// Only the first line of `bytes` counts.
 fn are_fitting(least: usize, word: &[u8], bytes: &[u8]) -> bool
@@ -251,7 +251,7 @@ fn right_signs(word: &[u8], bytes: &[u8]) -> usize
     0
 }
 
-/// How many signs of `word` stand at the same place in the first line of `bytes`, or may have been lost there.
+/// How many signs of `word` stand at the same place in the first line of `bytes`, or are lost there.
 fn fitting_signs(word: &[u8], bytes: &[u8]) -> usize
     ensures signs { result ≡ fitting_signs word.now bytes.now }
     ensures few { result ≤ length word.now }

@@ -2,8 +2,7 @@
 ghost use Rattle.kd_lost.specs.Laws.{CiphersAgreeWhereTextsDo, PartsReadAreShownWhole, PartsReadHaveNumbers};
 ghost use Rattle.kd_lost.specs.Laws.{FormsReadAreShownWhole, FormsReadAreTidy, FormsReadHaveTheirParts, RepetitionsAgree};
 
-/// If two texts are enciphered with one key, their ciphertexts have the same letter wherever the texts have the same
-/// letter.
+/// Where two texts have the same letter, their ciphertexts under one key have the same letter.
 ///
 /// The texts may differ at all other places.
 #[tactic(auto, using(crate::proofs::Ciphers::ciphers_agree))]

@@ -118,7 +118,9 @@ fn key_signs(heading: &[u8]) -> &[u8]
     later_words(later_words(later_words(heading)))
 }
 
-/// Whether, at each place up to the end of the shorter slice, the signs are equal or one is lost.
+/// Whether `one` and `other` may be equal up to the end of the shorter slice.
+///
+/// At each place, the signs must be equal, or one of them lost.
 fn signs_agree(one: &[u8], other: &[u8]) -> bool
     ensures { result ≡ signs_agree one.now other.now }
 {

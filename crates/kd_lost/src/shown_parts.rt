@@ -23,7 +23,7 @@ pub fn total_of(parts: &[DamagedPart]) -> u8
     }
 }
 
-/// Whether each part number is at least the part number before it, and the first part number is at least `before`.
+/// Whether the part numbers never fall, and the first part number is at least `before`.
 ///
 /// Parts without a number are skipped.
 pub fn are_in_order(before: u8, parts: &[DamagedPart]) -> bool
@@ -60,8 +60,8 @@ pub fn times_of(parts: &[DamagedPart], number: u16) -> usize
 
 /// The part that is shown under `number`: of the parts with this number, the first with the best text.
 ///
-/// A text is better if it has fewer lost letters. With equally many lost letters, a text read with the heading's letter
-/// count is better than a text read with the number of received letters.
+/// A text is better if it has fewer lost letters. If equally many are lost, a text that was read with the heading's
+/// letter count is better than a text by count.
 pub fn shown_under(parts: &[DamagedPart], number: u16) -> Option<&DamagedPart>
     ensures { MatchOption result
         (shown_under parts.now number ≡ None)

@@ -4,15 +4,14 @@ ghost use Rattle.kd_message.specs.Laws.{FormsReadAreWhole, NothingReadIsHidden, 
 ghost use Rattle.kd_message.specs.Laws.{RepetitionsHaveTheLetters, WholeMessagesAreOnThePage, WholeMessagesAreRead};
 ghost use Rattle.kd_message.specs.Laws.{SheetsHaveTheirOwnNumbers, WholeMessagesHaveOneTotal};
 
-/// The lamps that light up for a row depend only on the letters pressed in this row, and on the windows at the row's
-/// start.
+/// The lamps of a row depend only on the letters pressed in the row, and on the windows at its start.
 ///
 /// So an operator can encipher a row without enciphering the rows before it.
 pub fn rows_are_enciphered()
     ensures { RowsAreEnciphered }
 {}
 
-/// On the sheet of a received part, the letters below the line are the plaintext of the letters above the line.
+/// A received part's sheet has the plaintext below the line to write on, and the ciphertext above it.
 ///
 /// For lost letters, the operator may press any keys.
 pub fn rows_are_deciphered()

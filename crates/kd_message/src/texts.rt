@@ -317,8 +317,10 @@ pub const FORM: Text = (
     " class=form>\n<header>\n<h1>~, Tag ~: Funkspruch</h1>\n<p class=fields><span>An</span><span>Von</span><span>Uhrzeit</span><span>Befördert durch</span></p>\n</header>\n",
 );
 
-/// The head of a part of the form. Its values are the part's number, the number of parts, the model and the day; then
-/// again the part's number and the number of parts; then the number of letters.
+/// The head of a part of the form. It has seven values:
+/// - the part's number, the number of parts, the model, and the day
+/// - again the part's number and the number of parts
+/// - the number of letters
 pub const FORM_PART: Text = (
     "<section>\n<h2>Part ~ of ~<span>~, day ~: form for the radio</span></h2>\n<p class=heading><span>part <b>PART ~/~</b></span><span>letters <b>~</b></span>",
     "<section>\n<h2>Teil ~ von ~<span>~, Tag ~: Funkspruch</span></h2>\n<p class=heading><span>Teil <b>PART ~/~</b></span><span>Buchstaben <b>~</b></span>",

@@ -47,8 +47,8 @@ pin_work s k internal text = record {
       ++ map copied (pin_indicators s k);
 }
 
--- `work` has the letters to set, the letters to press, and their ciphertext, when `text` is enciphered with the given
--- keys on the day `s`.
+-- `work` shows how `text` is enciphered with the given keys on the day `s`. It has the letters to set, the letters to
+-- press, and their ciphertext.
 abbrev pub IsWork : Day → Keys → List ℕ → Work → Type 0
 IsWork s (keys.Rotor k) text work = work ≡ rotor_work s k text
 IsWork s (keys.Pin k) text work =

@@ -60,7 +60,7 @@ is_mark marks.NotNeeded = true
 is_mark marks.StruckOut = true
 is_mark (marks.Taken wheel) = true
 
--- whether the group has marks; the first cell decides, since either all cells of a group have a mark, or none
+-- Whether the group has marks. Its first cell decides: either all cells of a group have a mark, or none.
 abbrev pub has_marks : List Cell → Bool
 has_marks [] = false
 has_marks (cell ∷ cells) = is_mark cell.mark

@@ -228,7 +228,7 @@ pub(crate) fn cells_with<const N: usize>(
 
 /// `cell` as the sheet shows it: with its result or, if `results` are left open, as on a worksheet.
 ///
-/// If the cell's letter is pressed, a worksheet leaves the sign below the line to write on open, and has no mark.
+/// On a worksheet, the cell of a pressed letter has no mark, and the sign below the line to write on is left open.
 fn cell_with(results: Results, cell: Cell) -> Cell
     ensures { result ≡ cell_with results cell }
 {
