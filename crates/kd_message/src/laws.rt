@@ -23,7 +23,7 @@ pub fn templates_take_their_values()
     ensures { TemplatesTakeTheirValues }
 {}
 
-/// A form that `desk receive` reads is shown as one whole message, with the text that `desk receive` gives.
+/// A form that `desk receive` reads is shown as one whole message, with the same text.
 pub fn forms_read_are_whole()
     ensures { FormsReadAreWhole }
 {}
@@ -48,11 +48,10 @@ pub fn whole_messages_are_on_the_page()
     ensures { WholeMessagesAreOnThePage }
 {}
 
-/// Take a form that is a whole message, with no lost letter, no small letter, no tab, and no needless blank in a
-/// heading.
+/// From one part for each number, `desk receive` gives the text that a whole message's page shows.
 ///
-/// Then `desk receive` reads some of its parts: one for each part number, in the order of the numbers. From these
-/// parts, `desk receive` gives the text that the page shows.
+/// These parts are in the order of their numbers. The form must have no lost letter, no small letter, no tab, and no
+/// needless blank in a heading.
 pub fn whole_messages_are_read()
     ensures { WholeMessagesAreRead }
 {}

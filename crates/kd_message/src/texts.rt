@@ -120,8 +120,8 @@ pub const ORDER: Text = (
 
 pub const ORDER_END: Text = (".</p>\n", ".</p>\n");
 
-/// In the sentence which says that the parts aren't of one message: the words before the numbers from the headings.
-/// `SEVERAL_END` stands after these numbers.
+/// The start of the sentence which says that the parts aren't of one message. The numbers from the headings follow, and
+/// then `SEVERAL_END`.
 pub const SEVERAL: Text = (
     "<p class=reason><b>Not one message.</b> The headings give different numbers of parts, or parts with one number differ or can’t be put together: ",
     "<p class=reason><b>Teile verschiedener Sprüche.</b> Die Spruchköpfe nennen verschiedene Zahlen von Teilen, oder Teile mit einer Nummer weichen voneinander ab oder passen nicht zusammen: ",
@@ -268,8 +268,8 @@ pub const SHORT_GROUP: Text = (" Group ", " Gruppe ");
 
 pub const SHORT_GROUP_END: Text = (" hasn’t five letters.", " hat nicht fünf Buchstaben.");
 
-/// In the sentence which says that each group but the last has five letters: the words before the number of letters
-/// that came. `FULL_GROUPS_END` stands after this number.
+/// The start of the sentence which says that each group but the last has five letters. The number of letters that came
+/// follows, and then `FULL_GROUPS_END`.
 pub const FULL_GROUPS: Text = (
     " Each group but the last has five letters, so ",
     " Jede Gruppe bis auf die letzte hat fünf Buchstaben, also kann ",
