@@ -51,7 +51,7 @@ known_letter (copy ∷ copies) read shown place =
 
 -- ---- A part with the letters of its copies.
 
--- in place of a lost letter that a copy has: the copy's letter; otherwise `byte` itself
+-- for a lost letter that a copy has: the copy's letter; for any other byte: `byte` itself
 unfoldable pub completed_byte : Option ℕ → ℕ → ℕ
 completed_byte (Some letter) byte = if is_lost byte then letter + 65 else byte
 completed_byte None byte = byte

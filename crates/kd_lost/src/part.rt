@@ -63,7 +63,7 @@ pub struct DamagedPart {
     /// Whether needless blanks in the part's first line were dropped. They are dropped if the line, with its blanks,
     /// isn't a heading.
     pub respaced: bool,
-    /// Whether the part has no small letter, which means its capital letter, and no tab, which means a space.
+    /// Whether the part has no small letter and no tab. These are read as capital letters and spaces.
     pub as_spelled: bool,
     /// Whether the part looks like an order to send instead of a received form.
     pub is_order: bool,

@@ -69,7 +69,7 @@ pub(crate) fn has_lost_byte(line: &[u8]) -> bool
     false
 }
 
-/// Whether `part` has no small letter, which means its capital letter, and no tab, which means a space.
+/// Whether `part` has no small letter and no tab. These are read as capital letters and spaces.
 pub(crate) fn is_spelled(part: &[u8]) -> bool
     ensures { IsTrue result ↔ All (λ byte. meant_byte byte ≡ byte) part.now }
 {

@@ -62,7 +62,7 @@ fn push_completed(
     Ok(())
 }
 
-/// In place of a lost letter that a copy has: the copy's letter. Otherwise `byte` itself.
+/// For a lost letter that a copy has: the copy's letter. For any other byte: `byte` itself.
 #[tactic(auto, unfolding(crate::specs::Repetitions::completed_byte))]
 fn completed_byte(
     copies: &[DamagedPart],

@@ -108,9 +108,9 @@ pub fn is_one_message(parts: &[DamagedPart]) -> bool
     are_of_one_message(parts) && are_covered(parts, parts)
 }
 
-/// Whether repetitions hide no letter of `parts`.
+/// Whether, for each of `parts`, the part that is shown under its number has all its letters.
 ///
-/// If one of `parts` has a number, all its letters are in the part of `all` that is shown under this number.
+/// The shown parts are from `all`. Parts without a number don't count.
 fn are_covered(all: &[DamagedPart], parts: &[DamagedPart]) -> bool
     ensures { result ≡ are_covered all.now parts.now }
 {
@@ -120,9 +120,9 @@ fn are_covered(all: &[DamagedPart], parts: &[DamagedPart]) -> bool
     }
 }
 
-/// Whether repetitions hide no letter of `part`.
+/// Whether the part that is shown under the number of `part` has all letters of `part`.
 ///
-/// If `part` has a number, all its letters are in the part of `all` that is shown under this number.
+/// The shown part is one of `all`. True if `part` has no number.
 fn is_covered(all: &[DamagedPart], part: &DamagedPart) -> bool
     ensures { result ≡ is_covered all.now part.now }
 {
