@@ -120,9 +120,9 @@ WholeMessagesHaveOneTotal =
     → Contains parts one → Contains parts other → one.numbers ≡ Some numbers → other.numbers ≡ Some others
     → numbers.parts ≡ others.parts
 
--- In a whole message, compare the part that came first with a later part of the same number. If both parts are read,
--- their bodies have equally many letters. At each place, the letters of the two bodies are equal, unless one of them is
--- lost.
+-- In a whole message, compare the part that came first with a later part that has the same part number. If both parts
+-- are read, their bodies have equally many letters. At each place, the letters of the two bodies are equal, unless one
+-- of them is lost.
 abbrev pub RepetitionsHaveTheLetters : Type 0
 RepetitionsHaveTheLetters =
     (one other : DamagedPart) (others : List DamagedPart) (numbers again : PartNumbers) (shown later : DamagedText)

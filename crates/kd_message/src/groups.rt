@@ -24,8 +24,8 @@ pub(crate) fn has_lost(letters: &[Option<Letter>]) -> bool
 
 /// Writes which groups of `letters` have lost letters. `first` stands before the first named group.
 ///
-/// If `before` is true, the group just before `letters` also has lost letters. Its words already name the groups in a
-/// row with it, so these groups are left out here.
+/// If `before` is true, the group just before `letters` also has lost letters. Then the words for it are already
+/// written. They also name the groups with lost letters at the start of `letters`, so these are left out.
 pub(crate) fn draw_lost_groups<W: Sink>(
     sink: &mut W,
     language: Language,

@@ -36,8 +36,8 @@ pub fn nothing_read_is_hidden()
 
 /// In a whole message, all headings give the same number of parts.
 ///
-/// Compare the part that came first with a later part of the same number. If both parts are read, they have the same
-/// letters, except where a letter was lost.
+/// Compare the part that came first with a later part that has the same part number. If both parts are read, they have
+/// the same letters, except where a letter was lost.
 pub fn whole_messages_agree()
     ensures total { WholeMessagesHaveOneTotal }
     ensures repetitions { RepetitionsHaveTheLetters }
