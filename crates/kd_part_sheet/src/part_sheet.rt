@@ -53,7 +53,7 @@ pub struct PartName {
 pub struct PartPage {
     /// The language of the sheet.
     pub language: Language,
-    /// Which of the four sheets it is.
+    /// Which of the four sheets this is.
     pub sheet: Sheet,
     /// The part, and whether the sheet shows the results.
     pub name: PartName,
@@ -120,8 +120,8 @@ pub struct Warnings {
     pub copies_lost: bool,
     /// The form's indicator group or list letters don't belong to the day.
     pub wrong_day: bool,
-    /// The day can't be tested. A letter of the indicator group is lost, or a list letter is lost
-    /// in both copies.
+    /// It can't be tested whether the form is of the day: a letter of the indicator group is lost, or a list letter is
+    /// lost in both copies.
     pub not_tested: bool,
 }
 
