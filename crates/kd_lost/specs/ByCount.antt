@@ -29,13 +29,13 @@ from_blank (byte ∷ line) = if is_blank byte then byte ∷ line else from_blank
 abbrev pub later_words : List ℕ → List ℕ
 later_words line = drop 1 (from_blank line)
 
--- the heading `line`, with `count` in place of its third word, the letter count
+-- the heading `line` with another letter count: `count` replaces its third word
 abbrev pub counted_line : ℕ → List ℕ → List ℕ
 counted_line count line =
     first_word line ++ 32 ∷ [] ++ first_word (later_words line) ++ 32 ∷ [] ++ decimal count
     ++ from_blank (later_words (later_words line))
 
--- the part, with `count` in place of the third word of its heading, the letter count
+-- the part with another letter count: `count` replaces the third word of its heading
 abbrev pub counted_part : ℕ → List ℕ → List ℕ
 counted_part count part = counted_line count (first_line part) ++ from_line_end part
 
@@ -46,8 +46,8 @@ abbrev pub heading_count : Option PartNumbers → ℕ
 heading_count (Some numbers) = numbers.letters
 heading_count None = 0
 
--- Whether a short line explains why the heading says `counted` letters, but the body has `came` letters. The line
--- explains this if the body would have `counted` letters with 50 letters on this line.
+-- Whether a short line explains a wrong count: with 50 letters on this line, the body would have `counted` letters, as
+-- its heading says, instead of `came` letters.
 abbrev pub explains : ℕ → ℕ → ShortLine → Bool
 explains counted came short = counted + short.letters == came + 50
 
@@ -85,19 +85,19 @@ pub record IsFoundIn (s : Day) (part : List ℕ) (numbers : Option PartNumbers) 
   pub is_its : found ≡ text_of answer
   pub shown : IfSome found (IsPartShown s part)
 
--- The numbers of a part that may have been read by count:
--- - if the received heading is valid: `given`, the numbers in this heading
--- - if the received heading is damaged, but the part has a text by count: `counted`, the numbers in the heading with
---   the new count
--- - in all other cases: `None`
+-- The numbers of a part, even if its letter count is damaged:
+-- - The received heading is valid: its numbers (`given`).
+-- - The received heading is damaged, but the part has a text if its letter count is replaced: the numbers of the
+--   heading with the new count (`counted`).
+-- - In all other cases: `None`.
 abbrev pub numbers_by_count : Option PartNumbers → Option PartNumbers → Option DamagedText → Option PartNumbers
 numbers_by_count (Some given) counted found = Some given
 numbers_by_count None counted (Some shown) = counted
 numbers_by_count None counted None = None
 
--- Reading `part` by count gives the text `found` and the numbers `numbers`. The first argument says whether the
--- heading's count may be wrong. If the count may be wrong, the part is read with `came` as its letter count. If not,
--- `found` is `None`, and `numbers` are `given`, the numbers in the received heading.
+-- Reading `part` by count gives the text `found` and the numbers `numbers`. If the first argument is true, the letter
+-- count may be wrong, and `came` takes its place. If not, there is no such text: `found` is `None`, and `numbers` are
+-- `given`, the numbers in the received heading.
 abbrev pub GivesByCount : Bool → Day → List ℕ → ℕ → Option PartNumbers → Option PartNumbers → Option DamagedText → Type 0
 GivesByCount false s part came given numbers found = (found ≡ None) × (numbers ≡ given)
 GivesByCount true s part came given numbers found =

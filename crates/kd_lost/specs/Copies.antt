@@ -19,8 +19,8 @@ IsKeyLetterAnswer number copies = do
   _ ← Demands (HaveOneLetter copies) (CopiesDiffer number)
   Finds (λ letter. Contains copies (Some letter)) (KeyLetterLost number)
 
--- The answer for successive key letters, each of which has a copy in `start` and a copy in `end`. The first key letter
--- has the number `number`.
+-- The key letters with the numbers `number`, `number + 1` and so on, or the first reason why one of them can't be
+-- found. Each key letter has one copy in `start`, and one copy at the same place of `end`.
 abbrev pub AreKeyLettersAnswer : ℕ → List (Option ℕ) → List (Option ℕ) → AnswerRule PartDamage (List ℕ)
 AreKeyLettersAnswer number (one ∷ start) (other ∷ end) = do
   letter ← IsKeyLetterAnswer number (one ∷ other ∷ [])

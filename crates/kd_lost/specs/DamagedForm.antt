@@ -31,7 +31,7 @@ use Rattle.kd_lost.specs.WrongSign.{IsFirstWrongSign}
 abbrev pub ends_part : ℕ → List ℕ → Bool
 ends_part byte bytes = byte == 10 && is_heading_line bytes
 
--- The first part of a damaged form, and the list of its other parts.
+-- The first part of a damaged form, and the list of all other parts.
 abbrev pub cut_at_heading_lines : List ℕ → List ℕ × List (List ℕ)
 cut_at_heading_lines [] = ([], [])
 cut_at_heading_lines (byte ∷ bytes) =
@@ -69,8 +69,8 @@ pub data IsMeant (s : Day) (part meant : List ℕ) : Type 0 where
   Respaced : ((h : Heading) → ¬ (IsDamagedHeading s (first_line part) h)) → meant ≡ respaced part
       → IsMeant s part meant
 
--- `read` has what can be read of `part` as it stands: the fields that `read_damaged_part` reads, and the text by count,
--- as `IsByCount` says. `given` are the numbers in the received heading.
+-- `read` has what can be read of `part` as it stands. Only the fields `respaced` and `line` of `read` may have any
+-- values. `given` are the numbers in the received heading.
 pub record IsReadAs (s : Day) (part : List ℕ) (read : DamagedPart) : Type 0 where
   pub given : Option PartNumbers
   pub given_there : AreNumbersRead s (first_line part) given
@@ -108,8 +108,8 @@ AreReadOf s (part ∷ parts) [] = ⊥
 
 -- ---- Parts that came several times.
 
--- The parts `parts`, with letters from their copies in place of lost letters. The first of `parts` is at place `index`
--- of the form.
+-- `parts`, with letters from their copies in place of lost letters. The first of these parts has the index `index` in
+-- the form.
 abbrev pub completed_parts : List DamagedPart → ℕ → List PlacedPart → List PlacedPart
 completed_parts copies index [] = []
 completed_parts copies index (part ∷ parts) =
@@ -120,8 +120,8 @@ abbrev pub AreReadWith : Day → List DamagedPart → List ℕ → List DamagedP
 AreReadWith s copies form reads = AreReadOf s (completed_parts copies 0 (damaged_parts_of form)) reads
 
 -- `parts` are the parts of the form. First, each part is read alone. If all parts are of one message, each part is read
--- again, with letters from its copies in place of lost letters. If the second reading lacks a letter of the first
--- reading, or changes the numbers of a part, `parts` come from the first reading.
+-- again, with letters from its copies in place of lost letters. The second reading counts only if each part keeps its
+-- number and its letters. Otherwise `parts` come from the first reading.
 pub record AreFormParts (s : Day) (form : List ℕ) (parts : List DamagedPart) : Type 0 where
   pub alone : List DamagedPart
   pub read : AreReadOf s (damaged_parts_of form) alone

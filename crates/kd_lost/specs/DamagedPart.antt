@@ -40,7 +40,7 @@ body_of (byte ∷ bytes) = if byte == 10 then bytes else body_of bytes
 abbrev pub filled_byte : ℕ → ℕ
 filled_byte byte = if is_lost byte then 66 else meant_byte byte
 
--- `line` is the line of the heading `h`; letters of the heading's keys may be lost.
+-- `line` is the line of the heading `h`. Letters of the keys may be lost in `line`; `h` has a B in place of each.
 pub record IsDamagedHeading (s : Day) (line : List ℕ) (h : Heading) : Type 0 where
   pub is_heading : IsHeading s h
   pub text : IsLineText (map filled_byte line) (line_of (heading_words h))
@@ -51,8 +51,10 @@ is_body_byte byte = is_lost byte || is_text_byte (meant_byte byte)
 
 -- ---- The letters by which parts are compared.
 
--- The letter for a byte of a body, when parts are compared. A sign that isn't allowed in a body is compared like a lost
--- letter, as `Some None`. A space or a line end is left out, as `None`.
+-- The letter that a byte of a body counts as, when parts are compared:
+-- - for a letter: this letter
+-- - for a lost letter, or a sign that isn't allowed in a body: a lost letter, `Some None`
+-- - for a blank or a line end: no letter, `None`
 abbrev pub body_letter : ℕ → Option (Option ℕ)
 body_letter byte = if is_body_byte byte then received_letter byte else Some None
 
@@ -72,8 +74,8 @@ AreNumbersRead s line numbers =
     MatchOption numbers ((h : Heading) → ¬ (IsDamagedHeading s line h))
     (λ given. (h : Heading) × IsDamagedHeading s line h × (given ≡ numbers_of h))
 
--- `test` says whether the group or the list letters in `body` are the day's. If the heading is damaged, and so has no
--- numbers, `test` is `NotTested`.
+-- `test` says whether the group or the list letters in `body` are the day's. A damaged heading has no numbers; then
+-- `test` is `NotTested`.
 abbrev pub IsPartTest : Day → Option PartNumbers → List (Option ℕ) → GroupTest → Type 0
 IsPartTest s None body test = test ≡ NotTested
 IsPartTest s (Some numbers) body test = IsBodyTest s numbers.letters body test
@@ -110,10 +112,10 @@ IsDamagedTextAnswer s part = IsDamagedLinesAnswer s (first_line part) (body_of p
 
 -- ---- What the text of a part is, for all completions.
 
--- `shown` has the text of `part`, with `None` for each lost letter. A completion of `part` has
--- some letter in place of each lost letter. At least one completion has a heading and a text
--- (`IsPartText`). Wherever no letter was lost, each completion's text has the letters of `shown`.
--- The group and the list letters aren't tested.
+-- `shown` has the text of `part`, with `None` for each lost letter. A completion of `part` has some letter in place of
+-- each lost letter. At least one completion has a heading and a text (`IsPartText`). The texts of all completions have
+-- the same letters wherever no letter was lost, and `shown` has these letters. The group and the list letters aren't
+-- tested.
 pub record IsPartShown (s : Day) (part : List ℕ) (shown : DamagedText) : Type 0 where
   pub whole : List ℕ
   pub heading : Heading

@@ -44,9 +44,10 @@ IsLostInBoth (one ∷ start) (other ∷ end) = ((one ≡ None) × (other ≡ Non
 IsLostInBoth [] end = ⊥
 IsLostInBoth (one ∷ start) [] = ⊥
 
--- `test` is the result of comparing the received list letters with the day's list letters `due`. `start` and `end` are
--- the two received copies of the list letters. The result is `Wrong` if a received letter differs from the day's
--- letter. Otherwise, the result is `NotTested` if a letter is lost in both copies.
+-- `test` is the result of comparing the day's list letters `due` with their two received copies, `start` and `end`:
+-- - `Wrong`: a received letter differs from the day's letter.
+-- - `NotTested`: no received letter differs, but a letter is lost in both copies.
+-- - `Right`: no received letter differs, and each letter was received in at least one copy.
 pub data IsListTest (due : List ℕ) (start end : List (Option ℕ)) (test : GroupTest) : Type 0 where
   ListWrong : ¬ (Completes start due × Completes end due) → test ≡ tests.Wrong → IsListTest due start end test
   ListLost : Completes start due → Completes end due → IsLostInBoth start end → test ≡ tests.NotTested
@@ -54,7 +55,8 @@ pub data IsListTest (due : List ℕ) (start end : List (Option ℕ)) (test : Gro
   ListRight : Completes start due → Completes end due → ¬ (IsLostInBoth start end) → test ≡ tests.Right
       → IsListTest due start end test
 
--- how many letters of a body stand before its text: the group and two fillers, or the first copy of the indicators
+-- How many letters of a body stand before its text. On a rotor machine, these are two fillers and the group; on the
+-- Converter M-209, the first copy of the indicators.
 abbrev pub front_letters : Day → ℕ
 front_letters (Rotor s) = 5
 front_letters (Pin s) = 10
@@ -113,9 +115,9 @@ abbrev pub text_window : Day → TextKeys → List ℕ
 text_window s (text_keys.Rotor i) = deciphered_key s i
 text_window s (text_keys.Pin pin) = pin.internal.items
 
--- `shown` has the text of the body `received`, with `None` for each lost letter. The text is the same whatever the lost
--- letters were. `shown` also has `received` itself, the keys, and the warnings. With these keys, the machine deciphers
--- the body to the letters in `shown`.
+-- `shown` has the text of the body `received`, with `None` for each lost letter. All other letters of the text are the
+-- same, whatever the lost letters were. `shown` also has `received` itself, the keys, and the warnings. With these
+-- keys, the machine deciphers the body to the letters in `shown`.
 pub record IsTextShown (s : Day) (i : Option Indicator) (received : List (Option ℕ))
     (shown : DamagedText) : Type 0 where
   pub each : (whole text : List ℕ) → Completes received whole → IsLettersText s i whole text
@@ -141,8 +143,8 @@ IsDamagedLettersAnswer s None received = do
 
 -- ---- What the code holds. No public contract cites this definition.
 
--- `received` has the letters between a Converter's indicators, and the indicators give the keys `keys`. The answer for
--- `received` has the letters of the text, and the internal key.
+-- The answer for a Converter's text: its letters and the internal key, or the first reason why there is no internal
+-- key. `received` has the letters between the indicators, and `keys` are the keys in the indicators.
 abbrev pub IsKeyedTextAnswer : Day → PinKeys → List (Option ℕ) → AnswerRule PartDamage (ArrayVec (Option ℕ) × ArrayVec ℕ)
 IsKeyedTextAnswer s keys received = do
   _ ← Demands (IsWindow (sheet_key s) keys.external) KeyNotOnWheel

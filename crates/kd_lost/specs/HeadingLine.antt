@@ -1,6 +1,6 @@
--- Which lines of a damaged form are taken for headings. A line that is taken for a heading begins like `PART`. The line
--- also has a digit or a slash anywhere, or a lost sign at the start of its second word. So a wrong sign in a body
--- doesn't begin a part. A heading begins a part even if some of its signs are lost or wrong.
+-- Which lines of a damaged form are taken for headings. A line that is taken for a heading begins like `PART`. It also
+-- has a digit or a slash, or its second word begins with a lost sign. So a wrong sign in a body doesn't begin a part. A
+-- heading begins a part even if some of its signs are lost or wrong.
 -- Test: tests/cases/curator-messages.toml
 use Rattle.std.specs.Prelude.{codes, ℕ, ◌+◌, ◌==◌, ◌&&◌, ◌||◌, nat_le, Bool, false, true, if◌then◌else◌, List, [], ◌∷◌}
 use Rattle.std.specs.Prelude.{Option, None, Some, drop, is_some, length, map, not, slice_get, take}
@@ -24,7 +24,7 @@ right_signs (letter ∷ word) (byte ∷ bytes) =
 right_signs [] bytes = 0
 right_signs (letter ∷ word) [] = 0
 
--- how many signs of `word` stand, or are lost, at the same place in the first line of `bytes`
+-- how many signs of `word` stand at the same place in the first line of `bytes`, or are lost there
 unfoldable pub fitting_signs : List ℕ → List ℕ → ℕ
 fitting_signs (letter ∷ word) (byte ∷ bytes) =
     if byte == 10 then 0
@@ -32,7 +32,7 @@ fitting_signs (letter ∷ word) (byte ∷ bytes) =
 fitting_signs [] bytes = 0
 fitting_signs (letter ∷ word) [] = 0
 
--- whether there is a byte, and it is a letter, capital or small
+-- whether there is a byte that is a letter, capital or small
 unfoldable pub is_letter : Option ℕ → Bool
 is_letter None = false
 is_letter (Some byte) = is_capital (meant_byte byte)
@@ -55,13 +55,13 @@ begins_with_three bytes =
     begins_with_word (codes "ART") bytes || begins_with_word (codes "PRT") bytes
     || begins_with_word (codes "PAT") bytes || begins_with_word (codes "PAR") bytes
 
--- whether `bytes` begin with `PART` with two neighbouring letters exchanged, and no letter follows
+-- whether `bytes` begin with `PART` with two neighbouring letters exchanged, such as `PRAT`; no letter follows
 abbrev pub begins_exchanged : List ℕ → Bool
 begins_exchanged bytes =
     begins_with_word (codes "APRT") bytes || begins_with_word (codes "PRAT") bytes
     || begins_with_word (codes "PATR") bytes
 
--- whether `bytes` begin with `PART` with a blank between two of its letters, and no letter follows
+-- whether `bytes` begin with `PART` with a blank between two letters, such as `PA RT`; no letter follows
 abbrev pub begins_with_blank : List ℕ → Bool
 begins_with_blank bytes =
     begins_with_word (codes "P ART") bytes || begins_with_word (codes "PA RT") bytes
@@ -73,13 +73,14 @@ begins_apart front back bytes =
     is_letter (slice_get bytes (length front))
     && (right_signs front bytes == length front && right_signs back (drop (length front + 1) bytes) == length back)
 
--- whether `bytes` begin with `PART` with an extra letter before the P, the A, the R or the T
+-- whether `bytes` begin with `PART` with an extra letter before one of its letters, such as `PAXRT`
 abbrev pub has_five : List ℕ → Bool
 has_five bytes =
     begins_apart [] (codes "PART") bytes || begins_apart (codes "P") (codes "ART") bytes
     || begins_apart (codes "PA") (codes "RT") bytes || begins_apart (codes "PAR") (codes "T") bytes
 
--- Whether `bytes` begin with `PART` with an extra letter before the P, the A, the R or the T. No sixth letter follows.
+-- Whether `bytes` begin with `PART` with an extra letter before one of its letters, such as `PAXRT`. No sixth letter
+-- follows.
 abbrev pub begins_with_five : List ℕ → Bool
 begins_with_five bytes = has_five bytes && not (is_letter (slice_get bytes 5))
 
@@ -116,26 +117,27 @@ begins_with_groups bytes =
 unfoldable pub may_be_part : List ℕ → Bool
 may_be_part bytes = is_part_line bytes || begins_with_groups bytes
 
--- the rest of `bytes` after the first word, which ends before the first blank or LF
+-- `bytes` after their first word: from the first blank or LF on
 abbrev pub after_word : List ℕ → List ℕ
 after_word [] = []
 after_word (byte ∷ bytes) = if is_blank byte || byte == 10 then byte ∷ bytes else after_word bytes
 
--- whether there is a byte, and it stands for a lost sign
+-- whether there is a byte that stands for a lost sign
 abbrev pub is_lost_sign : Option ℕ → Bool
 is_lost_sign None = false
 is_lost_sign (Some byte) = is_lost byte
 
--- whether there is a byte, and it is a blank
+-- whether there is a byte that is a blank
 abbrev pub is_blank_at : Option ℕ → Bool
 is_blank_at None = false
 is_blank_at (Some byte) = is_blank byte
 
--- whether the first word of `bytes` has three or four signs, so that it may be `PART`, but not a group of five letters
+-- Whether the fourth or the fifth byte of `bytes` is a blank. So the first word has at most four signs: it may be
+-- `PART`, but isn't a group of five letters.
 abbrev pub has_short_word : List ℕ → Bool
 has_short_word bytes = is_blank_at (slice_get bytes 3) || is_blank_at (slice_get bytes 4)
 
--- whether the second word of the first line begins with a lost sign, in place of the part's number
+-- whether the first word may be `PART`, and the second word begins with a lost sign, in place of the part's number
 abbrev pub has_lost_number : List ℕ → Bool
 has_lost_number bytes =
     has_short_word (after_blanks bytes) && is_lost_sign (slice_get (after_blanks (after_word (after_blanks bytes))) 0)

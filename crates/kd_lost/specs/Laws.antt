@@ -55,7 +55,7 @@ abbrev pub FormsReadHaveTheirParts : Type 0
 FormsReadHaveTheirParts =
     (s : Day) (form text : List ℕ) → IsTextOf s form text → form_parts form ≡ parts_of form
 
--- If `receive` reads a form, no line before the form's first heading is passed over.
+-- If `receive` reads a form, this crate drops nothing before the form's first heading.
 abbrev pub FormsReadAreTidy : Type 0
 FormsReadAreTidy = (s : Day) (form text : List ℕ) → IsTextOf s form text → tidied form ≡ form
 

@@ -1,6 +1,7 @@
 -- The letters that may have been sent if letters were lost on the air. A lost letter is a `?` or `-`, a small letter
--- means its capital letter, and a tab means a space. Code: the reader puts A in place of each lost letter, deciphers,
--- and leaves out the deciphered letters at these places.
+-- means its capital letter, and a tab means a space.
+-- Code: the reader puts A in place of each lost letter, deciphers, and leaves out the deciphered letters at these
+-- places.
 -- Test: tests/messages-as-worked
 use Rattle.std.specs.Prelude.{◌≡◌, ℕ, ◌-◌, ◌<◌, ◌==◌, ◌&&◌, ◌||◌, nat_le, Bool, IsTrue, IsFalse, if◌then◌else◌}
 use Rattle.std.specs.Prelude.{List, [], ◌∷◌, map, filter_map, Option, Some, None, option_map, unwrap_or}

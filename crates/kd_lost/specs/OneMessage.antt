@@ -17,7 +17,8 @@ letter_agrees (Some one) (Some other) = one == other
 letter_agrees (Some one) None = true
 letter_agrees None other = true
 
--- whether two bodies are equally long, and their letters agree at each place
+-- Whether two bodies may come from one sent body. They are equally long, and at each place, the letters are equal or
+-- one is lost.
 abbrev pub letters_agree : List (Option ℕ) → List (Option ℕ) → Bool
 letters_agree (letter ∷ one) (again ∷ other) = letter_agrees letter again && letters_agree one other
 letters_agree [] [] = true
@@ -41,7 +42,7 @@ same_keys (text_keys.Pin one) (text_keys.Pin other) =
 same_keys (text_keys.Rotor one) (text_keys.Pin other) = false
 same_keys (text_keys.Pin one) (text_keys.Rotor other) = false
 
--- Whether two texts may be of one part, sent twice. A text that couldn't be read agrees with any text.
+-- Whether the texts of two parts may be one text, sent twice. True if one of the parts couldn't be read.
 abbrev pub texts_agree : Result DamagedText PartDamage → Result DamagedText PartDamage → Bool
 texts_agree (Ok one) (Ok other) =
     letters_agree one.received.items other.received.items && same_keys one.keys other.keys
@@ -50,7 +51,8 @@ texts_agree (Err damage) other = true
 
 -- ---- Any two parts, be they read or not.
 
--- whether the letters of two bodies agree at each place, up to the end of the shorter body
+-- whether two bodies may be equal up to the end of the shorter body: at each place, the letters are equal or one is
+-- lost
 abbrev pub bodies_agree : List (Option ℕ) → List (Option ℕ) → Bool
 bodies_agree (letter ∷ one) (again ∷ other) = letter_agrees letter again && bodies_agree one other
 bodies_agree [] other = true
@@ -68,13 +70,14 @@ key_signs heading = later_words (later_words (later_words heading))
 abbrev pub sign_agrees : ℕ → ℕ → Bool
 sign_agrees sign again = sign == again || (is_lost sign || is_lost again)
 
--- whether the signs of two lists agree at each place, up to the end of the shorter list
+-- whether two lists of signs may be equal up to the end of the shorter list: at each place, the signs are equal or one
+-- is lost
 abbrev pub signs_agree : List ℕ → List ℕ → Bool
 signs_agree (sign ∷ one) (again ∷ other) = sign_agrees sign again && signs_agree one other
 signs_agree [] other = true
 signs_agree (sign ∷ one) [] = true
 
--- whether the keys in the headings of two parts agree at each sign; a lost sign agrees with any sign
+-- whether two headings may have the same keys: at each place of the keys, the signs are equal or one is lost
 abbrev pub keys_agree : DamagedPart → DamagedPart → Bool
 keys_agree one other = signs_agree (key_signs one.heading.bytes) (key_signs other.heading.bytes)
 
@@ -82,11 +85,13 @@ keys_agree one other = signs_agree (key_signs one.heading.bytes) (key_signs othe
 abbrev pub count_signs : List ℕ → List ℕ
 count_signs heading = first_word (later_words (later_words heading))
 
--- whether two letter counts have equally many signs, and these signs agree at each place
+-- Whether two letter counts may be the same. They have equally many signs, and at each place, the signs are equal or
+-- one is lost.
 abbrev pub same_count : List ℕ → List ℕ → Bool
 same_count one other = length one == length other && signs_agree one other
 
--- whether two parts may have equally many letters: equally many were received, or the counts in their headings agree
+-- whether two parts may have equally many letters: equally many were received, or the counts in their headings may be
+-- equal
 abbrev pub counts_agree : DamagedPart → DamagedPart → Bool
 counts_agree one other =
     one.came == other.came || same_count (count_signs one.heading.bytes) (count_signs other.heading.bytes)
@@ -103,7 +108,7 @@ abbrev pub is_stranger : DamagedPart → DamagedPart → Bool
 is_stranger one other =
     is_none (shown_text one) && (is_of_other_day one && not (is_of_other_day other))
 
--- whether the groups or the list letters of two parts may be of one day
+-- whether neither of two parts is a stranger to the other part: see `is_stranger`
 abbrev pub days_agree : DamagedPart → DamagedPart → Bool
 days_agree one other = not (is_stranger one other) && not (is_stranger other one)
 
@@ -112,9 +117,9 @@ abbrev pub frames_agree : DamagedPart → DamagedPart → Bool
 frames_agree one other = heading_repeats one other && days_agree one other
 
 -- Whether two parts may be one part, sent twice. All of these conditions must hold:
--- - The letters of the two bodies agree, up to the end of the shorter body.
--- - The counts, the keys and the days of the two parts agree.
--- - If both parts are read, their texts agree.
+-- - At each place that both bodies have, the letters are equal or one is lost.
+-- - The two headings may be one heading, and the parts may be of one day.
+-- - If both parts are read, they may have the same text.
 -- - If one part is read, the other part has at most as many letters.
 abbrev pub may_repeat : DamagedPart → DamagedPart → Bool
 may_repeat one other =
@@ -123,9 +128,8 @@ may_repeat one other =
 
 -- ---- The parts of a form.
 
--- Whether two headings can be of one message: both give the same number of parts, and their part
--- numbers differ. If `agree` says that the parts may be one part, sent twice, the part numbers may
--- also be equal.
+-- Whether two headings can be of one message. Both must give the same number of parts. Their part numbers must differ,
+-- unless `agree` says that the parts may be one part, sent twice.
 abbrev pub numbers_agree : PartNumbers → PartNumbers → Bool → Bool
 numbers_agree one other agree =
     one.parts == other.parts && (not (one.part == other.part) || agree)
@@ -141,7 +145,7 @@ headings_agree None other agree = true
 abbrev pub parts_agree : DamagedPart → DamagedPart → Bool
 parts_agree one other = headings_agree one.numbers other.numbers (may_repeat one other)
 
--- whether `part` agrees with each of the other parts: the two parts can be of one message
+-- whether `part` and each of the other parts can be of one message
 abbrev pub agrees_with_each : DamagedPart → List DamagedPart → Bool
 agrees_with_each part [] = true
 agrees_with_each part (other ∷ others) = parts_agree part other && agrees_with_each part others

@@ -1,5 +1,5 @@
--- Parts that came several times: a letter that one copy of a part lost is taken from another copy. Copies have the same
--- part number, the same keys, and equally many letters.
+-- Parts that came several times: a letter that is lost in one copy of a part is taken from another copy. Copies have
+-- the same part number, the same keys, and equally many letters.
 -- Test: tests/cases/curator-messages.toml
 use Rattle.std.specs.Prelude.{ℕ, ◌+◌, ◌==◌, ◌&&◌, Bool, true, false, if◌then◌else◌, is_some, slice_index_or}
 use Rattle.std.specs.Prelude.{List, [], ◌∷◌, ◌++◌, length, slice_get, Option, Some, None}
@@ -25,15 +25,15 @@ abbrev pub has_keys_of : DamagedText → DamagedText → Bool
 has_keys_of one other =
     same_keys one.keys other.keys && length one.received.items == length other.received.items
 
--- The letter at `place` of the text `text`. `None` if the letter is lost, or `text` isn't a copy of the text `shown`.
--- `same` says whether the parts of the two texts have the same number.
+-- The received letter at `place` of `text`, if `text` is a copy of the text `shown`. `None` if it isn't a copy, or if
+-- the letter is lost. `same` says whether the parts of the two texts have the same number.
 abbrev pub letter_of_copy : Bool → DamagedText → ℕ → Option DamagedText → Option ℕ
 letter_of_copy same shown place None = None
 letter_of_copy same shown place (Some text) =
     if same && has_keys_of shown text then slice_index_or text.received.items place None else None
 
--- The letter at `place` of the part `other`. `None` if the letter is lost, or if `other` isn't a copy of the part
--- `read`. `shown` is the text of `read`.
+-- The received letter at `place` of `other`, if `other` is a copy of the part `read`. `None` if it isn't a copy, or if
+-- the letter is lost. `shown` is the text of `read`.
 abbrev pub copied_letter : DamagedPart → DamagedText → ℕ → DamagedPart → Option ℕ
 copied_letter read shown place other =
     letter_of_copy (is_same_part read.numbers other.numbers) shown place (shown_text other)
@@ -43,7 +43,7 @@ abbrev pub letter_or : Option ℕ → Option ℕ → Option ℕ
 letter_or (Some letter) other = Some letter
 letter_or None other = other
 
--- the letter at `place` of the part `read`, from the first copy of this part that has the letter
+-- the received letter at `place` of the part `read`, from the first copy of this part that has the letter
 abbrev pub known_letter : List DamagedPart → DamagedPart → DamagedText → ℕ → Option ℕ
 known_letter [] read shown place = None
 known_letter (copy ∷ copies) read shown place =
@@ -51,7 +51,7 @@ known_letter (copy ∷ copies) read shown place =
 
 -- ---- A part with the letters of its copies.
 
--- the copy's letter, if `byte` stands for a lost letter that a copy has; otherwise `byte`
+-- for a lost letter that a copy has: the copy's letter; for any other byte: `byte` itself
 unfoldable pub completed_byte : Option ℕ → ℕ → ℕ
 completed_byte (Some letter) byte = if is_lost byte then letter + 65 else byte
 completed_byte None byte = byte
@@ -98,7 +98,6 @@ are_kept (alone ∷ parts) (again ∷ others) = is_kept alone again && are_kept 
 are_kept [] (again ∷ others) = false
 are_kept (alone ∷ parts) [] = false
 
--- `again` (the parts, read a second time) if each part has kept its number and its letters; otherwise `alone` (the
--- parts, each read alone)
+-- the second reading, `again`, if each part has kept its number and its letters; otherwise the first reading, `alone`
 abbrev pub completed_or : List DamagedPart → List DamagedPart → List DamagedPart
 completed_or alone again = if are_kept alone again then again else alone

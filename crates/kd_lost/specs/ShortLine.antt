@@ -1,5 +1,5 @@
--- The first short line of a body: this line has letters, but not 50, and more letters follow. `desk send` writes lines
--- of 50 letters.
+-- The first short line of a body: this line has letters, but not exactly 50, and more letters follow. `desk send`
+-- writes lines of 50 letters.
 use Rattle.std.specs.Prelude.{ℕ, ◌+◌, ◌-◌, ◌==◌, ◌&&◌, not, nat_lt, Bool, if◌then◌else◌, List, [], ◌∷◌, length}
 use Rattle.std.specs.Prelude.{Option, None, Some}
 use Rattle.kd_lost.specs.declared.short_line.ShortLine.{ShortLine}
@@ -14,13 +14,13 @@ letters_on bytes = length (received_letters bytes)
 abbrev pub is_short : ℕ → Bool
 is_short letters = not (letters == 0) && not (letters == 50)
 
--- one item for each line of a body except the first: all bytes of the body from the start of this line on
+-- for each line of a body but the first, one item: the bytes from the start of this line to the end of the body
 abbrev pub later_lines : List ℕ → List (List ℕ)
 later_lines [] = []
 later_lines (byte ∷ bytes) = if byte == 10 then bytes ∷ later_lines bytes else later_lines bytes
 
--- The first short line in a list. Each item of the list has one line of the body, and then all later bytes of the body.
--- The first item's line has the number `number`. The whole body has `all` letters.
+-- The first short line from line `number` on. The list has an item for each line from there on: the bytes from the
+-- start of this line to the end of the body. The whole body has `all` letters.
 abbrev pub short_line_from : ℕ → ℕ → List (List ℕ) → Option ShortLine
 short_line_from all number [] = None
 short_line_from all number (bytes ∷ others) =

@@ -31,7 +31,7 @@ abbrev pub numbers_of : List DamagedPart → List ℕ
 numbers_of [] = []
 numbers_of (part ∷ parts) = number_before part.numbers (numbers_of parts)
 
--- whether each number is at least the number before it, and the first number is at least `before`
+-- whether the numbers never fall, and the first number is at least `before`
 abbrev pub are_in_order : ℕ → List ℕ → Bool
 are_in_order before [] = true
 are_in_order before (number ∷ numbers) = nat_le before number && are_in_order number numbers
@@ -47,20 +47,20 @@ times_of parts number = count_by (λ part. is_number number part.numbers) parts
 
 -- ---- Repetitions.
 
--- Whether the text `other` is better than the text `one`. It is better in these cases:
--- - There is a text `other`, but no text `one`.
--- - `other` has fewer lost letters.
--- - Both have equally many lost letters, and `counted` says that only `other` was read with the
---   heading's count.
+-- Whether the text `one` is worse than the text `other`. It is worse in these cases:
+-- - There is no text `one`, but a text `other`.
+-- - `one` has more lost letters.
+-- - Both have equally many lost letters, and `counted` says that only `other` was read with the heading's count.
 abbrev pub is_text_worse : Bool → Option DamagedText → Option DamagedText → Bool
 is_text_worse counted (Some one) (Some other) =
     nat_lt (lost_in other) (lost_in one) || (counted && lost_in other == lost_in one)
 is_text_worse counted None (Some other) = true
 is_text_worse counted one None = false
 
--- Whether the text of `other` is better than the text of `one`, or only `other` has a text. A text is better if it has
--- fewer lost letters. With equally many lost letters, a text read with the heading's letter count is better than a text
--- read with the number of received letters.
+-- Whether the text of `one` is worse than the text of `other`. It is worse in these cases:
+-- - `one` has no text, but `other` has a text.
+-- - `one` has more lost letters.
+-- - Both have equally many lost letters, and only `other` was read with the heading's count.
 abbrev pub is_worse : DamagedPart → DamagedPart → Bool
 is_worse one other = is_text_worse (is_err one.text && is_ok other.text) (shown_text one) (shown_text other)
 
@@ -71,8 +71,8 @@ better part (Some later) =
     if is_worse part later then Some later else Some part
 
 -- The part that is shown under `number`: of the parts with this number, the first with the best text. A text is better
--- if it has fewer lost letters. With equally many lost letters, a text read with the heading's letter count is better
--- than a text read with the number of received letters.
+-- if it has fewer lost letters. If equally many are lost, a text that was read with the heading's letter count is
+-- better than a text by count.
 abbrev pub shown_under : List DamagedPart → ℕ → Option DamagedPart
 shown_under [] number = None
 shown_under (part ∷ parts) number =
@@ -83,8 +83,8 @@ abbrev pub text_in : Option DamagedPart → Option DamagedText
 text_in None = None
 text_in (Some part) = shown_text part
 
--- Whether the part that is shown under the number in a heading has all letters of `text`. True if the heading is
--- damaged, or if there is no text.
+-- Whether the part that is shown under the heading's number has all letters of `text`. True if the heading is damaged,
+-- or if there is no text.
 abbrev pub is_covered_by : List DamagedPart → Option DamagedText → Option PartNumbers → Bool
 is_covered_by parts text None = true
 is_covered_by parts text (Some numbers) = text_within text (text_in (shown_under parts numbers.part))
@@ -92,8 +92,8 @@ is_covered_by parts text (Some numbers) = text_within text (text_in (shown_under
 abbrev pub is_covered : List DamagedPart → DamagedPart → Bool
 is_covered parts part = is_covered_by parts (shown_text part) part.numbers
 
--- whether the part shown under a number has all letters of each part in `parts` with this number;
--- the shown part is one of `all`
+-- Whether, for each of `parts`, the part that is shown under its number has all its letters. The shown parts are from
+-- `all`. Parts without a number don't count.
 abbrev pub are_covered : List DamagedPart → List DamagedPart → Bool
 are_covered all [] = true
 are_covered all (part ∷ parts) = is_covered all part && are_covered all parts
@@ -125,7 +125,7 @@ IsNumberWhole parts number = MatchOption (shown_under parts number) ⊥ IsReadWh
 abbrev pub MayBeOfTheDay : DamagedPart → Type 0
 MayBeOfTheDay part = IsFalse (is_of_other_day part)
 
--- The form is one whole message. The parts are shown as one message. Each part has a number, and no part is of another
+-- The form is one whole message. Its parts are shown as one message. Each part has a number, and no part is of another
 -- day or network. Under each number, from 1 to the number of parts, a text without a lost letter is shown.
 pub record IsWhole (parts : List DamagedPart) : Type 0 where
   pub one_message : IsTrue (is_one_message parts)

@@ -22,7 +22,7 @@ is_wrong_day tests.Right = false
 is_wrong_day tests.Wrong = true
 is_wrong_day tests.NotTested = false
 
--- the result of testing the text's group or list letters; `other` if there is no text
+-- the result of testing the group or list letters of a text; `other` if there is no text
 abbrev pub test_or : GroupTest → Option DamagedText → GroupTest
 test_or other (Some shown) = shown.group
 test_or other None = other

@@ -16,7 +16,7 @@ use Rattle.kd_lost.specs.DamagedPart.{first_line}
 abbrev pub without_mark : List ℕ → List ℕ
 without_mark form = if bytes_eq (take 3 form) (239 ∷ 187 ∷ 191 ∷ []) then drop 3 form else form
 
--- The bytes that begin with the first heading after the first line. `None` in two cases:
+-- All bytes from the first heading after the first line on. `None` in two cases:
 -- - No heading stands after the first line.
 -- - A line between the first line and this heading may belong to a part.
 abbrev pub later_heading : List ℕ → Option (List ℕ)
@@ -30,8 +30,8 @@ later_heading (byte ∷ bytes) =
 abbrev pub from_heading : List ℕ → List ℕ
 from_heading bytes = if may_be_part bytes then bytes else unwrap_or (later_heading bytes) bytes
 
--- the form, without a byte order mark and without the lines before its first heading; these lines stay if one of them
--- may belong to a part
+-- The form, without a byte order mark and without the lines before its first heading. These lines stay if one of them
+-- may belong to a part.
 abbrev pub tidied : List ℕ → List ℕ
 tidied form = from_heading (without_mark form)
 
@@ -50,7 +50,7 @@ ends_word (byte ∷ line) = is_gap byte
 abbrev pub as_space : ℕ → ℕ
 as_space byte = if is_gap byte then 32 else byte
 
--- The bytes that are written for `byte`, which stands before `line`:
+-- The bytes that are written for `byte`, which is followed by `line`:
 -- - for a gap before another gap, or at the end of the line: no byte
 -- - for any other gap: a space
 -- - for any other byte: the byte itself

@@ -1,5 +1,5 @@
--- The first wrong sign of a part's body: a byte that isn't allowed in a body. Its position is given by its line, its
--- place among the letters of the line, and its place among all letters of the body.
+-- The first wrong sign of a part's body: a byte that isn't allowed in a body. Its position has three numbers: its line,
+-- its place among the letters of this line, and its place among all letters of the body.
 -- Test: tests/cases/curator-messages.toml
 use Rattle.std.specs.Prelude.{◌≡◌, ◌⊎◌, ℕ, ◌+◌, ◌==◌, IsTrue, IsFalse, List, [], ◌∷◌, ◌++◌, length, All}
 use Rattle.std.specs.Prelude.{Option, MatchOption}

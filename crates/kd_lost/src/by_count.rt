@@ -34,8 +34,7 @@ fn telling_line(counted: usize, came: usize, short: &Option<ShortLine>) -> Optio
 
 /// Whether the short line `short` explains a wrong count.
 ///
-/// The heading says `counted` letters, but the body has `came` letters. The line explains this if the body would have
-/// `counted` letters with 50 letters on this line.
+/// With 50 letters on this line, the body would have `counted` letters, as its heading says, instead of `came` letters.
 fn explains(counted: usize, came: usize, short: ShortLine) -> bool
     ensures { result ≡ explains counted came short }
 {
@@ -63,7 +62,7 @@ pub(crate) fn is_count_doubted(part: &DamagedPart) -> bool
     }
 }
 
-/// Reads the numbers in the heading of `part`, and the text, with `count` in place of the heading's count.
+/// Reads the text of `part` and the numbers in its heading, with `count` as the letter count.
 pub(crate) fn find_by_count(
     alloc: Global,
     day: &SheetDay,
@@ -84,11 +83,11 @@ pub(crate) fn find_by_count(
     }
 }
 
-/// The numbers of a part that may have been read by count.
+/// The numbers of a part, even if its letter count is damaged.
 ///
-/// - If the received heading is valid: `given`, the numbers in this heading.
-/// - If the received heading is damaged, but a text was found by count: `counted`, the numbers that were read with this
-///   text.
+/// - The received heading is valid: its numbers (`given`).
+/// - The received heading is damaged, but the part has a text if its letter count is replaced: the numbers of the
+///   heading with the new count (`counted`).
 /// - In all other cases: `None`.
 pub(crate) fn numbers_by_count(
     given: Option<PartNumbers>,
@@ -104,7 +103,7 @@ pub(crate) fn numbers_by_count(
     }
 }
 
-/// `part`, with `count` in place of the letter count, which is the heading's third word.
+/// `part` with another letter count: `count` replaces the third word of its heading.
 fn counted_part(alloc: Global, part: &[u8], count: usize) -> Result<Vec<u8>, DamagedFormFault>
     ensures { MatchResult result
         (λ bytes. bytes.items ≡ counted_part count part.now)

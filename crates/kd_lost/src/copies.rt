@@ -37,8 +37,8 @@ fn six_letters(letters: &[Letter]) -> [Letter; 6]
     <[Letter; 6]>::try_from(letters).unwrap()
 }
 
-/// Appends the key letters that have one copy in `start`, and one in `end`. The first key letter has the number
-/// `number`.
+/// Appends the key letters with the numbers `number`, `number + 1` and so on. Each has one copy in `start`, and one
+/// copy at the same place of `end`.
 fn push_key_letters(
     letters: &mut ArrayVec<Letter, 6>,
     number: u8,

@@ -43,8 +43,8 @@ pub struct PinTextKeys {
 pub enum GroupTest {
     /// The group or the list letters of the part belong to the day.
     Right,
-    /// The group or the list letters of the part aren't the day's. The part was made with another day's settings, or
-    /// its letters were changed on the air.
+    /// The group or the list letters of the part aren't the day's. The part is of another day or network, or its
+    /// letters were changed on the air.
     Wrong,
     /// The group or the list letters aren't tested, for one of these reasons:
     /// - A letter of the group is lost.

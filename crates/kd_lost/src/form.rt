@@ -209,7 +209,7 @@ fn differs(bytes: &[u8], others: &[u8]) -> bool
     bytes != others
 }
 
-/// The first part of `form`, and the bytes after it; `None` if there is no other part.
+/// The first part of `form`, and the bytes after it, or `None` if there is no other part.
 pub(crate) fn split_part(form: &[u8]) -> (&[u8], Option<&[u8]>)
     ensures part { result.0.now ≡ (cut_at_heading_lines form.now).0 }
     ensures others { MatchOption result.1

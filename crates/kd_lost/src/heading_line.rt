@@ -23,7 +23,7 @@ pub(crate) fn is_heading_line(bytes: &[u8]) -> bool
     is_part_line(bytes) && (has_digit_line(bytes) || has_lost_number(bytes))
 }
 
-/// Whether the second word of the first line begins with a lost sign, in place of the part's number.
+/// Whether the first word may be `PART`, and the second word begins with a lost sign, in place of the part's number.
 fn has_lost_number(bytes: &[u8]) -> bool
     ensures { result ≡ has_lost_number bytes.now }
 {
@@ -31,16 +31,16 @@ fn has_lost_number(bytes: &[u8]) -> bool
     has_short_word(line) && begins_lost(after_blanks(after_word(line)))
 }
 
-/// Whether the first word of `bytes` has three or four signs.
+/// Whether the fourth or the fifth byte of `bytes` is a blank.
 ///
-/// So the word may be `PART`, but isn't a group of five letters.
+/// So the first word has at most four signs: it may be `PART`, but isn't a group of five letters.
 fn has_short_word(bytes: &[u8]) -> bool
     ensures { result ≡ has_short_word bytes.now }
 {
     is_blank_at(bytes.get(3).copied()) || is_blank_at(bytes.get(4).copied())
 }
 
-/// Whether there is a byte, and it is a blank.
+/// Whether there is a byte that is a blank.
 fn is_blank_at(byte: Option<u8>) -> bool
     ensures { result ≡ is_blank_at byte }
 {
@@ -59,7 +59,7 @@ fn begins_lost(bytes: &[u8]) -> bool
     }
 }
 
-/// The rest of `bytes` after the first word, which ends before the first blank or LF.
+/// `bytes` after their first word: from the first blank or LF on.
 fn after_word(bytes: &[u8]) -> &[u8]
     ensures { result.now ≡ after_word bytes.now }
 {
@@ -165,7 +165,7 @@ fn begins_with_three(bytes: &[u8]) -> bool
         || begins_with_word(b"PAR", bytes)
 }
 
-/// Whether `bytes` begin with `PART` with two neighbouring letters exchanged, and no letter follows.
+/// Whether `bytes` begin with `PART` with two neighbouring letters exchanged, such as `PRAT`; no letter follows.
 fn begins_exchanged(bytes: &[u8]) -> bool
     ensures { result ≡ begins_exchanged bytes.now }
 {
@@ -174,7 +174,7 @@ fn begins_exchanged(bytes: &[u8]) -> bool
         || begins_with_word(b"PATR", bytes)
 }
 
-/// Whether `bytes` begin with `PART` with a blank between two of its letters, and no letter follows.
+/// Whether `bytes` begin with `PART` with a blank between two letters, such as `PA RT`; no letter follows.
 fn begins_with_blank(bytes: &[u8]) -> bool
     ensures { result ≡ begins_with_blank bytes.now }
 {
@@ -190,7 +190,7 @@ fn begins_with_word(word: &[u8], bytes: &[u8]) -> bool
     right_signs(word, bytes) == word.len() && !is_letter_at(bytes, word.len())
 }
 
-/// Whether `bytes` begin with `PART` and one extra letter, which stands before the P, the A, the R or the T.
+/// Whether `bytes` begin with `PART` with an extra letter before one of its letters, such as `PAXRT`.
 ///
 /// No sixth letter follows.
 fn begins_with_five(bytes: &[u8]) -> bool
@@ -199,7 +199,7 @@ fn begins_with_five(bytes: &[u8]) -> bool
     has_five(bytes) && !is_letter_at(bytes, 5)
 }
 
-/// Whether `bytes` begin with `PART` with an extra letter before the P, the A, the R or the T.
+/// Whether `bytes` begin with `PART` with an extra letter before one of its letters, such as `PAXRT`.
 fn has_five(bytes: &[u8]) -> bool
     ensures { result ≡ has_five bytes.now }
 {
@@ -227,7 +227,8 @@ fn are_right(least: usize, word: &[u8], bytes: &[u8]) -> bool
     right_signs(word, bytes) >= least
 }
 
-/// Whether at least `least` signs of `word` stand, or are lost, at the same place in `bytes`.
+/// Whether at least `least` signs of `word` stand at the same place in `bytes`, or are lost there.
+///
 /// Only the first line of `bytes` counts.
 fn are_fitting(least: usize, word: &[u8], bytes: &[u8]) -> bool
     ensures { result ≡ nat_le least (fitting_signs word.now bytes.now) }
@@ -250,7 +251,7 @@ fn right_signs(word: &[u8], bytes: &[u8]) -> usize
     0
 }
 
-/// How many signs of `word` stand, or are lost, at the same place in the first line of `bytes`.
+/// How many signs of `word` stand at the same place in the first line of `bytes`, or are lost there.
 fn fitting_signs(word: &[u8], bytes: &[u8]) -> usize
     ensures signs { result ≡ fitting_signs word.now bytes.now }
     ensures few { result ≤ length word.now }
@@ -272,7 +273,7 @@ fn is_letter_at(bytes: &[u8], place: usize) -> bool
     is_letter(bytes.get(place).copied())
 }
 
-/// Whether there is a byte, and it is a letter, capital or small.
+/// Whether there is a byte that is a letter, capital or small.
 #[tactic(auto, unfolding(crate::specs::HeadingLine::is_letter))]
 fn is_letter(byte: Option<u8>) -> bool
     ensures { result ≡ is_letter byte }

@@ -2,8 +2,7 @@
 ghost use Rattle.kd_lost.specs.Laws.{CiphersAgreeWhereTextsDo, PartsReadAreShownWhole, PartsReadHaveNumbers};
 ghost use Rattle.kd_lost.specs.Laws.{FormsReadAreShownWhole, FormsReadAreTidy, FormsReadHaveTheirParts, RepetitionsAgree};
 
-/// If two texts are enciphered with one key, their ciphertexts have the same letter wherever the texts have the same
-/// letter.
+/// Where two texts have the same letter, their ciphertexts under one key have the same letter.
 ///
 /// The texts may differ at all other places.
 #[tactic(auto, using(crate::proofs::Ciphers::ciphers_agree))]
@@ -17,10 +16,9 @@ pub fn parts_read_are_shown_whole()
     ensures numbers { PartsReadHaveNumbers }
 {}
 
-/// If `receive` reads a form, this crate cuts the form into the parts that `receive` finds, and reads the text that
-/// `receive` returns, without a warning.
+/// If `receive` reads a form, this crate shows the text that `receive` gives, without a warning.
 ///
-/// No line before the form's first heading is passed over.
+/// The form's parts are those that `receive` finds, and nothing before the first heading is dropped.
 pub fn forms_read_are_shown_whole()
     ensures tidy { FormsReadAreTidy }
     ensures parts { FormsReadHaveTheirParts }

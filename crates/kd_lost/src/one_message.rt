@@ -80,7 +80,8 @@ fn heading_repeats(one: &DamagedPart, other: &DamagedPart) -> bool
     counts_agree(one, other) && keys_agree(one, other)
 }
 
-/// Whether two parts may have equally many letters: equally many were received, or the counts in their headings agree.
+/// Whether two parts may have equally many letters: equally many were received, or the counts in their headings may be
+/// equal.
 fn counts_agree(one: &DamagedPart, other: &DamagedPart) -> bool
     ensures { result ≡ counts_agree one.now other.now }
 {
@@ -102,7 +103,7 @@ fn count_signs(heading: &[u8]) -> &[u8]
     first_word(later_words(later_words(heading)))
 }
 
-/// Whether the keys in the headings of two parts agree at each sign; a lost sign agrees with any sign.
+/// Whether two headings may have the same keys: at each place of the keys, the signs are equal or one is lost.
 fn keys_agree(one: &DamagedPart, other: &DamagedPart) -> bool
     ensures { result ≡ keys_agree one.now other.now }
 {
@@ -117,7 +118,9 @@ fn key_signs(heading: &[u8]) -> &[u8]
     later_words(later_words(later_words(heading)))
 }
 
-/// Whether the signs of `one` and `other` agree at each place, up to the end of the shorter slice.
+/// Whether `one` and `other` may be equal up to the end of the shorter slice.
+///
+/// At each place, the signs must be equal, or one of them lost.
 fn signs_agree(one: &[u8], other: &[u8]) -> bool
     ensures { result ≡ signs_agree one.now other.now }
 {
@@ -143,7 +146,8 @@ fn ends_within(one: &DamagedPart, other: &DamagedPart) -> bool
     other.text.is_err() || one.came <= other.came
 }
 
-/// Whether the letters of two bodies agree at each place, up to the end of the shorter body.
+/// Whether two bodies may be equal up to the end of the shorter body: at each place, the letters are equal or one is
+/// lost.
 fn bodies_agree(one: &[Option<Letter>], other: &[Option<Letter>]) -> bool
     ensures { result ≡ bodies_agree one.now other.now }
 {
@@ -155,15 +159,17 @@ fn bodies_agree(one: &[Option<Letter>], other: &[Option<Letter>]) -> bool
     true
 }
 
-/// Whether the headings of two parts can be of one message. `agree` says whether these parts may be one part, sent
-/// twice.
+/// Whether the headings of two parts can be of one message.
+///
+/// Both must give the same number of parts. Their part numbers must differ, unless `agree` says that the parts may be
+/// one part, sent twice.
 fn numbers_agree(one: &PartNumbers, other: &PartNumbers, agree: bool) -> bool
     ensures { result ≡ numbers_agree one.now other.now agree }
 {
     one.parts == other.parts && (one.part != other.part || agree)
 }
 
-/// Whether two texts may be of one part, sent twice. A text that couldn't be read agrees with any text.
+/// Whether the texts of two parts may be one text, sent twice. True if one of the parts couldn't be read.
 fn texts_agree(
     one: &Result<DamagedText, PartDamage>,
     other: &Result<DamagedText, PartDamage>,
@@ -179,7 +185,9 @@ fn texts_agree(
     }
 }
 
-/// Whether two bodies are equally long, and their letters agree at each place.
+/// Whether two bodies may come from one sent body.
+///
+/// They are equally long, and at each place, the letters are equal or one is lost.
 fn letters_agree(one: &[Option<Letter>], other: &[Option<Letter>]) -> bool
     ensures { result ≡ letters_agree one.now other.now }
 {

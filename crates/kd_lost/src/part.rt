@@ -54,8 +54,8 @@ pub struct DamagedPart {
     /// The text by count, if the heading's count may be wrong. It is read with the number of received letters in place
     /// of the heading's count.
     pub by_count: Option<DamagedText>,
-    /// The first short line of the body: it has letters, but not 50, and letters follow the line. `None` if no line is
-    /// short.
+    /// The first short line of the body: it has letters, but not exactly 50, and letters follow the line. `None` if no
+    /// line is short.
     pub short_line: Option<ShortLine>,
     /// The number of the first group that doesn't have five letters, though letters follow the group. `None` if each
     /// group but the last has five letters.
@@ -63,8 +63,7 @@ pub struct DamagedPart {
     /// Whether needless blanks in the part's first line were dropped. They are dropped if the line, with its blanks,
     /// isn't a heading.
     pub respaced: bool,
-    /// Whether the part has no small letter and no tab. Only these bytes mean another byte: a capital letter, or a
-    /// space.
+    /// Whether the part has no small letter and no tab. These are read as capital letters and spaces.
     pub as_spelled: bool,
     /// Whether the part looks like an order to send instead of a received form.
     pub is_order: bool,
@@ -85,8 +84,8 @@ pub struct PartNumbers {
 
 /// Reads one part of a form. In the text, `None` stands for each lost letter.
 ///
-/// `day` says which headings are valid. If no letter is lost, the text is the one that `receive` gives. If a letter of
-/// a key is lost, but you know it, put it into the form, and read the form again.
+/// `day` says which headings are valid. If `receive` reads the part, both give the same text. If a letter of a key is
+/// lost, but you know it, put it into the form, and read the form again.
 pub fn read_damaged_part(day: &SheetDay, part: &[u8]) -> DamagedPart
     ensures numbers { AreNumbersRead day.now (first_line part.now) result.numbers }
     ensures heading { result.heading.bytes ≡ heading_signs (first_line part.now) }

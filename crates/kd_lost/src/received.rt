@@ -69,7 +69,7 @@ pub(crate) fn has_lost_byte(line: &[u8]) -> bool
     false
 }
 
-/// Whether `part` has no small letter and no tab. Only these bytes mean another byte: a capital letter, or a space.
+/// Whether `part` has no small letter and no tab. These are read as capital letters and spaces.
 pub(crate) fn is_spelled(part: &[u8]) -> bool
     ensures { IsTrue result ↔ All (λ byte. meant_byte byte ≡ byte) part.now }
 {
@@ -114,8 +114,10 @@ pub(crate) fn body_letters(body: &[u8]) -> ArrayVec<Option<Letter>, 525>
     letters
 }
 
-/// The letter for a byte of a body, when parts are compared. It is `Some(None)` for a lost letter, and for a sign that
-/// isn't allowed in a body.
+/// The letter that a byte of a body counts as, when parts are compared:
+/// - for a letter: this letter
+/// - for a lost letter, or a sign that isn't allowed in a body: a lost letter, `Some(None)`
+/// - for a blank or a line end: no letter, `None`
 fn body_letter(byte: u8) -> Option<Option<Letter>>
     ensures { result ≡ body_letter byte }
 {

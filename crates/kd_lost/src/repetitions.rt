@@ -1,4 +1,4 @@
-//! Parts that came several times: a letter that one copy of a part lost is taken from another copy.
+//! Parts that came several times: a letter that is lost in one copy of a part is taken from another copy.
 ghost use Rattle.std.specs.Prelude.{◌≡◌, ◌++◌, MatchResult, None, Some, slice_index_or};
 ghost use Rattle.kd_lost.specs.Repetitions.{are_kept, completed_byte, completed_from, completed_with, copied_letter};
 ghost use Rattle.kd_lost.specs.Repetitions.{has_keys_of, is_kept, is_same_part, known_letter};
@@ -62,7 +62,7 @@ fn push_completed(
     Ok(())
 }
 
-/// The copy's letter, if `byte` stands for a lost letter that a copy has; otherwise `byte`.
+/// For a lost letter that a copy has: the copy's letter. For any other byte: `byte` itself.
 #[tactic(auto, unfolding(crate::specs::Repetitions::completed_byte))]
 fn completed_byte(
     copies: &[DamagedPart],
@@ -82,7 +82,7 @@ fn completed_byte(
     }
 }
 
-/// The letter at `place` in the first copy of the part `read` that didn't lose this letter.
+/// The received letter at `place` of the part `read`, from the first copy of this part that has the letter.
 fn known_letter(
     copies: &[DamagedPart],
     read: &DamagedPart,
@@ -100,9 +100,9 @@ fn known_letter(
     }
 }
 
-/// The letter at `place` of `other`. `None` if the letter is lost, or if `other` isn't a copy of the part `read`.
+/// The received letter at `place` of `other`, if `other` is a copy of the part `read`.
 ///
-/// `shown` is the text of `read`.
+/// `None` if it isn't a copy, or if the letter is lost. `shown` is the text of `read`.
 fn copied_letter(
     read: &DamagedPart,
     shown: &DamagedText,

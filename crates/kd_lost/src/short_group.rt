@@ -6,8 +6,9 @@ ghost use Rattle.kd_lost.specs.ShortGroup.{IsFirstShortGroup};
 use crate::received::is_received;
 use crate::short_line::letters_on;
 
-/// The number, counted from 1, of the first group in `body` that doesn't have five letters, though letters follow the
-/// group.
+/// The number of the first short group of `body`, counted from 1.
+///
+/// A short group doesn't have five letters, though letters follow the group.
 pub(crate) fn first_short_group(body: &[u8]) -> Option<usize>
     ensures { IsFirstShortGroup body.now result }
 {

@@ -1,11 +1,11 @@
-//! `ShortLine`: a short line of a body. A short line has letters, but not 50, and letters follow the line.
+//! `ShortLine`: a short line of a body. A short line has letters, but not exactly 50, and letters follow the line.
 ghost use Rattle.std.specs.Prelude.{◌≡◌, ◌&&◌, nat_lt};
 ghost use Rattle.kd_lost.specs.ShortLine.{is_short, letters_on, short_line};
 
 use crate::received::letter_count;
 use kd_tables::split_once;
 
-/// A line of a body that has letters, but not 50, though letters follow it.
+/// A line of a body that has letters, but not exactly 50, though letters follow it.
 #[derive(Clone, Copy, Debug, PartialEq, Eq)]
 pub struct ShortLine {
     /// The line's number in the part, counted from 1. The heading is line 1.

@@ -23,7 +23,7 @@ pub fn total_of(parts: &[DamagedPart]) -> u8
     }
 }
 
-/// Whether each part number is at least the part number before it, and the first part number is at least `before`.
+/// Whether the part numbers never fall, and the first part number is at least `before`.
 ///
 /// Parts without a number are skipped.
 pub fn are_in_order(before: u8, parts: &[DamagedPart]) -> bool
@@ -60,8 +60,8 @@ pub fn times_of(parts: &[DamagedPart], number: u16) -> usize
 
 /// The part that is shown under `number`: of the parts with this number, the first with the best text.
 ///
-/// A text is better if it has fewer lost letters. With equally many lost letters, a text read with the heading's letter
-/// count is better than a text read with the number of received letters.
+/// A text is better if it has fewer lost letters. If equally many are lost, a text that was read with the heading's
+/// letter count is better than a text by count.
 pub fn shown_under(parts: &[DamagedPart], number: u16) -> Option<&DamagedPart>
     ensures { MatchOption result
         (shown_under parts.now number ≡ None)
@@ -80,9 +80,9 @@ pub fn shown_under(parts: &[DamagedPart], number: u16) -> Option<&DamagedPart>
     }
 }
 
-/// Whether the text of `other` is better than the text of `one`. It is better in these cases:
-/// - `other` has a text, but `one` has none.
-/// - `other` has fewer lost letters.
+/// Whether the text of `one` is worse than the text of `other`. It is worse in these cases:
+/// - `one` has no text, but `other` has a text.
+/// - `one` has more lost letters.
 /// - Both have equally many lost letters, and only `other` was read with the heading's count.
 fn is_worse(one: &DamagedPart, other: &DamagedPart) -> bool
     ensures { result ≡ is_worse one.now other.now }
@@ -108,8 +108,9 @@ pub fn is_one_message(parts: &[DamagedPart]) -> bool
     are_of_one_message(parts) && are_covered(parts, parts)
 }
 
-/// Whether the part shown under a number has all letters of each part in `parts` with this number.
-/// The shown part is one of `all`.
+/// Whether, for each of `parts`, the part that is shown under its number has all its letters.
+///
+/// The shown parts are from `all`. Parts without a number don't count.
 fn are_covered(all: &[DamagedPart], parts: &[DamagedPart]) -> bool
     ensures { result ≡ are_covered all.now parts.now }
 {
@@ -119,8 +120,9 @@ fn are_covered(all: &[DamagedPart], parts: &[DamagedPart]) -> bool
     }
 }
 
-/// Whether the part shown under the number of `part` has all letters of `part`.
-/// The shown part is one of `all`.
+/// Whether the part that is shown under the number of `part` has all letters of `part`.
+///
+/// The shown part is one of `all`. True if `part` has no number.
 fn is_covered(all: &[DamagedPart], part: &DamagedPart) -> bool
     ensures { result ≡ is_covered all.now part.now }
 {

@@ -1,4 +1,4 @@
-//! The text that is shown of a part, and whether another text has all letters of this text.
+//! The text that is shown for a part, and whether one text has all letters of another text.
 ghost use Rattle.std.specs.Prelude.{◌≡◌, MatchOption, None, Some, is_none};
 ghost use Rattle.kd_lost.specs.Texts.{is_of_other_day, is_wrong_day, letter_within, letters_within, lost_in, shown_text};
 ghost use Rattle.kd_lost.specs.Texts.{text_within};

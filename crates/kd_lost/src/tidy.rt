@@ -39,8 +39,8 @@ fn without_mark(form: &[u8]) -> &[u8]
     }
 }
 
-/// The bytes from a heading on: the first heading after the first line. `None` in two cases:
-/// - There is no such heading.
+/// All bytes from the first heading after the first line on. `None` in two cases:
+/// - No heading stands after the first line.
 /// - A line between the first line and this heading may belong to a part. A part with a damaged heading mustn't be
 ///   dropped in silence.
 fn later_heading(bytes: &[u8]) -> Option<&[u8]>
@@ -106,7 +106,7 @@ fn push_single_spaced(bytes: &mut Vec<u8>, line: &[u8]) -> Result<(), DamagedFor
     Ok(())
 }
 
-/// Appends the bytes that are written for `byte`, which stands before `rest`:
+/// Appends the bytes that are written for `byte`, which is followed by `rest`:
 /// - for a gap before another gap, or at the end of the line: no byte
 /// - for any other gap: a space
 /// - for any other byte: the byte itself

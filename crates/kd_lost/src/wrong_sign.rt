@@ -59,9 +59,9 @@ fn line_after(line: usize, byte: u8) -> usize
     if byte == b'\n' { line + 1 } else { line }
 }
 
-/// The place of a letter just after `byte` among the letters of its line, counted from 1.
+/// The place of a letter that follows `byte`, counted from 1 among the letters of its line.
 ///
-/// A letter in place of `byte` would have the place `letter` on its line.
+/// A letter instead of `byte` would have the place `letter`.
 fn letter_after(letter: usize, byte: u8) -> usize
     requires { letter < 2 ^ 63 + 2 }
     ensures { result ≡ (if byte == 10 then 1

@@ -14,8 +14,8 @@ use Rattle.kd_pictures.specs.declared.results.Results.TheVariants.{LeftOpen, Sho
 use Rattle.kd_message.specs.declared.texts.TheConstants as texts
 use Rattle.kd_part_sheet.specs.Rows.{pieces}
 
--- What stands after `form` in the HTML id of a form's sheet. `place` is the order's number in a
--- file of several orders; it is `None` in a file of one order.
+-- The text after `form` in the HTML id of a form's sheet. `place` is the order's number in a file of several orders; it
+-- is `None` in a file of one order.
 abbrev pub form_number : Option ℕ → List ℕ
 form_number None = []
 form_number (Some number) = filled texts.FORM_NUMBER.now (decimal number ∷ [])
@@ -32,7 +32,7 @@ abbrev pub part_head : Language → Model → ℕ → ℕ → ℕ → ℕ → Li
 part_head l model day part parts letters = filled (text_in l texts.FORM_PART) (
     decimal part ∷ decimal parts ∷ model_name model ∷ decimal day ∷ decimal part ∷ decimal parts ∷ decimal letters ∷ [])
 
--- `letters`; if the results are left open, an underscore in place of each letter
+-- `letters` or, if the results are left open, an underscore for each letter
 abbrev pub letters_with : Results → List ℕ → List ℕ
 letters_with Shown letters = letters_text letters
 letters_with LeftOpen letters = map (λ letter. 95) letters

@@ -42,7 +42,7 @@ letter_of signs.Open = None
 letter_of signs.Lost = None
 letter_of (signs.Letter letter) = Some letter
 
--- the cells of the list `cells` whose letters the operator presses
+-- those of `cells` whose letters the operator presses
 abbrev pub pressed_of : List Cell → List Cell
 pressed_of cells = filter (λ cell. cell.is_pressed) cells
 
@@ -70,8 +70,8 @@ abbrev pub message_letters : List DamagedPart → List (Option ℕ)
 message_letters parts =
     flat_map (λ number. letters_of_part (shown_under parts number)) (range_with_len 1 (total_of parts))
 
--- If `desk receive` reads a form, the form is one whole message. The page shows a text for each number of a part.
--- Joined in the order of the numbers, these texts are the text that `desk receive` gives.
+-- If `desk receive` reads a form, the form is one whole message. The page shows a text for each part number. Joined in
+-- the order of the numbers, these texts are the text that `desk receive` gives.
 abbrev pub FormsReadAreWhole : Type 0
 FormsReadAreWhole =
     (s : Day) (form text : List ℕ) (parts : List DamagedPart) → IsTextOf s form text → AreFormParts s form parts
@@ -87,9 +87,9 @@ HasLettersOf text other =
     (place letter : ℕ) → slice_get other.letters.items place ≡ Some (Some letter)
     → slice_get text.letters.items place ≡ Some (Some letter)
 
--- Suppose that a part has a text, or only a text by count. Then the page shows a text under the
--- part's number. The shown text has each letter of the part's text, and has no more lost letters
--- than the part's text. In `read.alone`, each part was read without the other parts.
+-- Suppose that a part has a text, or only a text by count, when it is read without the other parts (`read.alone`). Then
+-- the page shows a text under the part's number. The shown text has each letter of the part's text, and has no more
+-- lost letters.
 abbrev pub NothingReadIsHidden : Type 0
 NothingReadIsHidden =
     (l : Language) (s : Day) (form : List ℕ) (parts : List DamagedPart) (read : AreFormParts s form parts)
@@ -120,8 +120,9 @@ WholeMessagesHaveOneTotal =
     → Contains parts one → Contains parts other → one.numbers ≡ Some numbers → other.numbers ≡ Some others
     → numbers.parts ≡ others.parts
 
--- In a whole message, compare the part that came first with a later part of the same number. If both parts are read,
--- their bodies have equally many letters. At each place, the two letters are equal, unless one of them is lost.
+-- In a whole message, compare the part that came first with a later part that has the same part number. If both parts
+-- are read, their bodies have equally many letters. At each place, the letters of the two bodies are equal, unless one
+-- of them is lost.
 abbrev pub RepetitionsHaveTheLetters : Type 0
 RepetitionsHaveTheLetters =
     (one other : DamagedPart) (others : List DamagedPart) (numbers again : PartNumbers) (shown later : DamagedText)
@@ -131,13 +132,13 @@ RepetitionsHaveTheLetters =
 
 -- ---- The converse.
 
--- The part has no small letter and no tab, and no byte of the part stands for a lost letter.
+-- The part has no small letter, no tab, and no lost letter.
 abbrev pub IsClear : List ℕ → Type 0
 IsClear part = All (λ byte. IsFalse (is_lost byte) × (meant_byte byte ≡ byte)) part
 
--- Let a form be one whole message, with no lost letter, no small letter, no tab, and no heading with needless blanks.
--- Then, for each part number, `desk receive` reads one of the form's parts with this number, in the order of the
--- numbers. The text that `desk receive` gives is the text that the page shows.
+-- Take a form that is one whole message, with no lost letter, no small letter, no tab, and no needless blank in a
+-- heading. Then `desk receive` reads some of its parts: one for each part number, in the order of the numbers. From
+-- these parts, `desk receive` gives the text that the page shows.
 abbrev pub WholeMessagesAreRead : Type 0
 WholeMessagesAreRead =
     (s : Day) (form : List ℕ) (parts : List DamagedPart) → AreFormParts s form parts
@@ -148,8 +149,7 @@ WholeMessagesAreRead =
 
 -- ---- Files of several orders.
 
--- In a file of several orders, no two parts have the same sheet number: parts with one sheet number are of one order,
--- and have one part number.
+-- In a file of several orders, no two parts have the same sheet number. An order has at most 99 parts.
 abbrev pub SheetsHaveTheirOwnNumbers : Type 0
 SheetsHaveTheirOwnNumbers =
     (order other part later : ℕ) → 1 ≤ part → part ≤ 99 → 1 ≤ later → later ≤ 99

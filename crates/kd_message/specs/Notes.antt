@@ -29,8 +29,8 @@ unfoldable pub note_line : Language → PartName → List ℕ → List ℕ → L
 note_line l name reason words =
     note_name l name ++ reason ++ text_in l texts.NOTE_ASK ++ words ++ texts.NOTE_END.now
 
--- the note that the form is from another day or network; empty unless the part's indicator group or
--- list letters show this
+-- the note that the form is from another day or network; empty unless the part's indicator group or list letters show
+-- this
 abbrev pub day_note : Language → PartName → GroupTest → List ℕ
 day_note l name group = if is_wrong_day group then note_name l name ++ text_in l texts.NOTE_OTHER_DAY else []
 
@@ -47,8 +47,8 @@ lost_note l name letters = if has_lost letters then lost_line l name letters els
 unfoldable pub read_note : Language → PartName → DamagedText → List ℕ
 read_note l name shown = day_note l name shown.group ++ lost_note l name shown.letters.items
 
--- The notes on a part that can't be read with the count in its heading. `shown` is the text that was read by count, if
--- there is one.
+-- The notes on a part that can't be read with the letter count in its heading. `shown` is its text by count, if there
+-- is one.
 abbrev pub damage_note : Language → PartName → DamagedPart → PartDamage → Option DamagedText → List ℕ
 damage_note l name part damage (Some shown) =
     note_line l name (counted_reason l part damage ++ groups_told l part.came part.short_group)

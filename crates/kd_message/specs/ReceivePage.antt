@@ -71,13 +71,13 @@ counted_or_damage l s name part damage (Some shown) =
     counted_text l (sheet_to_receive (day_model s)) s name part damage shown
 counted_or_damage l s name part damage None = damage_text l (sheet_to_receive (day_model s)) name part damage
 
--- a part's text or, if there is none, its text by count; if both are missing, the reason why the part isn't read
+-- a part's text, else its text by count, else the reason why the part isn't read
 abbrev pub text_or_damage : Language → Day → PartName → DamagedPart → Result DamagedText PartDamage → List ℕ
 text_or_damage l s name part (Ok shown) = read_text l (sheet_to_receive (day_model s)) s name shown
 text_or_damage l s name part (Err damage) = counted_or_damage l s name part damage part.by_count
 
--- whether the section shows the results or leaves them open; `Shown` for the list of the sheets and for the notes,
--- which have no results
+-- Whether the section shows the results or leaves them open. The list of the sheets and the notes have no results:
+-- there, the answer is `Shown`.
 abbrev pub results_of : Section → Results
 results_of sections.Listed = Shown
 results_of (sections.Worked results) = results
@@ -122,16 +122,16 @@ abbrev pub number_or : ℕ → Option PartNumbers → ℕ
 number_or before (Some numbers) = numbers.part
 number_or before None = before
 
--- What section `section` has for unnumbered parts: the parts between part number `after` and the next numbered part.
--- `before` is the number of the last numbered part that comes before the list of parts.
+-- What section `section` has for some unnumbered parts of a list: for each of them, the last numbered part before it
+-- has the number `after`. `before` is the number of the last numbered part before the list.
 abbrev pub lone_after : Section → Language → Day → ℕ → ℕ → List DamagedPart → List ℕ
 lone_after section l s after before [] = []
 lone_after section l s after before (part ∷ parts) =
     (if is_none part.numbers && before == after then lone_in section l s after part else [])
     ++ lone_after section l s after (number_or before part.numbers) parts
 
--- what section `section` has for the part that is shown under a number; if no part is shown, what the section has for a
--- part that didn't come
+-- What section `section` has for the part that is shown under a number. If no part is shown, this is what the section
+-- has for a part that didn't come.
 abbrev pub shown_in : Section → Language → Day → PartName → ℕ → Option DamagedPart → List ℕ
 shown_in section l s name times (Some part) = part_in section l s name times part
 shown_in section l s name times None = missing_in section l name
@@ -144,7 +144,7 @@ number_in section l s parts number =
     ++ lone_after section l s number 0 parts
 
 -- What section `section` has for the parts of one message, in the order of their numbers. First come the unnumbered
--- parts at the beginning. Each numbered part is followed by the unnumbered parts after it.
+-- parts at the beginning of the form. Each numbered part is followed by the unnumbered parts that came after it.
 abbrev pub by_number : Section → Language → Day → List DamagedPart → List ℕ
 by_number section l s parts =
     lone_after section l s 0 0 parts ++ flat_map (number_in section l s parts) (range_with_len 1 (total_of parts))
@@ -168,15 +168,15 @@ part_at section l s place before (Some numbers) part =
     part_in section l s (name_at (results_of section) s place numbers) 1 part
 part_at section l s place before None part = lone_in section l s before part
 
--- What section `section` has for the parts `parts`, in the order of arrival. The first of `parts` is at `place` of the
--- form. `before` is the last part number before `parts`.
+-- What section `section` has for `parts`, in the order of arrival. The first of these parts has the place `place` in
+-- this order. `before` is the number of the last numbered part before it.
 abbrev pub as_they_came : Section → Language → Day → ℕ → ℕ → List DamagedPart → List ℕ
 as_they_came section l s place before [] = []
 as_they_came section l s place before (part ∷ parts) =
     part_at section l s place before part.numbers part
     ++ as_they_came section l s (place + 1) (number_or before part.numbers) parts
 
--- a section with the parts in the order of their numbers. If the parts aren't of one message, they stand in the order
+-- A section, with the parts in the order of their numbers. If the parts aren't of one message, they stand in the order
 -- of arrival.
 abbrev pub section_text : Section → Language → Day → List DamagedPart → List ℕ
 section_text section l s parts =
@@ -221,8 +221,8 @@ pub data IsReceivePageAnswer (results : Results) (l : Language) (s : Day) (form 
       → answer ≡ Err (Unwritten fault) → IsUntouched sink
       → IsReceivePageAnswer results l s form sink answer
 
--- The notes for standard error satisfy `Told`. If the form has too many parts, or memory is short, there may be no
--- notes.
+-- `Told` holds for the notes that are written about the form. If the form has too many parts, or memory is short, there
+-- may be no notes.
 pub data IsFormNoted (l : Language) (s : Day) (form : List ℕ) (Told : List ℕ → Type 0)
     (answer : Result Bool (WriteFault DamagedFormFault)) : Type 0 where
   Noted : (parts : List DamagedPart) → AreFormParts s form parts → Told (receive_notes l s parts)

@@ -34,8 +34,8 @@ order_text order = record { name = order.name.now; bytes = order.bytes.now }
 
 -- ---- The file.
 
--- the lines for the orders in the list of the orders, from order number `number` on: each order's name, with a link to
--- its page
+-- In the list of the orders, the lines from order number `number` on. Each line has an order's name, with a link to the
+-- order's page.
 abbrev pub listed_orders : ℕ → List OrderText → List ℕ
 listed_orders number [] = []
 listed_orders number (order ∷ orders) =

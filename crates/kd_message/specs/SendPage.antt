@@ -112,8 +112,8 @@ send_text l s sheets = title_text l (text_in l texts.TITLE_TO_SEND) s ++ sheets 
 
 -- ---- What is worked for an order, and its form.
 
--- `works` has, for each part, the letters to press and the letters that light up. On a part's sheet, the part's piece
--- of the text is enciphered with the part's keys.
+-- `works` has, for each part, the letters to press and the letters that light up. For this, each piece of the text is
+-- enciphered with the keys of its part.
 abbrev pub AreWorks : Day → List Keys → List (List ℕ) → List Work → Type 0
 AreWorks s [] [] works = works ≡ []
 AreWorks s (k ∷ keys) (piece ∷ pieces) works =
@@ -121,8 +121,8 @@ AreWorks s (k ∷ keys) (piece ∷ pieces) works =
 AreWorks s [] (piece ∷ pieces) works = ⊥
 AreWorks s (k ∷ keys) [] works = ⊥
 
--- `made` are the parts of a form with `parts` parts, from number `part` on. Each part has one piece of the text,
--- enciphered with the part's keys.
+-- `made` are the parts of a form from number `part` on. The whole form has `parts` parts. Each part has one piece of
+-- the text, enciphered with the part's keys.
 abbrev pub AreMade : Day → ℕ → ℕ → List Keys → List (List ℕ) → List Part → Type 0
 AreMade s part parts [] [] made = made ≡ []
 AreMade s part parts (k ∷ keys) (piece ∷ pieces) made =

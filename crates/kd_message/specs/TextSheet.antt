@@ -54,7 +54,8 @@ order_words l numbers = text_in l texts.ORDER ++ numbers_after [] numbers ++ tex
 unfoldable pub heading_words : PartNumbers → List ℕ
 heading_words numbers = decimal numbers.part ++ texts.OF_PARTS.now ++ decimal numbers.parts
 
--- the two numbers in a heading, between the texts `first` and `more`; if the heading is damaged, only the text `others`
+-- The numbers in a heading, after the text `first` and before the text `more`. If the heading is damaged, only the text
+-- `others`.
 abbrev pub heading_then : List ℕ → Option PartNumbers → List ℕ → List ℕ → List ℕ
 heading_then first (Some numbers) more others = first ++ heading_words numbers ++ more
 heading_then first None more others = others
@@ -123,7 +124,7 @@ unfoldable pub groups_words : Language → ℕ → ℕ → List ℕ
 groups_words l first last =
     text_in l texts.GROUPS ++ decimal first ++ text_in l texts.TO_GROUP ++ decimal last
 
--- the words for the group `number` and the `more` groups after it
+-- the words for the group `number` and the `more` groups after it, such as *groups 3 to 5*
 abbrev pub range_words : Language → ℕ → ℕ → List ℕ
 range_words l number more = if more == 0 then group_words l number else groups_words l number (number + more)
 
@@ -132,16 +133,15 @@ abbrev pub has_lost : List (Option ℕ) → Bool
 has_lost [] = false
 has_lost (letter ∷ letters) = is_none letter || has_lost letters
 
--- how many groups with lost letters stand at the start of the list, before the first group with no lost letter
+-- how many groups at the start of the list have lost letters, up to the first group with no lost letter
 abbrev pub run_length : List (List (Option ℕ)) → ℕ
 run_length [] = 0
 run_length (group ∷ groups) = if has_lost group then run_length groups + 1 else 0
 
--- The words for groups with lost letters. Successive groups are named together, as *groups 3 to 5*.
--- The list begins with group `number`. `first` stands before the first words, and commas stand
--- between the words. `before` says whether the group just before the list has lost letters. If so,
--- that group's words also cover the groups with lost letters at the start of the list, and these
--- groups are left out.
+-- The words for the groups with lost letters in a list that begins with group `number`. Groups in a row are named
+-- together, as *groups 3 to 5*. `first` stands before the first words, and commas stand between the words. If `before`
+-- is true, the group just before the list also has lost letters. Then the words for it are already written. They also
+-- name the groups with lost letters at the start of the list, so these are left out.
 abbrev pub lost_groups : Language → List ℕ → Bool → ℕ → List (List (Option ℕ)) → List ℕ
 lost_groups l first before number [] = []
 lost_groups l first before number (group ∷ groups) =
@@ -154,7 +154,7 @@ abbrev pub first_text_group : Model → ℕ
 first_text_group model = if is_converter model then 3 else 2
 
 -- The place of key letter `number` in the first copy of the indicators, counted from 1. The chosen letter, number 0,
--- has two places; the answer is the first one.
+-- has the places 1 and 2: the answer is 1.
 abbrev pub indicator_place : ℕ → ℕ
 indicator_place number = if number == 0 then 1 else number + 2
 
@@ -180,8 +180,8 @@ abbrev pub is_copy_lost : Option LostCopies → Bool
 is_copy_lost None = false
 is_copy_lost (Some copies) = copies.at_start || copies.at_end
 
--- whether the day couldn't be tested: a letter of the indicator group is lost, or a list letter is
--- lost in both copies
+-- whether the part's day couldn't be tested: a letter of the indicator group is lost, or a list letter is lost in both
+-- copies
 abbrev pub is_not_tested : GroupTest → Bool
 is_not_tested tests.Right = false
 is_not_tested tests.Wrong = false
@@ -212,7 +212,7 @@ abbrev pub open_byte : Option ℕ → ℕ
 open_byte (Some letter) = 95
 open_byte None = 63
 
--- the letters of a text, with `?` for each lost letter. If the results are left open, a line to write on stands for
+-- The letters of a text, with `?` for each lost letter. If the results are left open, a line to write on stands for
 -- each letter that isn't lost.
 abbrev pub text_letters : Results → Day → List (Option ℕ) → List ℕ
 text_letters Shown s letters = map (shown_byte (space_letter s)) letters
@@ -226,11 +226,12 @@ read_text l sheet s name shown =
 
 -- ---- A part that isn't read.
 
--- The words for line `number` of a part. The part begins on line `line` of the form.
+-- The words for line `number` of a part, such as *Line 12*. They give the line's number in the form: the part begins on
+-- line `line` of the form.
 abbrev pub line_words : Language → ℕ → ℕ → List ℕ
 line_words l line number = text_in l texts.LINE ++ decimal (line + number - 1)
 
--- the sentence that says what is wrong with a heading: the words for line `line` of the form, and then `fault`
+-- the sentence about a fault in a heading: the words for the heading's line, `line`, and then the text `fault`
 unfoldable pub heading_fault : Language → ℕ → List ℕ → List ℕ
 heading_fault l line fault = line_words l line 1 ++ fault
 
@@ -254,8 +255,8 @@ abbrev pub sign_group : Language → Option WrongSign → List ℕ
 sign_group l (Some sign) = group_words l ((sign.place - 1) / 5 + 1)
 sign_group l None = text_in l texts.ALL_OF_IT
 
--- The words for the groups with a lost letter or a wrong sign, among the first 525 letters of the body. If none of
--- these letters is lost or wrong, the words are for the group of the first wrong sign.
+-- The words for the groups with a lost letter or a wrong sign, among the first 525 letters of the body. If there is no
+-- such group, the words are for the group of the first wrong sign.
 abbrev pub sign_groups : Language → DamagedPart → List ℕ
 sign_groups l part =
     if has_lost part.body.items then lost_groups l [] false 1 (pieces 5 part.body.items)
@@ -282,20 +283,20 @@ short_text l line None = []
 -- - if a group is short: the count, and the first short group
 -- - if no group is short, and the count is damaged: the count
 -- - if no group is short, and the count is wrong: the count, or the part's lines if the other station says that the
--- count is right
+--   count is right
 abbrev pub count_asked : Language → PartDamage → Option ℕ → List ℕ
 count_asked l damage (Some group) = text_in l texts.ITS_COUNT ++ COMMA.now ++ group_words l group
 count_asked l damages.HeadingDamaged None = text_in l texts.ITS_COUNT
 count_asked l _ None = text_in l texts.ITS_COUNT_OR_LINES
 
 -- The words that say what to ask for if a part isn't read because its count is wrong. If a short line explains the
--- wrong count, the words name the ten groups of this line. Otherwise, the words are as for any wrong count.
+-- wrong count, the words name the ten groups of this line. Otherwise, they are the words of `count_asked`.
 abbrev pub short_groups : Language → Option ℕ → Option ShortLine → List ℕ
 short_groups l group (Some short) = groups_words l (short.before / 5 + 1) (short.before / 5 + 10)
 short_groups l group None = count_asked l damages.CountWrong group
 
--- the sentences about a wrong count: the heading's count, the number of letters that came and, if there is one, the
--- line in which letters are missing
+-- the sentences about a wrong count: the heading's count, the number of letters that came, and the short line that
+-- explains the difference, if there is one
 unfoldable pub count_text : Language → DamagedPart → List ℕ
 count_text l part =
     counts_text l part.line (heading_count part.numbers) part.came ++ short_text l part.line (part_line part)
@@ -314,8 +315,8 @@ reason_text l part damages.KeyNotOnWheel = text_in l texts.KEY_NOT_ON_WHEEL
 reason_text l part damages.NoInternalKey = text_in l texts.NO_INTERNAL_KEY
 
 -- The words that say what to ask for if a letter of the ground setting or of the enciphered key is lost. The words name
--- the ground setting, the enciphered key, and each group of the text with a lost letter or a wrong sign. `body` has the
--- letters of the body. The text begins with the second group.
+-- both keys, and each group of the text with a lost letter or a wrong sign. `body` has the letters of the body; its
+-- text begins with the second group.
 abbrev pub keys_and_groups : Language → List (Option ℕ) → List ℕ
 keys_and_groups l body = text_in l texts.ITS_KEYS ++ lost_groups l COMMA.now false 2 (pieces 5 (drop 5 body))
 
@@ -372,8 +373,8 @@ groups_told l came (Some group) =
     text_in l texts.SHORT_GROUP ++ decimal group ++ text_in l texts.SHORT_GROUP_END
 groups_told l came None = text_in l texts.FULL_GROUPS ++ decimal came ++ text_in l texts.FULL_GROUPS_END
 
--- the words for a part that is read by count: first what is wrong with its count, then its text, and then what to ask
--- for
+-- The words for a part that is read by count. First comes what is wrong with its count, then its text, and then what to
+-- ask for.
 unfoldable pub counted_text : Language → Sheet → Day → PartName → DamagedPart → PartDamage → DamagedText → List ℕ
 counted_text l sheet s name part damage shown =
     text_in l texts.BY_COUNT ++ counted_reason l part damage ++ groups_told l part.came part.short_group

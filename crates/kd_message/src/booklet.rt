@@ -133,7 +133,7 @@ fn draw_booklet_head<W: Sink>(
     draw(sink, NAV_END);
 }
 
-/// Writes the lines for orders in the list of the orders, from order number `number` on.
+/// Writes lines of the list of the orders, from order number `number` on.
 fn draw_listed_orders<W: Sink>(
     sink: &mut W,
     language: Language,

@@ -1,5 +1,5 @@
-//! Parts that are read by count. The count in the heading is wrong or damaged; in its place, the number of letters that
-//! came is used.
+//! Parts that are read by count: the count in the heading is wrong or damaged, and the number of letters that came
+//! takes its place.
 ghost use Rattle.std.specs.Prelude.{None, Some};
 ghost use Rattle.kd_pictures.specs.Drawing.{Draws};
 ghost use Rattle.kd_message.specs.TextSheet.{counted_reason, counted_text, damaged_count, groups_told};

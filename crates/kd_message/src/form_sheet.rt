@@ -36,7 +36,7 @@ pub(crate) fn draw_form_head<W: Sink>(
     draw_form_title(sink, language, day);
 }
 
-/// Writes what stands after `form` in the HTML id of a form's sheet.
+/// Writes the text after `form` in the HTML id of a form's sheet.
 pub(crate) fn draw_form_number<W: Sink>(sink: &mut W, language: Language, place: Option<u8>)
     ensures { Draws W.taken W.has_failed sink.old sink.new (form_number place) }
 {
@@ -65,7 +65,7 @@ fn draw_form_title<W: Sink>(sink: &mut W, language: Language, day: &SheetDay)
     );
 }
 
-/// Writes a part of the form: its heading, and its letters in groups of five.
+/// Writes a part of the form: its heading, its letters in groups of five, and a note below them.
 pub(crate) fn draw_form_part<W: Sink>(
     sink: &mut W,
     language: Language,
@@ -106,7 +106,7 @@ fn draw_part_head<W: Sink>(sink: &mut W, language: Language, name: PartName, let
     );
 }
 
-/// Writes the ground setting and the enciphered message key of a rotor machine's message part.
+/// Writes a rotor machine's ground setting and enciphered message key; on a Converter, writes nothing.
 fn draw_indicator<W: Sink>(
     sink: &mut W,
     language: Language,

@@ -22,12 +22,10 @@ pub(crate) fn has_lost(letters: &[Option<Letter>]) -> bool
     }
 }
 
-/// Writes which groups of `letters` have lost letters. `first` stands before the first named
-/// group.
+/// Writes which groups of `letters` have lost letters. `first` stands before the first named group.
 ///
-/// `before` says whether the group just before `letters` has lost letters. If so, that group's
-/// words also cover the groups with lost letters at the start of `letters`, and these groups are
-/// left out.
+/// If `before` is true, the group just before `letters` also has lost letters. Then the words for it are already
+/// written. They also name the groups with lost letters at the start of `letters`, so these are left out.
 pub(crate) fn draw_lost_groups<W: Sink>(
     sink: &mut W,
     language: Language,
@@ -53,7 +51,7 @@ pub(crate) fn draw_lost_groups<W: Sink>(
     }
 }
 
-/// How many groups with lost letters stand at the start of `letters`, before the first group with no lost letter.
+/// How many groups at the start of `letters` have lost letters, up to the first group with no lost letter.
 fn run_length(letters: &[Option<Letter>]) -> usize
     ensures groups { result ≡ run_length (pieces 5 letters.now) }
     ensures few { result ≤ length letters.now }
@@ -69,7 +67,7 @@ fn run_length(letters: &[Option<Letter>]) -> usize
     }
 }
 
-/// Writes the words for the group `number` and the `more` groups after it.
+/// Writes the words for the group `number` and the `more` groups after it, such as *groups 3 to 5*.
 fn draw_range<W: Sink>(sink: &mut W, language: Language, number: usize, more: usize)
     requires { number + more ≤ 1000 }
     ensures { Draws W.taken W.has_failed sink.old sink.new (range_words language number more) }

@@ -4,15 +4,14 @@ ghost use Rattle.kd_message.specs.Laws.{FormsReadAreWhole, NothingReadIsHidden, 
 ghost use Rattle.kd_message.specs.Laws.{RepetitionsHaveTheLetters, WholeMessagesAreOnThePage, WholeMessagesAreRead};
 ghost use Rattle.kd_message.specs.Laws.{SheetsHaveTheirOwnNumbers, WholeMessagesHaveOneTotal};
 
-/// The lamps that light up for a row depend only on the letters pressed in this row, and on the windows at the row's
-/// start.
+/// The lamps of a row depend only on the letters pressed in the row, and on the windows at its start.
 ///
 /// So an operator can encipher a row without enciphering the rows before it.
 pub fn rows_are_enciphered()
     ensures { RowsAreEnciphered }
 {}
 
-/// On the sheet of a received part, the letters below the line are the plaintext of the letters above the line.
+/// A received part's sheet has the plaintext below the line to write on, and the ciphertext above it.
 ///
 /// For lost letters, the operator may press any keys.
 pub fn rows_are_deciphered()
@@ -24,7 +23,7 @@ pub fn templates_take_their_values()
     ensures { TemplatesTakeTheirValues }
 {}
 
-/// A form that `desk receive` reads is shown as one whole message, with the text that `desk receive` gives.
+/// A form that `desk receive` reads is shown as one whole message, with the same text.
 pub fn forms_read_are_whole()
     ensures { FormsReadAreWhole }
 {}
@@ -37,8 +36,8 @@ pub fn nothing_read_is_hidden()
 
 /// In a whole message, all headings give the same number of parts.
 ///
-/// Compare the part that came first with a later part of the same number. If both parts are read, they have the same
-/// letters, except where a letter was lost.
+/// Compare the part that came first with a later part that has the same part number. If both parts are read, they have
+/// the same letters, except where a letter was lost.
 pub fn whole_messages_agree()
     ensures total { WholeMessagesHaveOneTotal }
     ensures repetitions { RepetitionsHaveTheLetters }
@@ -49,11 +48,10 @@ pub fn whole_messages_are_on_the_page()
     ensures { WholeMessagesAreOnThePage }
 {}
 
-/// Take a form that is a whole message, with no lost letter, no small letter, no tab, and no needless blank in a
-/// heading.
+/// From one part for each number, `desk receive` gives the text that a whole message's page shows.
 ///
-/// Then `desk receive` reads some of its parts: one for each number, in the order of the numbers. From these parts,
-/// `desk receive` gives the text that the page shows.
+/// These parts are in the order of their numbers. The form must have no lost letter, no small letter, no tab, and no
+/// needless blank in a heading.
 pub fn whole_messages_are_read()
     ensures { WholeMessagesAreRead }
 {}

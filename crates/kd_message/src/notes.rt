@@ -176,7 +176,7 @@ pub(crate) fn draw_missing_note<W: Sink>(sink: &mut W, language: Language, name:
     draw(sink, NOTE_END);
 }
 
-/// Writes the note that says why a part without a number isn't read. `after` is the number of the last numbered part
+/// Writes the note on a part without a number: why it isn't read. `after` is the number of the last numbered part
 /// before it.
 pub(crate) fn draw_lone_note<W: Sink>(
     sink: &mut W,

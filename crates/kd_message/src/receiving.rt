@@ -92,7 +92,8 @@ pub(crate) enum Section {
 }
 
 impl Section {
-    /// Whether the section shows the results, or leaves them open. `Listed` and `Noted` have no results.
+    /// Whether the section shows the results, or leaves them open. `Listed` and `Noted` have no results: there, the
+    /// answer is `Shown`.
     fn results(self) -> Results
         ensures { result ≡ results_of self }
     {
@@ -179,8 +180,8 @@ struct PageSection {
 
 /// Writes what the section has for the parts of one message, in the order of their numbers.
 ///
-/// First come the unnumbered parts at the beginning. Each numbered part is followed by the
-/// unnumbered parts after it.
+/// First come the unnumbered parts at the beginning of the form. Each numbered part is followed by the unnumbered parts
+/// that came after it.
 fn draw_by_number<W: Sink>(sink: &mut W, page: PageSection, day: &SheetDay, parts: &[DamagedPart])
     requires { AreWorkable day.now parts.now }
     ensures { Draws W.taken W.has_failed sink.old sink.new
@@ -255,10 +256,10 @@ fn draw_shown<W: Sink>(
     }
 }
 
-/// Writes what the section has for unnumbered parts: the parts between part number `after` and the
-/// next numbered part.
+/// Writes what the section has for some unnumbered parts of the list `parts`.
 ///
-/// `before` is the number of the last numbered part that comes before the list `parts`.
+/// For each of these parts, the last numbered part before it has the number `after`. `before` is the number of the last
+/// numbered part before the list.
 fn draw_lone_after<W: Sink>(
     sink: &mut W,
     page: PageSection,
@@ -278,8 +279,9 @@ fn draw_lone_after<W: Sink>(
     }
 }
 
-/// Whether a part has no number, and comes after part number `after`. `before` is the last part
-/// number before this part.
+/// Whether a part has no number, and comes after the part with the number `after`.
+///
+/// `before` is the number of the last numbered part before it.
 fn is_lone_after(after: u8, before: u8, numbers: &Option<PartNumbers>) -> bool
     ensures { result ≡ (is_none numbers.now && before == after) }
 {
@@ -299,10 +301,9 @@ fn number_or(before: u8, numbers: &Option<PartNumbers>) -> u8
     }
 }
 
-/// Writes what the section has for a part without a number, if `is_there`. Otherwise writes
-/// nothing.
+/// Writes what the section has for a part without a number, if `is_there` is true.
 ///
-/// `after` is the number of the last numbered part before this part.
+/// Otherwise writes nothing. `after` is the number of the last numbered part before this part.
 fn draw_lone_if<W: Sink>(
     sink: &mut W,
     is_there: bool,
@@ -342,8 +343,8 @@ fn draw_lone<W: Sink>(
     }
 }
 
-/// Writes what the section has for `parts`, in the order of arrival. The first of these parts is at
-/// `place`. `before` is the number of the last numbered part before these parts.
+/// Writes what the section has for `parts`, in the order of arrival. The first of these parts has the place `place` in
+/// this order. `before` is the number of the last numbered part before it.
 fn draw_as_they_came<W: Sink>(
     sink: &mut W,
     page: PageSection,
@@ -366,7 +367,7 @@ fn draw_as_they_came<W: Sink>(
 
 /// Writes what the section has for the part that has the place `place` in the order of arrival.
 ///
-/// `before` is the last part number before this part.
+/// `before` is the number of the last numbered part before this part.
 fn draw_part_at<W: Sink>(
     sink: &mut W,
     page: PageSection,

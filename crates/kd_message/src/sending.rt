@@ -132,16 +132,16 @@ fn draw_sheets<W: Sink>(
     draw(sink, ARTICLE_END);
 }
 
-/// The parts of an order that aren't written yet: the last ones of the message.
+/// The parts of an order that aren't written yet.
 #[derive(Clone, Copy)]
 struct PartsLeft<'a> {
-    /// The number of the first part that is left.
+    /// The number of the first part that isn't written yet.
     part: u8,
     /// How many parts the message has.
     parts: u8,
-    /// The keys of the parts that are left.
+    /// The keys of the parts that aren't written yet.
     keys: &'a [Keys],
-    /// The text of the parts that are left.
+    /// The text of the parts that aren't written yet.
     text: &'a [u8],
 }
 
@@ -188,7 +188,7 @@ pub(crate) fn list_head(language: Language, parts: u16) -> &'static str
     }
 }
 
-/// Writes the lines for `count` parts in the list of the sheets, from part number `part` on.
+/// Writes `count` lines of the list of the sheets: for the parts from number `part` on.
 fn draw_listed<W: Sink>(
     sink: &mut W,
     language: Language,
@@ -242,7 +242,7 @@ pub(crate) fn draw_listed_part<W: Sink>(
     );
 }
 
-/// Writes the sheets for the parts that are left.
+/// Writes the sheets of the parts that aren't written yet.
 fn draw_part_sheets<W: Sink>(
     sink: &mut W,
     options: PageOptions,
@@ -333,7 +333,7 @@ fn name_in_place(
     }
 }
 
-/// Writes the parts of the form that are left.
+/// Writes the parts of the form that aren't written yet.
 fn draw_form_parts<W: Sink>(sink: &mut W, options: PageOptions, day: &SheetDay, left: PartsLeft<'_>)
     requires { AreKeysOfText day.now left.part left.parts left.keys.now left.text.now }
     ensures { (made : List Part)

@@ -314,8 +314,8 @@ pub(crate) fn unread_warnings(group: GroupTest) -> Warnings
     }
 }
 
-/// Whether the day couldn't be tested. This is so if a letter of the indicator group is lost, or a
-/// list letter is lost in both copies.
+/// Whether the part's day couldn't be tested: a letter of the indicator group is lost, or a list letter is lost in both
+/// copies.
 fn is_not_tested(group: GroupTest) -> bool
     ensures { result ≡ is_not_tested group }
 {

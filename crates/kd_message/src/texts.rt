@@ -3,13 +3,13 @@
 
 use kd_language::Text;
 
-/// The title of the page for sending. The next text is the title of the page for receiving. The values are the model
-/// and the day.
+/// The title of the page for sending; `TITLE_TO_RECEIVE` is the title for receiving. The values are the model and the
+/// day.
 pub const TITLE_TO_SEND: Text = ("~, day ~: send", "~, Tag ~: Verschlüsseln");
 
 pub const TITLE_TO_RECEIVE: Text = ("~, day ~: receive", "~, Tag ~: Entschlüsseln");
 
-/// The start of the list of sheets if there is one part. The next text is the start if there are several parts.
+/// The start of the list of the sheets for one part; `LIST_OF_SEVERAL` is the start for several parts.
 pub const LIST_OF_ONE: Text = (
     "<nav aria-label=\"Sheets\">\n<ul>\n",
     "<nav aria-label=\"Blätter\">\n<ul>\n",
@@ -33,26 +33,26 @@ pub const LISTED_UNREAD: Text = (
     "<li><a href=\"#text\">Teil ~ von ~</a>, nicht lesbar\n",
 );
 
-/// The words for a part without a number. The value is the number of the last numbered part before this part.
+/// The words that name a part without a number. The value is the number of the last numbered part before this part.
 pub const LONE_AFTER: Text = (
     "A part without a number, after part ~",
     "Ein Teil ohne Nummer, nach Teil ~",
 );
 
-/// The words for a part without a number, with no numbered part before it.
+/// The words that name a part without a number, if no numbered part comes before it.
 pub const LONE_FIRST: Text = (
     "A part without a number, at the beginning",
     "Ein Teil ohne Nummer, am Anfang",
 );
 
-/// The markup before the words for a part without a number, in the list of the sheets. The next
-/// text stands after these words.
+/// In the list of the sheets: the markup before the words that name a part without a number. `LISTED_LONE_END` stands
+/// after these words.
 pub const LISTED_LONE: &str = "<li><a href=\"#text\">";
 
 pub const LISTED_LONE_END: Text = ("</a>, not read\n", "</a>, nicht lesbar\n");
 
-/// On the sheet with the text: the start of the head of a part without a number. The words for the part follow. The
-/// next text stands after these words; its values are the model and the day.
+/// On the sheet with the text: the head of a part without a number, up to the words that name the part. `LONE_HEAD_END`
+/// stands after these words; its values are the model and the day.
 pub const LONE_HEAD: &str = "<section>\n<h2>";
 
 pub const LONE_HEAD_END: Text = (
@@ -69,20 +69,20 @@ pub const LONE_ASK: Text = (
 /// The start of the link to the form, in the list of the sheets. An order's number may follow.
 pub const LISTED_FORM: &str = "<li><a href=\"#form";
 
-/// The rest of the link to the form, and the end of the list.
+/// In the list of the sheets: the rest of the link to the form, and the end of the list.
 pub const LIST_END_WITH_FORM: Text = (
     "\">Form</a>\n</ul>\n</nav>\n",
     "\">Funkspruch</a>\n</ul>\n</nav>\n",
 );
 
-/// The link to the sheet with the text, and the end of the list.
+/// In the list of the sheets: the link to the sheet with the text, and the end of the list.
 pub const LIST_END_WITH_TEXT: Text = (
     "<li><a href=\"#text\">Text</a>\n</ul>\n</nav>\n",
     "<li><a href=\"#text\">Klartext</a>\n</ul>\n</nav>\n",
 );
 
-/// The head of the sheet with the text; the values are the model and the day. The next text is the head of each part on
-/// this sheet; the values of this text are the part's number, the number of parts, the model, and the day.
+/// The head of the sheet with the text; the values are the model and the day. `TEXT_PART` is the head of each part on
+/// this sheet; its values are the part's number, the number of parts, the model, and the day.
 pub const TEXT_SHEET: Text = (
     "<article id=text class=form>\n<header>\n<h1>~, day ~: text</h1>\n<p class=fields><span>From</span><span>Time</span><span>Read by</span></p>\n</header>\n",
     "<article id=text class=form>\n<header>\n<h1>~, Tag ~: Klartext</h1>\n<p class=fields><span>Von</span><span>Uhrzeit</span><span>Entschlüsselt durch</span></p>\n</header>\n",
@@ -93,8 +93,8 @@ pub const TEXT_PART: Text = (
     "<section>\n<h2>Teil ~ von ~<span>~, Tag ~: Klartext</span></h2>\n",
 );
 
-/// The start of a text whose lines may break between any letters. The next text is the start of a text whose lines
-/// break between words. Then comes the end of both sorts of text.
+/// The start of a text whose lines may break between any letters. `TEXT_WORDS` starts a text whose lines break between
+/// words. `TEXT_END` ends both.
 pub const TEXT_LETTERS: &str = "<p class=\"text letters\">";
 
 pub const TEXT_WORDS: &str = "<p class=\"text words\">";
@@ -111,7 +111,8 @@ pub const PASSED_OVER: Text = (
     "<p>Einiges im Spruch ist übergangen oder gelesen, wie es gemeint ist: Zeilen vor dem ersten Spruchkopf, Leerzeichen in einem Spruchkopf, Tabulatoren, Kleinbuchstaben.</p>\n",
 );
 
-/// The sentence about the order in which the parts came: the words before the parts' numbers, and the words after them.
+/// In the sentence about the order in which the parts came: the words before the parts' numbers. `ORDER_END` stands
+/// after the numbers.
 pub const ORDER: Text = (
     "<p>The parts came in this order: ",
     "<p>Die Teile kamen in dieser Reihenfolge: ",
@@ -119,8 +120,8 @@ pub const ORDER: Text = (
 
 pub const ORDER_END: Text = (".</p>\n", ".</p>\n");
 
-/// Two pieces of a sentence: the words before the numbers in the headings, and the words after these numbers. The
-/// sentence says that the parts aren't of one message.
+/// The start of the sentence which says that the parts aren't of one message. The numbers from the headings follow, and
+/// then `SEVERAL_END`.
 pub const SEVERAL: Text = (
     "<p class=reason><b>Not one message.</b> The headings give different numbers of parts, or parts with one number differ or can’t be put together: ",
     "<p class=reason><b>Teile verschiedener Sprüche.</b> Die Spruchköpfe nennen verschiedene Zahlen von Teilen, oder Teile mit einer Nummer weichen voneinander ab oder passen nicht zusammen: ",
@@ -134,7 +135,7 @@ pub const SEVERAL_END: Text = (
 /// The sign between a part's number and the number of parts.
 pub const OF_PARTS: &str = "/";
 
-/// The sentence about how often a part came: the words before the number, and the words after it.
+/// In the sentence about how often a part came: the words before the number. `CAME_END` stands after the number.
 pub const CAME: Text = ("<p>This part came ", "<p>Dieser Teil kam ");
 
 pub const CAME_END: Text = (
@@ -151,8 +152,8 @@ pub const ASK: Text = (
 /// The word before a group's number.
 pub const GROUP: Text = ("group ", "Gruppe ");
 
-/// Several groups in a row: the word before the number of the first group, and the word before the number of the last
-/// group.
+/// For several groups in a row: the word before the number of the first group. `TO_GROUP` stands before the number of
+/// the last group.
 pub const GROUPS: Text = ("groups ", "Gruppen ");
 
 pub const TO_GROUP: Text = (" to ", " bis ");
@@ -164,8 +165,8 @@ pub const ITS_KEYS: Text = (
     "Grundstellung und Schlüssel des Spruchkopfs",
 );
 
-/// What to ask for: the letter count in a part's heading. The next text asks for this count and, if this count is
-/// right, for the lines.
+/// What to ask for: the letter count in a part's heading. `ITS_COUNT_OR_LINES` asks for this count and, if it is right,
+/// for the part's lines.
 pub const ITS_COUNT: Text = ("its count", "Buchstabenzahl");
 
 pub const ITS_COUNT_OR_LINES: Text = (
@@ -178,8 +179,7 @@ pub const ALL_OF_IT: Text = ("all of it", "alles");
 /// The end of a checkbox to ask for a repetition.
 pub const ASK_END: &str = "</b></label>\n";
 
-/// The paragraph about a part that isn't read: the words before the reason. The next text is the end of the paragraph,
-/// after the reason.
+/// The start of the paragraph about a part that isn't read. The reason follows, and then `REASON_END`.
 pub const UNREAD: Text = (
     "<p class=reason><b>Not read.</b> ",
     "<p class=reason><b>Nicht lesbar.</b> ",
@@ -190,15 +190,16 @@ pub const REASON_END: &str = "</p>\n";
 /// The word before a line's number.
 pub const LINE: Text = ("Line ", "Zeile ");
 
-/// The reasons why a part isn't read: this text, and the texts after it up to `NO_INTERNAL_KEY`. A reason with values
-/// may consist of several texts.
+/// From here to `NO_INTERNAL_KEY`: the texts that say what is wrong with a part. Some of them are pieces of one
+/// sentence, with values between them.
 pub const HEADING_DAMAGED: Text = (
     ": the heading is damaged.",
     ": Der Spruchkopf ist verstümmelt.",
 );
 
-/// The sentence about a damaged heading: the words before the received line, before an example of a heading, and after
-/// the example. Then the examples: for three wheels, for four wheels, and for the Converter M-209.
+/// In the sentence about a damaged heading: the words before the received line. `HEADING_LIKE` stands before an example
+/// of a valid heading, and `HEADING_LIKE_END` after it. The examples follow: for three wheels, for four wheels, and for
+/// the Converter M-209.
 pub const HEADING_CAME: Text = (" It came as “", " Er kam als „");
 
 pub const HEADING_LIKE: Text = ("”, and should be like ", "“ und sollte sein wie ");
@@ -228,8 +229,8 @@ pub const BAD_BYTE: Text = (
     "Ein Zeichen des Spruchs ist kein Buchstabe.",
 );
 
-/// The sentence about a wrong sign. The first text stands before the sign's place in the line, and the second before
-/// the sign itself. The third text names a sign that isn't a digit. The fourth text stands after the sign.
+/// In the sentence about a wrong sign: the words before the sign's place in its line. `COLON` stands before the sign,
+/// and `NO_LETTER` after it. `THIS_SIGN` names a sign that isn't a digit.
 pub const LETTER_OF_LINE: Text = (", letter ", ", Buchstabe ");
 
 pub const COLON: &str = ": ";
@@ -247,8 +248,8 @@ pub const COUNT_CAME: Text = (", but ", ", eingegangen: ");
 
 pub const COUNT_END: Text = (" came.", ".");
 
-/// The start of the paragraph about a part that is read by count. `COUNT_DAMAGED` and `COUNT_DAMAGED_END` are for a
-/// damaged letter count: the words before and after the number of letters that came.
+/// The start of the paragraph about a part that is read by count. If the count is damaged, `COUNT_DAMAGED` stands
+/// before the number of letters that came, and `COUNT_DAMAGED_END` after it.
 pub const BY_COUNT: Text = (
     "<p class=reason><b>Read by the letters that came.</b> ",
     "<p class=reason><b>Gelesen nach den eingegangenen Buchstaben.</b> ",
@@ -261,14 +262,14 @@ pub const COUNT_DAMAGED: Text = (
 
 pub const COUNT_DAMAGED_END: Text = (" letters came.", " Buchstaben.");
 
-/// The sentence about a group that doesn't have five letters: the words before the group's number, and the words after
-/// it.
+/// In the sentence about a group that doesn't have five letters: the words before the group's number. `SHORT_GROUP_END`
+/// stands after it.
 pub const SHORT_GROUP: Text = (" Group ", " Gruppe ");
 
 pub const SHORT_GROUP_END: Text = (" hasn’t five letters.", " hat nicht fünf Buchstaben.");
 
-/// The sentence which says that each group but the last has five letters. Its two pieces are the words before the
-/// number of letters that came, and the words after this number.
+/// The start of the sentence which says that each group but the last has five letters. The number of letters that came
+/// follows, and then `FULL_GROUPS_END`.
 pub const FULL_GROUPS: Text = (
     " Each group but the last has five letters, so ",
     " Jede Gruppe bis auf die letzte hat fünf Buchstaben, also kann ",
@@ -276,8 +277,8 @@ pub const FULL_GROUPS: Text = (
 
 pub const FULL_GROUPS_END: Text = (" may be right.", " stimmen.");
 
-/// The sentence about a short line, in pieces. The first piece stands before the line, the second before the number of
-/// the line's letters, and the third after this number.
+/// In the sentence about a short line: the space before the words for the line. `LINE_HAS` stands before the number of
+/// the line's letters, and `FULL_LINE` after this number.
 pub const GAP: &str = " ";
 
 pub const LINE_HAS: Text = (" has ", " hat ");
@@ -307,8 +308,8 @@ pub const NO_INTERNAL_KEY: Text = (
     "Die Kennbuchstaben ergeben keinen inneren Schlüssel.",
 );
 
-/// The head of the sheet with the form for the radio. An order's number may stand between this text
-/// and the next, whose values are the model and the day.
+/// The head of the sheet with the form for the radio, up to an order's number, if there is one. `FORM` is the rest of
+/// this head; its values are the model and the day.
 pub const FORM_ID: &str = "<article id=form";
 
 pub const FORM: Text = (
@@ -316,15 +317,17 @@ pub const FORM: Text = (
     " class=form>\n<header>\n<h1>~, Tag ~: Funkspruch</h1>\n<p class=fields><span>An</span><span>Von</span><span>Uhrzeit</span><span>Befördert durch</span></p>\n</header>\n",
 );
 
-/// The head of a part of the form. The first values are the part's number, the number of parts, the model, and the day.
-/// Then come the part's number and the number of parts once more, and the number of letters.
+/// The head of a part of the form. It has seven values:
+/// - the part's number, the number of parts, the model, and the day
+/// - again the part's number and the number of parts
+/// - the number of letters
 pub const FORM_PART: Text = (
     "<section>\n<h2>Part ~ of ~<span>~, day ~: form for the radio</span></h2>\n<p class=heading><span>part <b>PART ~/~</b></span><span>letters <b>~</b></span>",
     "<section>\n<h2>Teil ~ von ~<span>~, Tag ~: Funkspruch</span></h2>\n<p class=heading><span>Teil <b>PART ~/~</b></span><span>Buchstaben <b>~</b></span>",
 );
 
-/// The words before the ground setting and before the enciphered message key in the heading of a rotor machine's
-/// message part.
+/// In the heading of a rotor machine's message part: the words before the ground setting. `FORM_KEY` stands before the
+/// enciphered message key.
 pub const FORM_GROUND: Text = ("<span>ground <b>", "<span>Grundstellung <b>");
 
 pub const FORM_KEY: Text = (
@@ -332,8 +335,8 @@ pub const FORM_KEY: Text = (
     "</b></span><span>Schlüssel, verschlüsselt <b>",
 );
 
-/// The end of a rotor machine's heading. The next texts are the start of the groups, the start of a group, and the end
-/// of a group.
+/// The end of the keys in a rotor machine's heading. `FORM_GROUPS` begins the groups of a part; `FORM_GROUP` and
+/// `FORM_GROUP_END` stand around each group.
 pub const FORM_KEY_END: &str = "</b></span>";
 
 pub const FORM_GROUPS: &str = "</p>\n<div class=groups>";
@@ -342,7 +345,8 @@ pub const FORM_GROUP: &str = "<span>";
 
 pub const FORM_GROUP_END: &str = "</span>";
 
-/// The note below a part. It says which groups of the part are fillers or indicators.
+/// The note below a rotor machine's message part: which group has the fillers. `FORM_PIN_NOTE` is for a Converter:
+/// which groups are indicators.
 pub const FORM_ROTOR_NOTE: Text = (
     "</div>\n<p class=note>Group 1: two fillers, then the group of the day.</p>\n</section>\n",
     "</div>\n<p class=note>Gruppe 1: zwei Füllbuchstaben, dann die Kenngruppe des Tages.</p>\n</section>\n",
@@ -368,23 +372,22 @@ pub const ORDERS: Text = (
     "<nav class=days aria-label=\"Aufträge\">\n<p>~, Tag ~: ~ Aufträge</p>\n<ul>\n",
 );
 
-/// An order in the list of the orders: the text before its name, and the text after it. The value is the order's
-/// number.
+/// An order in the list of the orders: the text before its name. The value is the order's number. `LISTED_ORDER_END`
+/// stands after the name.
 pub const LISTED_ORDER: &str = "<li><a href=\"#order-~\">";
 
 pub const LISTED_ORDER_END: &str = "</a>\n";
 
-/// The start of an order's page: the text before the order's name, and the text after it. The value is the order's
-/// number.
+/// The start of an order's page: the text before the order's name. The value is the order's number. `ORDER_NAME_END`
+/// stands after the name.
 pub const ORDER_PAGE: &str = "<article id=order-~>\n<h1>";
 
 pub const ORDER_NAME_END: &str = "</h1>\n";
 
 // ---- What is told on standard error.
 
-/// The start of a note about a part. The values are the part's number and the number of parts. The
-/// next text stands before the words that say what to ask for. Then come three texts for the end of
-/// a note.
+/// The start of a note about a part. The values are the part's number and the number of parts. `NOTE_ASK` stands before
+/// the words that say what to ask for. `ASKED_END`, `LINE_END` and `NOTE_END` are ends of notes.
 pub const NOTE_PART: Text = ("Part ~ of ~: ", "Teil ~ von ~: ");
 
 pub const NOTE_ASK: Text = (" Ask for ", " Wiederholen lassen: ");
@@ -395,7 +398,8 @@ pub const LINE_END: &str = "\n";
 
 pub const NOTE_END: &str = ".\n";
 
-/// What is wrong with a part that is read, in the notes on standard error.
+/// The words of a note about lost letters. `NOTE_OTHER_DAY` has the words of a note about a form of another day or
+/// network.
 pub const NOTE_LOST: Text = ("Letters are lost.", "Buchstaben fehlen.");
 
 pub const NOTE_OTHER_DAY: Text = (

@@ -107,7 +107,7 @@ pub(crate) fn draw_reason<W: Sink>(
     }
 }
 
-/// Writes what is wrong with a heading: the words for line `line` of the form, and then `fault`.
+/// Writes what is wrong with a heading: the words for the heading's line, `line`, and then the text `fault`.
 pub(crate) fn draw_heading_fault<W: Sink>(
     sink: &mut W,
     language: Language,
@@ -121,7 +121,9 @@ pub(crate) fn draw_heading_fault<W: Sink>(
     draw(sink, fault);
 }
 
-/// Writes the words for line `number` of a part. The part begins on line `line` of the form.
+/// Writes the words for line `number` of a part, such as *Line 12*.
+///
+/// They give the line's number in the form: the part begins on line `line` of the form.
 pub(crate) fn draw_line_words<W: Sink>(sink: &mut W, language: Language, line: usize, number: usize)
     ensures { Draws W.taken W.has_failed sink.old sink.new (line_words language line number) }
 {
@@ -171,7 +173,7 @@ fn draw_sign_words<W: Sink>(sink: &mut W, language: Language, byte: u8)
 
 /// Writes the words for the groups with a lost letter or a wrong sign, among the first 525 letters of the body.
 ///
-/// If none of these letters is lost or wrong, writes the words for the group of the first wrong sign.
+/// If there is no such group, writes the words for the group of the first wrong sign.
 fn draw_sign_groups<W: Sink>(sink: &mut W, language: Language, part: &DamagedPart)
     ensures { Draws W.taken W.has_failed sink.old sink.new (sign_groups language part.now) }
 {
@@ -206,8 +208,8 @@ pub(crate) fn draw_counts<W: Sink>(sink: &mut W, language: Language, part: &Dama
     draw_in(sink, language, COUNT_END);
 }
 
-/// Writes the heading's count, the number of letters that came and, if there is one, the line in which letters are
-/// missing.
+/// Writes the heading's count, the number of letters that came, and the short line that explains the difference, if
+/// there is one.
 fn draw_count_wrong<W: Sink>(sink: &mut W, language: Language, part: &DamagedPart)
     ensures { Draws W.taken W.has_failed sink.old sink.new (count_text language part.now) }
 {
@@ -237,7 +239,7 @@ fn draw_short_words<W: Sink>(sink: &mut W, language: Language, line: usize, shor
 
 /// Writes what to ask for if a part isn't read because its count is wrong.
 ///
-/// If a short line, `short`, explains the wrong count, asks for the ten groups of this line.
+/// If the short line `short` explains the wrong count, asks for the ten groups of this line.
 fn draw_short_groups<W: Sink>(
     sink: &mut W,
     language: Language,
@@ -291,9 +293,9 @@ fn heading_count(numbers: &Option<PartNumbers>) -> usize
     }
 }
 
-/// The place in the first copy of the indicators where key letter `number` stands. Places are counted from 1.
+/// The place of key letter `number` in the first copy of the indicators, counted from 1.
 ///
-/// The chosen letter, number 0, has two places; the answer is the first one.
+/// The chosen letter, number 0, has the places 1 and 2: the answer is 1.
 fn indicator_place(number: u8) -> u16
     ensures { result ≡ indicator_place number }
 {
@@ -343,8 +345,8 @@ pub(crate) fn draw_asked<W: Sink>(
 
 /// Writes what to ask for if a letter of the ground setting or of the enciphered key is lost.
 ///
-/// Asks for the ground setting, the enciphered key, and each group of the text with a lost letter or a wrong sign.
-/// `body` has the letters of the body.
+/// Asks for both keys, and for each group of the text with a lost letter or a wrong sign. `body` has the letters of the
+/// body.
 fn draw_keys_and_groups<W: Sink>(sink: &mut W, language: Language, body: &[Option<Letter>])
     requires { length body.now ≤ 525 }
     ensures { Draws W.taken W.has_failed sink.old sink.new

@@ -52,8 +52,8 @@ text_sign for_space None = signs.Lost
 text_sign None (Some letter) = signs.Letter letter
 text_sign (Some space) (Some letter) = if letter == space then signs.Nothing else signs.Letter letter
 
--- The cells of received letters. The operator presses these letters. Below each received letter stands the letter at
--- its place in the text, or nothing for a space.
+-- The cells of received letters that the operator presses. Below each received letter stands the letter at the same
+-- place of the text, or nothing for a space.
 abbrev pub received_cells : Option ℕ → List (Option ℕ) → List (Option ℕ) → List Cell
 received_cells for_space (key ∷ keys) (letter ∷ text) =
     record { above = sign_of key; below = text_sign for_space letter; is_pressed = true; mark = marks.NoMark }
@@ -63,25 +63,27 @@ received_cells for_space (key ∷ keys) [] = []
 
 -- ---- The internal key of a Converter: wheels 1 to 6 each take the next letter that they have.
 
--- The mark of the printed letter `letter`. The internal key is found with printed letters: wheels 1 to 6 each take one.
--- `taken` is the last wheel that took a letter; 0 if none did. If the next wheel has `letter`, this wheel takes
--- `letter`. Otherwise `letter` is struck out. After wheel 6, no letter is needed.
+-- The mark of `letter`, the next printed letter, while the internal key is found. `taken` is the last wheel that took a
+-- letter; 0 if no wheel took one.
+-- - If `taken` is 6, the key is complete, and `letter` isn't needed.
+-- - Otherwise, if the next wheel has `letter`, this wheel takes `letter`.
+-- - Otherwise, `letter` is struck out.
 abbrev pub mark_of : ℕ → ℕ → Mark
 mark_of taken letter =
     if taken == 6 then marks.NotNeeded
     else if is_some (place_on (ring_of (taken + 1)) letter) then marks.Taken (taken + 1) else marks.StruckOut
 
--- The last wheel that has taken a letter, after one more letter is printed with the given mark. `taken` is the last
--- wheel that took an earlier letter; 0 if none did.
+-- The last wheel that has taken a letter, after a further letter was printed and got the given mark. Before this
+-- letter, `taken` was the last wheel that had taken one; 0 if none had.
 abbrev pub taken_after : ℕ → Mark → ℕ
 taken_after taken marks.NoMark = taken
 taken_after taken marks.NotNeeded = taken
 taken_after taken marks.StruckOut = taken
 taken_after taken (marks.Taken wheel) = wheel
 
--- The cells with which the internal key is found. Each cell has the letter `chosen` above the line. Below the line, it
--- has the letter that was printed for `chosen`, with a mark. `taken` is the last wheel that took a letter before these
--- cells; 0 if no wheel took one.
+-- The cells with which the internal key is found. Each cell has the letter `chosen` above the line to write on. Below
+-- this line, it has the letter that was printed for `chosen`, with a mark. `taken` is the last wheel that took a letter
+-- before these cells; 0 if no wheel took one.
 abbrev pub choice_cells : ℕ → ℕ → List ℕ → List Cell
 choice_cells taken chosen [] = []
 choice_cells taken chosen (letter ∷ printed) =
@@ -90,17 +92,17 @@ choice_cells taken chosen (letter ∷ printed) =
 
 -- ---- Worksheets.
 
--- The cell on a worksheet. If the cell's letter is pressed, the sign below the line is left open, and the cell has no
--- mark.
+-- The cell on a worksheet. If the cell's letter is pressed, the sign below the line to write on is left open, and the
+-- cell has no mark.
 abbrev pub open_cell : Cell → Cell
 open_cell cell = if cell.is_pressed then record cell { below = signs.Open; mark = marks.NoMark } else cell
 
--- the cell with its result; if the result is left open, the cell as on a worksheet
+-- the cell as the sheet shows it: with its result or, if the results are left open, as on a worksheet
 abbrev pub cell_with : Results → Cell → Cell
 cell_with Shown cell = cell
 cell_with LeftOpen cell = open_cell cell
 
--- the cells with their results; if the results are left open, the cells are as on a worksheet
+-- the cells as the sheet shows them: with their results or, if the results are left open, as on a worksheet
 abbrev pub cells_with : Results → List Cell → List Cell
 cells_with results cells = map (cell_with results) cells
 
@@ -112,7 +114,7 @@ mark_text marks.NotNeeded = no_letter
 mark_text marks.StruckOut = struck_out
 mark_text (marks.Taken wheel) = decimal wheel
 
--- the text that a group's line has for a cell: a sign, or a mark
+-- what a cell shows in one of the three lines of its group: signs above the line to write on, signs below it, or marks
 abbrev pub place_text : Line → Cell → List ℕ
 place_text lines.Above cell = sign_text cell.above
 place_text lines.Below cell = sign_text cell.below

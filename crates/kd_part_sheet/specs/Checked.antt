@@ -5,7 +5,7 @@ use Rattle.kd_part_sheet.specs.declared.markup.TheConstants as markup
 use Rattle.kd_part_sheet.specs.declared.texts.TheConstants as texts
 use Rattle.kd_part_sheet.specs.Sheet.{SheetText}
 
--- Each of the four versions of the template `text` has `number` signs `~`, in both languages.
+-- In both languages, each of the four versions of the template `text` has `number` signs `~`.
 abbrev pub SheetTakes : SheetText → ℕ → Type 0
 SheetTakes text number =
     Takes text.0.0 number × Takes text.0.1 number × Takes text.1.0 number × Takes text.1.1 number

@@ -12,7 +12,7 @@ abbrev pub letters_shown : EngineKey → List ℕ
 letters_shown (Rotor key) = key.window
 letters_shown (Pin key) = key.letters
 
--- The letters that a machine of the day `s` shows after `presses` key presses. Before the key presses, it shows
+-- The letters that a machine of the day `s` shows after `presses` key presses. Before the first of them, it shows
 -- `start`.
 abbrev pub letters_after : Day → List ℕ → ℕ → List ℕ
 letters_after s start presses =

@@ -17,7 +17,7 @@ lost_letter = codes "?"
 abbrev pub struck_out : List ℕ
 struck_out = codes "-"
 
--- the separators: between letters, between numbers, and between values
+-- separators in lists: a space, two no-break spaces, and a comma with a space
 abbrev pub space : List ℕ
 space = codes " "
 
@@ -27,8 +27,8 @@ two_spaces = wide_space ++ wide_space
 abbrev pub comma : List ℕ
 comma = codes ", "
 
--- The markup of a group, in this order: the group's start, the end of the signs above the line, small print, marks, and
--- the group's end. Small print and marks each have a start and an end.
+-- The markup of a group, in this order: the group's start, the end of the signs above the line to write on, small
+-- print, marks, and the group's end. Small print and marks each have a start and an end.
 abbrev pub group_start : List ℕ
 group_start = codes "<span><b>"
 

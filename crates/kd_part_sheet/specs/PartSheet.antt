@@ -69,7 +69,7 @@ text_head l sheet name letters = filled (sheet_text l sheet texts.TEXT_STEP) (de
 abbrev pub first_sheet : Model → ℕ
 first_sheet model = if is_converter model then 200 else 250
 
--- the rows of the letters that remain for a second sheet of paper; nothing if no letters remain
+-- the rows on a second sheet of paper, for the letters that don't fit on the first; nothing if there are none
 abbrev pub next_sheet : Language → Sheet → Day → PartName → List ℕ → Progress → List Cell → List ℕ
 next_sheet l sheet s name start progress [] = []
 next_sheet l sheet s name start progress (cell ∷ cells) =
@@ -82,7 +82,8 @@ text_rows l sheet s name start body =
     rows_after name.results s start beginning (pieces 50 first)
     ++ next_sheet l sheet s name start (progress_after beginning first) (drop (first_sheet name.model) body)
 
--- the warnings that copies of the indicators have lost letters, and that the day is wrong or can't be tested
+-- the warnings that apply: copies of the indicators have lost letters, the form is of another day, or its day can't be
+-- tested
 abbrev pub warnings_text : Language → Sheet → Warnings → List ℕ
 warnings_text l sheet warnings =
     text_if warnings.copies_lost (text_in l texts.COPIES_LOST)

@@ -13,7 +13,7 @@ use Rattle.kd_form.specs.PartMaking.{cipher_from, enciphered_choice, fill_last_g
 use Rattle.kd_part_sheet.specs.declared.cells.Cell.{Cell}
 use Rattle.kd_part_sheet.specs.Cells.{choice_cells, copied, pressed_cells}
 
--- The letters on the sheet of a part. The operator first sets the letters `ground`. The letters in `key` are pressed to
+-- The letters on the sheet of a part. The operator first sets the letters `ground`, and presses the letters in `key` to
 -- find the message key or the internal key. Before the text, the operator sets the letters `start`. `body` has the
 -- letters of the body.
 pub record Work : Type 0 where
@@ -47,8 +47,8 @@ pin_work s k internal text = record {
       ++ map copied (pin_indicators s k);
 }
 
--- `work` is for enciphering `text` with the given keys on the day `s`. It has the letters to press, and the ciphertext
--- of these letters.
+-- `work` shows how `text` is enciphered with the given keys on the day `s`. It has the letters to set, the letters to
+-- press, and their ciphertext.
 abbrev pub IsWork : Day → Keys → List ℕ → Work → Type 0
 IsWork s (keys.Rotor k) text work = work ≡ rotor_work s k text
 IsWork s (keys.Pin k) text work =

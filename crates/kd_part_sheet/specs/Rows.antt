@@ -38,19 +38,18 @@ is_nothing signs.Open = false
 is_nothing signs.Lost = false
 is_nothing (signs.Letter letter) = false
 
--- Whether the group has received letters that the operator doesn't press. The first cell decides, since either all
--- letters of a group are pressed, or none.
+-- whether the group's first cell has a received letter that the operator doesn't press
 abbrev pub is_skipped : List Cell → Bool
 is_skipped [] = false
 is_skipped (cell ∷ cells) = if cell.is_pressed then false else not (is_nothing cell.above)
 
--- the signs above the line, in small print if their letters aren't pressed
+-- the signs above the line to write on, in small print if their letters aren't pressed
 abbrev pub above_text : Bool → List Cell → List ℕ
 above_text is_small cells =
     if is_small then small ++ flat_map (place_text lines.Above) cells ++ small_end
     else flat_map (place_text lines.Above) cells
 
--- whether the group has a sign below the line
+-- whether the group has a sign below the line to write on
 abbrev pub has_below : List Cell → Bool
 has_below [] = false
 has_below (cell ∷ cells) = if is_nothing cell.below then has_below cells else true
@@ -61,16 +60,16 @@ is_mark marks.NotNeeded = true
 is_mark marks.StruckOut = true
 is_mark (marks.Taken wheel) = true
 
--- whether the group has marks; the first cell decides, since either all cells of a group have a mark, or none
+-- Whether the group has marks. Its first cell decides: either all cells of a group have a mark, or none.
 abbrev pub has_marks : List Cell → Bool
 has_marks [] = false
 has_marks (cell ∷ cells) = is_mark cell.mark
 
--- the line `line` of a group, between the texts `before` and `after`; nothing if `is_there` is false
+-- one of the three lines of a group, between the texts `before` and `after`; nothing if `is_there` is false
 abbrev pub line_if : Bool → List ℕ → List ℕ → Line → List Cell → List ℕ
 line_if is_there before after line cells = if is_there then before ++ flat_map (place_text line) cells ++ after else []
 
--- a group: the signs above the line, the signs below it, and the marks
+-- a group: the signs above the line to write on, the signs below it, and the marks
 unfoldable pub group_text : List Cell → List ℕ
 group_text cells =
     group_start ++ above_text (is_skipped cells) cells ++ above_end
@@ -95,7 +94,7 @@ shown_after is_converter letters =
     else letter_words false markup.ROW_LETTERS.now two_spaces letters
     ++ letter_words true markup.ROW_NUMBERS.now space letters
 
--- the letters that the machine shows after a row; nothing if the last argument is `true`
+-- the letters that the machine shows after a row; nothing if they are hidden (the last argument is `true`)
 abbrev pub windows_after : Day → List ℕ → ℕ → Bool → List ℕ
 windows_after s start presses is_hidden =
     if is_hidden then [] else shown_after (is_converter (day_model s)) (letters_after s start presses)

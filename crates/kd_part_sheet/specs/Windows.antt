@@ -38,7 +38,7 @@ window_items l is_converter number [] = []
 window_items l is_converter number (letter ∷ letters) =
     window_item l is_converter number letter ++ window_items l is_converter (number + 1) letters
 
--- the beginning of the picture's title
+-- the beginning of the picture, up to the windows in its title
 abbrev pub windows_title : Language → Bool → List ℕ
 windows_title l is_converter = if is_converter then text_in l texts.WHEELS else text_in l texts.WINDOWS
 

@@ -11,8 +11,8 @@ use Rattle.kd_part_sheet.specs.PartSheet.{part_sheet}
 use Rattle.kd_part_sheet.specs.PartWork.{Work}
 use Rattle.kd_part_sheet.specs.Sheet.{has_given_start}
 
--- The cells `one` and `other` have the same sign above the line. The letters of both cells are pressed, or neither
--- letter is. If neither letter is pressed, the two cells are equal.
+-- The cells `one` and `other` ask the same of the operator. They have the same sign above the line to write on. Either
+-- both letters are pressed, or neither is. If neither letter is pressed, the two cells are equal.
 pub record AskAlike (one other : Cell) : Type 0 where
   pub above : one.above ≡ other.above
   pub pressed : one.is_pressed ≡ other.is_pressed

@@ -16,7 +16,7 @@ use kd_tables::{Letter, Sink, place_on_wheel};
 #[derive(Clone, Copy)]
 pub enum Sign {
     Nothing,
-    /// A letter that a worksheet leaves open.
+    /// A letter that a worksheet leaves for the operator to find.
     Open,
     Lost,
     Letter(Letter),
@@ -25,11 +25,11 @@ pub enum Sign {
 /// The cell of a letter in a row.
 #[derive(Clone, Copy)]
 pub struct Cell {
-    /// The sign above the line.
+    /// The sign above the line to write on.
     pub above: Sign,
-    /// The sign below the line.
+    /// The sign below the line to write on.
     pub below: Sign,
-    /// Whether the letter is pressed.
+    /// Whether the operator presses the letter.
     pub is_pressed: bool,
     pub mark: Mark,
 }
@@ -37,12 +37,12 @@ pub struct Cell {
 /// The mark of a letter that a Converter prints while the operator finds the internal key.
 #[derive(Clone, Copy)]
 pub enum Mark {
-    /// No mark: the cell isn't for the internal key.
+    /// No mark: the cell isn't for the internal key, or is on a worksheet.
     NoMark,
     /// No wheel needs the letter, as the internal key is already complete.
     NotNeeded,
     StruckOut,
-    /// This wheel takes the letter.
+    /// The wheel with this number takes the letter.
     Taken(u8),
 }
 
@@ -120,9 +120,9 @@ fn sign_of(letter: Option<Letter>) -> Sign
     }
 }
 
-/// Appends the cells of received letters. The operator presses these letters.
+/// Appends the cells of `keys`, received letters that the operator presses.
 ///
-/// Below item `i` of `keys` stands item `i` of `text`. If the item of `text` is `for_space`, nothing stands below.
+/// Below each of them stands the letter at the same place of `text`, or nothing if this letter is `for_space`.
 pub fn push_received<const N: usize>(
     cells: &mut ArrayVec<Cell, N>,
     for_space: &Option<Letter>,
@@ -156,8 +156,8 @@ fn text_sign(for_space: &Option<Letter>, letter: Option<Letter>) -> Sign
     }
 }
 
-/// Appends the cells with which the internal key is found. Each cell has the letter `chosen` above the line. Below the
-/// line, it has the letter that was printed for `chosen`, with a mark.
+/// Appends the cells with which the internal key is found. Each cell has the letter `chosen` above the line to write
+/// on. Below this line, it has the letter that was printed for `chosen`, with a mark.
 ///
 /// `taken` is the last wheel that took a letter before these cells; 0 if no wheel took one.
 pub fn push_choice<const N: usize>(
@@ -182,8 +182,11 @@ pub fn push_choice<const N: usize>(
     }
 }
 
-/// The mark of `letter`, which a Converter prints while the operator finds the internal key. `taken` is the last wheel
-/// that took a letter; 0 if no wheel took one.
+/// The mark of `letter`, the next printed letter, while the internal key is found. `taken` is the last wheel that took
+/// a letter; 0 if no wheel took one.
+/// - If `taken` is 6, the key is complete, and `letter` isn't needed.
+/// - Otherwise, if the next wheel has `letter`, this wheel takes `letter`.
+/// - Otherwise, `letter` is struck out.
 fn mark_of(taken: u8, letter: Letter) -> Mark
     requires { taken ≤ 6 }
     ensures { result ≡ mark_of taken letter }
@@ -197,9 +200,9 @@ fn mark_of(taken: u8, letter: Letter) -> Mark
     }
 }
 
-/// The last wheel that has taken a letter, after one more letter is printed. `mark` is the mark of this letter.
+/// The last wheel that has taken a letter, after a further letter was printed and got the mark `mark`.
 ///
-/// `taken` is the last wheel that took an earlier letter; 0 if none did.
+/// Before this letter, `taken` was the last wheel that had taken one; 0 if none had.
 fn taken_after(taken: u8, mark: Mark) -> u8
     ensures { result ≡ taken_after taken mark }
 {
@@ -209,7 +212,7 @@ fn taken_after(taken: u8, mark: Mark) -> u8
     }
 }
 
-/// The cells with their results. If `results` are left open, the cells are as on a worksheet.
+/// The cells as the sheet shows them: with their results or, if `results` are left open, as on a worksheet.
 pub(crate) fn cells_with<const N: usize>(
     results: Results,
     cells: &ArrayVec<Cell, N>,
@@ -223,8 +226,9 @@ pub(crate) fn cells_with<const N: usize>(
     shown
 }
 
-/// `cell` with its result; if `results` are left open, `cell` as on a worksheet. If the cell's
-/// letter is pressed, a worksheet leaves the sign below the line open, and has no mark.
+/// `cell` as the sheet shows it: with its result or, if `results` are left open, as on a worksheet.
+///
+/// On a worksheet, the cell of a pressed letter has no mark, and the sign below the line to write on is left open.
 fn cell_with(results: Results, cell: Cell) -> Cell
     ensures { result ≡ cell_with results cell }
 {
@@ -239,7 +243,7 @@ fn cell_with(results: Results, cell: Cell) -> Cell
     }
 }
 
-/// A line of a group: the signs above the line to write on, the signs below it, or the marks.
+/// One of the three lines of a group: the signs above the line to write on, the signs below it, or the marks.
 #[derive(Clone, Copy)]
 pub(crate) enum Line {
     Above,
@@ -247,7 +251,7 @@ pub(crate) enum Line {
     Marks,
 }
 
-/// Writes the sign or the mark that a cell has in the line `line` of a group.
+/// Writes what a cell shows in one of the three lines of its group: a sign, or a mark.
 pub(crate) fn draw_place<W: Sink>(sink: &mut W, line: Line, cell: &Cell)
     ensures { Draws W.taken W.has_failed sink.old sink.new (place_text line cell.now) }
 {

@@ -53,7 +53,7 @@ pub struct PartName {
 pub struct PartPage {
     /// The language of the sheet.
     pub language: Language,
-    /// Which of the four sheets it is.
+    /// Which of the four sheets this is.
     pub sheet: Sheet,
     /// The part, and whether the sheet shows the results.
     pub name: PartName,
@@ -120,12 +120,14 @@ pub struct Warnings {
     pub copies_lost: bool,
     /// The form's indicator group or list letters don't belong to the day.
     pub wrong_day: bool,
-    /// The day can't be tested. A letter of the indicator group is lost, or a list letter is lost
-    /// in both copies.
+    /// It can't be tested whether the form is of the day: a letter of the indicator group is lost, or a list letter is
+    /// lost in both copies.
     pub not_tested: bool,
 }
 
-/// Writes the warnings that copies of the indicators have lost letters, and that the day is wrong or can't be tested.
+/// Writes the warnings that apply.
+///
+/// There are three: copies of the indicators have lost letters, the form is of another day, its day can't be tested.
 pub fn draw_warnings<W: Sink>(sink: &mut W, language: Language, sheet: Sheet, warnings: Warnings)
     ensures { Draws W.taken W.has_failed sink.old sink.new
         (warnings_text language sheet warnings) }
@@ -257,8 +259,9 @@ fn draw_text_step<W: Sink>(
     draw_text_rows(sink, page, day, start, body.as_slice());
 }
 
-/// Writes the picture of the windows that are set before the text. On a worksheet, writes nothing if the operator finds
-/// out these windows in the first step.
+/// Writes the picture of the windows to set before the text.
+///
+/// Writes nothing on a worksheet whose first step finds these windows.
 fn draw_start<W: Sink>(sink: &mut W, page: PartPage, start: &[Letter])
     requires { length start.now ≤ 6 }
     ensures { Draws W.taken W.has_failed sink.old sink.new

@@ -114,7 +114,7 @@ fn row_number(is_converter: bool, progress: Progress) -> u16
     }
 }
 
-/// Writes the windows after `presses` key presses; nothing if `is_hidden`.
+/// Writes the windows after `presses` key presses; writes nothing if `is_hidden` is true.
 fn draw_windows_after<W: Sink>(
     sink: &mut W,
     day: &SheetDay,
@@ -159,7 +159,7 @@ fn draw_groups<W: Sink>(sink: &mut W, cells: &[Cell])
     }
 }
 
-/// Writes a group: the signs above the line, the signs below it, and the marks.
+/// Writes a group: the signs above the line to write on, the signs below it, and the marks.
 fn draw_group<W: Sink>(sink: &mut W, group: &[Cell])
     ensures { Draws W.taken W.has_failed sink.old sink.new (group_text group.now) }
 {
@@ -171,8 +171,7 @@ fn draw_group<W: Sink>(sink: &mut W, group: &[Cell])
     draw(sink, GROUP_END);
 }
 
-/// Whether the group has received letters that the operator doesn't press. The first cell decides, since either all
-/// letters of a group are pressed, or none.
+/// Whether the group's first cell has a received letter that the operator doesn't press.
 fn is_skipped(group: &[Cell]) -> bool
     ensures { result ≡ is_skipped group.now }
 {
@@ -182,7 +181,7 @@ fn is_skipped(group: &[Cell]) -> bool
     }
 }
 
-/// Writes the signs above the line, in small print if their letters aren't pressed.
+/// Writes the signs above the line to write on, in small print if their letters aren't pressed.
 fn draw_above<W: Sink>(sink: &mut W, is_small: bool, group: &[Cell])
     ensures { Draws W.taken W.has_failed sink.old sink.new (above_text is_small group.now) }
 {
@@ -195,7 +194,7 @@ fn draw_above<W: Sink>(sink: &mut W, is_small: bool, group: &[Cell])
     }
 }
 
-/// Whether the group has a sign below the line.
+/// Whether the group has a sign below the line to write on.
 fn has_below(group: &[Cell]) -> bool
     ensures { result ≡ has_below group.now }
 {
@@ -215,7 +214,8 @@ fn has_marks(group: &[Cell]) -> bool
     }
 }
 
-/// Writes the line `line` of a group, between the texts `before` and `after`. Writes nothing if `is_there` is false.
+/// Writes one of the three lines of a group, between the texts `before` and `after`. Writes nothing if `is_there` is
+/// false.
 fn draw_line_if<W: Sink>(
     sink: &mut W,
     is_there: bool,
@@ -236,7 +236,7 @@ fn draw_line_if<W: Sink>(
     }
 }
 
-/// Writes a line of a group.
+/// Writes one of the three lines of a group: signs above, signs below, or marks.
 pub(crate) fn draw_line<W: Sink>(sink: &mut W, line: Line, group: &[Cell])
     ensures { Draws W.taken W.has_failed sink.old sink.new
         (flat_map (place_text line) group.now) }

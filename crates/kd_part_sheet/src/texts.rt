@@ -192,8 +192,8 @@ const PIN_LOST_LETTER: Text = (
     "<br>? ist ein verlorener Buchstabe: dafür einen beliebigen eingeben und ? schreiben.",
 );
 
-/// Two warnings. The first says that the form is from another day or network. The second says that the form's day can't
-/// be tested, as letters are lost.
+/// The warning that the form is from another day or network. `NOT_TESTED` is the warning that the form's day can't be
+/// tested, as letters are lost.
 pub const WRONG_DAY: SheetText = (
     (ROTOR_WRONG_DAY, PIN_WRONG_DAY),
     (ROTOR_WRONG_DAY, PIN_WRONG_DAY),
@@ -253,8 +253,8 @@ pub const COPIES_LOST: Text = (
     "<p>Die ersten und die letzten Kennbuchstaben ergänzen einander.</p>\n",
 );
 
-/// The key of the day, to which a rotor machine has to be set. The first text has the reflector, and ends with the
-/// words before the wheels. The next texts are the words before the rings, and the words before the cables.
+/// The key of the day, to which a rotor machine has to be set: the text up to the wheels. The value is the reflector.
+/// `RINGS` stands before the rings, and `CABLES` before the cables.
 pub const REFLECTOR: Text = (
     "<p>The machine has to be on the key of the day. Reflector: <b>~</b>. Wheels: <b>",
     "<p>Die Maschine muss auf dem Tagesschlüssel stehen. Umkehrwalze: <b>~</b>. Walzenlage: <b>",
@@ -266,13 +266,15 @@ pub const CABLES: Text = ("</b>. Cables: <b>", "</b>. Steckerverbindungen: <b>")
 
 pub const NO_CABLES: Text = ("none", "keine");
 
-/// The key of the day, to which a Converter has to be set: the two letters of the key list.
+/// The sentence which says that a Converter must have the day's pins and lugs. The values are the two letters of the
+/// day's `list`.
 pub const LIST: Text = (
     "<p>Pins and lugs have to be the day’s. List: <b>~~</b>.",
     "<p>Stifte und Reiter müssen auf dem Tagesschlüssel stehen. Liste: <b>~~</b>.",
 );
 
-/// The picture of a rotor machine's windows: the beginning of the picture's title, and a window with its slot.
+/// The picture of a rotor machine's windows, up to the windows in its title. `WINDOW` is a window in the picture, with
+/// its slot.
 pub const WINDOWS: Text = (
     "<figure class=shown><svg role=\"img\" viewBox=\"0 0 600 66\"><title>Windows to set, from the left: ",
     "<figure class=shown><svg role=\"img\" viewBox=\"0 0 600 66\"><title>Fenster, von links einzustellen: ",
@@ -283,7 +285,7 @@ pub const WINDOW: Text = (
     "<text class=\"label\" x=\"~\" y=\"16\" font-size=\"18\">Platz ~</text>\n<rect class=\"set\" x=\"~\" y=\"24\" width=\"40\" height=\"40\"/>\n<text class=\"bold\" x=\"~\" y=\"53\" font-size=\"26\">~</text>\n<text class=\"bold\" x=\"~\" y=\"51\" font-size=\"20\">~</text>\n",
 );
 
-/// How the title begins in the picture of a Converter's wheels.
+/// The picture of a Converter's wheels, up to the wheels in its title.
 pub const WHEELS: Text = (
     "<figure class=shown><svg role=\"img\" viewBox=\"0 0 600 66\"><title>Wheels to set, from the left: ",
     "<figure class=shown><svg role=\"img\" viewBox=\"0 0 600 66\"><title>Räder, von links einzustellen: ",

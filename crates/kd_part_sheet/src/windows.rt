@@ -28,7 +28,7 @@ pub(crate) fn draw_windows<W: Sink>(
     draw(sink, WINDOWS_END);
 }
 
-/// The beginning of the picture's title.
+/// The beginning of the picture, up to the windows in its title.
 fn windows_title(language: Language, is_converter: bool) -> &'static str
     ensures { result.now ≡ windows_title language is_converter }
 {

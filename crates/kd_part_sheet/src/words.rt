@@ -11,7 +11,8 @@ use kd_pictures::{draw, draw_in};
 use kd_state::SheetWheel;
 use kd_tables::{Letter, Sink};
 
-/// Writes letters, or their numbers, with `first` before them and `separator` between them.
+/// Writes letters or, if `are_numbers` is true, their numbers; `first` stands before them, and `separator` between
+/// them.
 pub(crate) fn draw_shown<W: Sink>(
     sink: &mut W,
     are_numbers: bool,
