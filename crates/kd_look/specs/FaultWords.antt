@@ -45,7 +45,7 @@ pub record IsLineAt (l : Language) (name : List ℕ) (place : KeyPlace) (line : 
 abbrev pub IsFaultLine : Language → List ℕ → List ℕ → KeyPlace → SheetFault → List ℕ → Type 0
 IsFaultLine l name bytes place fault text = IsLineAt l name place (line_of_fault bytes place fault) fault text
 
--- The text has a line for each fault, in the order of the faults.
+-- The text has a line for each fault in the list, in the order of the list.
 abbrev pub AreFaultLines : Language → List ℕ → List ℕ → List (KeyPlace × SheetFault) → List ℕ → Type 0
 AreFaultLines l name bytes [] text = text ≡ []
 AreFaultLines l name bytes (found ∷ rest) text = BeginsWith (IsFaultLine l name bytes found.0 found.1)

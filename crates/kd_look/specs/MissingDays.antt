@@ -48,7 +48,7 @@ words_for (Some (files.Sheet month)) words = words
 words_for (Some (files.Machine machine)) words = []
 words_for None words = []
 
--- the model after the word `for`; in German, this is the accusative
+-- the model as it is named after the word `for`: in German, in the accusative
 abbrev pub model_after_for : Language → Model → List ℕ
 model_after_for l EnigmaI = text_in l AN_ENIGMA_I
 model_after_for l M3 = text_in l AN_M3

@@ -66,8 +66,8 @@ fn report_all(wording: Wording, files: &[NamedFile<'_>]) -> Result<WholeReport, 
     Ok(WholeReport { text, outcome })
 }
 
-/// Appends the lines that compare `files`: the warnings about missing days, then the lines that
-/// name the days of the messages' groups.
+/// Appends the lines that compare `files`. First come the warnings about machines for which no key sheet has a day.
+/// Then come the lines that say which days have the messages' groups.
 #[tactic(auto, using(std::proofs::Common::append_assoc))]
 fn push_comparisons(
     text: &mut String,
