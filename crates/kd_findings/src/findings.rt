@@ -27,8 +27,8 @@ pub struct Explanation {
     pub words: String,
 }
 
-/// Appends `fault`, the fault of the value at `place`, if there is a fault. The words that explain the fault come from
-/// `checked`.
+/// Appends the fault of the value at `place`, if there is one. `checked` is the result of a check of this value. It has
+/// the words that explain the fault.
 pub fn note(
     list: &mut Vec<Finding>,
     wording: Wording,
