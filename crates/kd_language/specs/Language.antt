@@ -7,6 +7,6 @@ abbrev pub in_language : Language → List ℕ → List ℕ → List ℕ
 in_language English english german = english
 in_language German english german = german
 
--- the half of the pair `text` that is in `language`
+-- the English or the German text of the pair `text`, as `language` says
 abbrev pub text_in : Language → record { now : List ℕ } × record { now : List ℕ } → List ℕ
 text_in language text = in_language language text.0.now text.1.now

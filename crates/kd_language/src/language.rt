@@ -13,7 +13,7 @@ pub enum Language {
 }
 
 impl Language {
-    /// The half of `text` that is in this language.
+    /// The English or the German text of the pair `text`, as this language says.
     pub fn text(self, text: Text) -> &'static str
         ensures { result.now ≡ in_language self text.entry.0.now text.entry.1.now }
     {
