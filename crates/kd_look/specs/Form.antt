@@ -1,6 +1,6 @@
 -- How a form is tested before its letters are deciphered: its headings, its bytes, and its numbers of letters and
--- parts. The result has the first fault, in the order of the tests of `desk receive`. Faults that show only with the
--- day, the machine or the indicators are left out. Indexes are counted from 0, and parts from 1.
+-- parts. Of several faults, the result is the first one in the order of the tests of `desk receive`. Faults that show
+-- only with the day, the machine or the indicators are left out. Indexes are counted from 0, and parts from 1.
 -- Test: tests/cases/curator-look.toml
 use Rattle.std.specs.Prelude.{codes, ℕ, suc, zero, ◌+◌, ◌-◌, ◌==◌, ◌&&◌, nat_le, not, Bool, false, List}
 use Rattle.std.specs.Prelude.{Option, Some, None, Result, Ok, Err, count_by, find, is_ok, length, option_map}
@@ -20,7 +20,7 @@ use Rattle.kd_look.specs.declared.message.form.FormPart.{FormPart}
 use Rattle.kd_look.specs.declared.message.form_heading.FormHeading.{FormHeading}
 use Rattle.kd_look.specs.declared.message.signs.WrongByte.{WrongByte}
 
--- what is wrong in a heading, from the wrong byte's mark; for example, the mark `/` means that a slash is missing
+-- what is wrong in a heading; `mark` says what belongs there: for example, the mark `/` means that a slash is missing
 abbrev pub heading_reason : ℕ → Reason
 heading_reason mark = if mark == 35 then reasons.HeadingNumber
     else if mark == 36 then reasons.HeadingCount
@@ -45,7 +45,7 @@ abbrev pub body_end : List ℕ → ℕ → ℕ
 body_end text body = option_map_or (λ index. index + 1)
     (find (heading_follows text) (range_with_len (body - 1) (length text - (body - 1)))) (length text)
 
--- success if a body may have each byte from `body` to `end`; otherwise the fault of the first byte that isn't allowed
+-- success if all bytes from `body` to `end` may stand in a body; otherwise the fault of the first that may not
 abbrev pub body_signs : List ℕ → ℕ → ℕ → Result (Unit {0}) MessageFault
 body_signs text body end = option_map_or
     (λ place. Err (record { index = body + place; fault = BadByte (body + place + 1); reason = reasons.BodySign }))
@@ -78,7 +78,7 @@ part_at text first number index = do
       (record { index = index; fault = CountWrong number; reason = reasons.BodyCount })
   Ok (record { heading = heading; end = end })
 
--- the form's first heading: `first`, or `own` if `own` is the first
+-- the form's first heading: `first`, or `own` if `first` is `None`
 abbrev pub first_or : FormHeading → Option FormHeading → FormHeading
 first_or own None = own
 first_or own (Some first) = first

@@ -20,7 +20,7 @@ with_byte number byte = if nat_le 48 byte && nat_le byte 57
 abbrev pub with_digit : List ℕ → Number → Number
 with_digit text number = option_map_or (with_byte number) (slice_get text number.end) number
 
--- a number of at most three digits, and the index after it; 0 if no digit stands at `index`
+-- the number at `index`, read up to its third digit, and the index after it; if there is no digit, the number is 0
 unfoldable pub digits_at : List ℕ → ℕ → Number
 digits_at text index = with_digit text (with_digit text (with_digit text (record { value = 0; end = index })))
 
@@ -41,7 +41,7 @@ heading_keys text index = if fits_at text 32 index
     && fits_at text 95 (index + 4)) then lines.FourSlots else lines.ThreeSlots)
     else lines.Converter
 
--- the pattern of a heading line after the number of letters
+-- the pattern of what follows the number of letters in a heading line
 abbrev pub keys_pattern : KeyLine → List ℕ
 keys_pattern lines.ThreeSlots = codes " ___ ___"
 keys_pattern lines.FourSlots = codes " ____ ____"
@@ -52,7 +52,7 @@ keys_pattern lines.Converter = []
 unfoldable pub heading_end : List ℕ → ℕ → Result ℕ WrongByte
 heading_end text index = if index == length text then Ok index else end_of_line text index
 
--- how the keys are written in the form's first heading: `first`, or `own` if `own` is from the first heading
+-- how the keys of the form's first heading are written: `first`, or `own` if `first` is `None`
 abbrev pub keys_or : KeyLine → Option KeyLine → KeyLine
 keys_or own None = own
 keys_or own (Some first) = first
@@ -62,9 +62,9 @@ abbrev pub is_letter_count : KeyLine → ℕ → Bool
 is_letter_count lines.Converter count = nat_le 25 count && nat_le count 520 && count % 5 == 0
 is_letter_count form count = nat_le 6 count && nat_le count 250
 
--- The heading at `index`, or the byte at which it is wrong. If a part number or number of parts is out of range, this
--- is the part number's first byte. If the number of letters is out of range, it is this number's first byte. `first`
--- says how the keys are written in the form's first heading. For the first heading itself, `first` is `None`.
+-- The heading at `index`, or the byte at which it is wrong. If the part number or the number of parts is out of range,
+-- this is the first byte of the part number. If the number of letters is out of range, this is its first byte. `first`
+-- says how the keys of the form's first heading are written. For the first heading itself, `first` is `None`.
 unfoldable pub heading_at : List ℕ → Option KeyLine → ℕ → Result FormHeading WrongByte
 heading_at text first index = do
   start ← marks_end text (codes "PART ") index

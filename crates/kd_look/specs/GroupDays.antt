@@ -63,7 +63,7 @@ is_day_with search group number = option_map_or (suits search group) (day_of sea
 abbrev pub days_with : GroupSearch → List ℕ → List ℕ
 days_with search group = filter (is_day_with search group) (range_with_len 1 31)
 
--- the line that says that the group of part `part` is of day `day`; `group` is the group in capital letters
+-- the line that says that the group of part `part` belongs to day `day`; `group` is the group in capital letters
 unfoldable pub group_day_line : Language → GroupSearch → ℕ → List ℕ → ℕ → List ℕ
 group_day_line l search part group day =
     filled (text_in l texts.GROUP_DAY) (search.name ∷ decimal part ∷ group ∷ decimal day ∷ search.sheet ∷ [])
@@ -101,11 +101,11 @@ sheet_lines l name message sheet = option_map_or (λ month.
     parts_lines l (record { name = name; keys = message.keys; sheet = sheet.name; month = month }) 1 message.groups)
     (month_in sheet.file) []
 
--- the lines that say which days of all key sheets have the groups of the file `read`; empty if `read` isn't a message
+-- the lines that say which days of the key sheets have the groups of the file `read`; empty if `read` isn't a message
 abbrev pub message_lines : Language → List KnownFile → KnownFile → List ℕ
 message_lines l all read = option_map_or (λ message. flat_map (sheet_lines l read.name message) all) read.message []
 
--- the lines that say which days of all key sheets have the groups of all orders and forms
+-- the lines that say which days of the key sheets have the groups of all orders and forms
 abbrev pub group_day_words : Language → List KnownFile → List ℕ
 group_day_words l all = flat_map (message_lines l all) all
 

@@ -65,7 +65,7 @@ HeadsEndWhereSendEndsThem =
 
 -- ---- Whole orders.
 
--- The fault is one that an order's keys show only with the day: a wrong group, or keys without an internal key.
+-- A fault of an order's keys that shows only with the day: a wrong group, or keys without an internal key.
 pub data IsDaysFault (fault : FormFault) : Type 0 where
   GroupWrong : (part : ℕ) → fault ≡ WrongGroup part → IsDaysFault fault
   NoInternalKey : (part : ℕ) → fault ≡ IndicatorSpent part → IsDaysFault fault

@@ -78,7 +78,7 @@ machine_name l lines.ThreeSlots = text_in l texts.ENIGMA_I_OR_M3
 machine_name l lines.FourSlots = text_in l AN_M4
 machine_name l lines.Converter = text_in l texts.CONVERTER
 
--- a line with a title and a number
+-- a line with a title and a number, such as `parts: 2`
 unfoldable pub number_line : List ℕ → ℕ → List ℕ
 number_line title number = titled title number ++ codes "\n"
 

@@ -24,9 +24,9 @@ unfoldable pub has_day : List (Option Day) → DaySort → ℕ → Bool
 has_day month (sorts.Of model) number = has_day_of model month number
 has_day month sorts.WithoutGroups number = option_map_or lacks_groups (day_of month number) false
 
--- The words that day `number`, a day of some sort, adds to this sort's lines. For example, the line `M3: days 4 to 9`
--- is made of three days' words: day 4 adds `M3: days 4 to `, day 9 adds `9`, and the days between them add nothing.
--- `before` and `after` say whether the previous day and the next day are of the same sort.
+-- The words that day `number` adds to the lines for days of its sort, such as the line `M3: days 4 to 9`. There, day 4
+-- adds `M3: days 4 to `, day 9 adds `9` and the line end, and the days between them add nothing. `before` and `after`
+-- say whether the days before and after are of the same sort.
 unfoldable pub day_words : Language → List ℕ → Bool → Bool → ℕ → List ℕ
 day_words l title before after number =
     if before then (if after then [] else decimal number ++ codes "\n")

@@ -1,4 +1,4 @@
-//! Names the days of key sheets that have the groups of orders and forms.
+//! Says which days of key sheets have the groups of orders and forms.
 ghost use Rattle.std.specs.Prelude.{◌≡◌, ◌↔◌, ◌++◌, ◌+◌, ◌<◌, ◌^◌, ◌∷◌, [], flat_map, length, map, IfOk, IsTrue, OnOk};
 ghost use Rattle.std.specs.List.{filter};
 ghost use Rattle.std.specs.String.{string_bytes};
@@ -33,7 +33,7 @@ pub struct Search<'f> {
     pub month: &'f Sheet,
 }
 
-/// The lines that say which days of all key sheets have the groups of all orders and forms of `files`.
+/// The lines that say which days of the key sheets have the groups of all orders and forms of `files`.
 pub fn group_day_lines(wording: Wording, files: &[ReadFile<'_>]) -> Result<String, AllocError>
     ensures { IfOk result (λ lines.
         string_bytes lines ≡ group_day_words wording.language (map known_of files.now)) }
@@ -45,7 +45,7 @@ pub fn group_day_lines(wording: Wording, files: &[ReadFile<'_>]) -> Result<Strin
     Ok(lines)
 }
 
-/// Appends the lines that say which days of all key sheets of `files` have the groups of `file`.
+/// Appends the lines that say which days of the key sheets in `files` have the groups of `file`.
 ///
 /// Appends nothing if `file` isn't an order or a form.
 fn push_message(
@@ -63,7 +63,7 @@ fn push_message(
     }
 }
 
-/// Appends the lines that say which days of all key sheets of `files` have the groups of `message`.
+/// Appends the lines that say which days of the key sheets in `files` have the groups of `message`.
 ///
 /// `name` is the name of the message's file.
 #[tactic(auto, using(std::proofs::Common::append_assoc))]
@@ -203,7 +203,7 @@ fn push_days(
     }
 }
 
-/// Appends the line that says that the group of part `part` is of day `day`.
+/// Appends the line that says that the group of part `part` belongs to day `day`.
 ///
 /// `group` is the group in capital letters.
 #[tactic(auto, unfolding(crate::specs::GroupDays::group_day_line))]

@@ -32,10 +32,10 @@ enum Sought {
     AnyKey,
 }
 
-/// The number of the line of each of `findings`; `None` if it can't be found, or `text` is too long.
+/// The line number of each of `findings`. `None` if the line can't be found, or `text` is too long.
 ///
-/// To find it, `text` is cut off after its first line, then after its second line, and so on, until the cut text is a
-/// document with the entry or key that is sought for the finding.
+/// To find the line, `text` is cut off after its first line, then after its second line, and so on, until the cut text
+/// is a document with the entry or key that is sought for the finding.
 pub fn lines_of(
     alloc: Global,
     text: &[u8],

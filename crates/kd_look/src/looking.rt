@@ -25,7 +25,7 @@ pub struct NamedFile<'f> {
     pub bytes: &'f [u8],
 }
 
-/// Describes `files` in the words of `wording`, or names their faults.
+/// Describes `files` in the language of `wording`, or names their faults.
 pub fn look_at<W: Sink>(
     wording: Wording,
     files: &[NamedFile<'_>],

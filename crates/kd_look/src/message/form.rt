@@ -66,7 +66,7 @@ fn form_from(
     Ok(heading)
 }
 
-/// The form's first heading: `first`, or `own` if `own` is the first.
+/// The form's first heading: `first`, or `own` if `first` is `None`.
 fn first_or(own: FormHeading, first: Option<FormHeading>) -> FormHeading
     ensures { result ≡ first_or own first }
 {
@@ -165,7 +165,7 @@ fn heading_fault(number: u8, wrong: WrongByte) -> MessageFault
     }
 }
 
-/// What is wrong in a heading, from the wrong byte's mark. For example, the mark `/` means that a slash is missing.
+/// What is wrong in a heading. `mark` says what belongs there: for example, the mark `/` means that a slash is missing.
 fn heading_reason(mark: u8) -> Reason
     ensures { result ≡ heading_reason mark }
 {
@@ -193,7 +193,7 @@ fn body_end(text: &[u8], body: usize) -> usize
     }
 }
 
-/// The index of the first LF before a heading line, searched from `first` on.
+/// The index of the first LF that a heading line follows, from index `first` on.
 fn next_heading(text: &[u8], first: usize) -> Option<usize>
     ensures found { result ≡ find (heading_follows text.now)
         (range_with_len first (length text.now - first)) }
@@ -212,7 +212,7 @@ pub fn heading_follows(text: &[u8], index: usize) -> bool
         && matches!(text.get(index + 6), Some(b'0'..=b'9'))
 }
 
-/// Checks that a body may have each byte from `body` to `end`.
+/// Checks that all bytes from `body` to `end` may stand in a body.
 fn body_signs(text: &[u8], body: usize, end: usize) -> Result<(), MessageFault>
     requires within { end ≤ length text.now }
     requires order { body ≤ end }

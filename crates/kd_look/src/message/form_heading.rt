@@ -15,7 +15,7 @@ pub struct FormHeading {
     pub parts: usize,
     /// The number of letters in the body.
     pub letters: usize,
-    /// Which machine the form is for, as the heading shows.
+    /// How the keys of the form's first heading are written. This shows which machine the form is for.
     pub keys: KeyLine,
     /// The index of the body's first byte.
     pub body: usize,
@@ -30,9 +30,9 @@ pub struct Number {
 
 /// The heading at `index`, or the byte at which it is wrong.
 ///
-/// If a part number or number of parts is out of range, this is the part number's first byte. If the number of letters
-/// is out of range, it is this number's first byte. `first` says how the keys are written in the form's first heading.
-/// For the first heading itself, `first` is `None`.
+/// If the part number or the number of parts is out of range, this is the first byte of the part number. If the number
+/// of letters is out of range, this is its first byte. `first` says how the keys of the form's first heading are
+/// written. For the first heading itself, `first` is `None`.
 #[tactic(auto, unfolding(crate::specs::FormHeading::heading_at))]
 pub fn heading_at(
     text: &[u8],
@@ -91,7 +91,7 @@ fn number_at(text: &[u8], index: usize) -> Result<Number, WrongByte>
     Ok(number)
 }
 
-/// A number of at most three digits, and the index after it; 0 if no digit stands at `index`.
+/// The number at `index`, read up to its third digit, and the index after it. If there is no digit, the number is 0.
 #[tactic(auto, unfolding(crate::specs::FormHeading::digits_at))]
 fn digits_at(text: &[u8], index: usize) -> Number
     requires { index ≤ length text.now }
@@ -144,7 +144,7 @@ fn heading_keys(text: &[u8], index: usize) -> KeyLine
     }
 }
 
-/// How the keys are written in the form's first heading: `first`, or `own` if `own` is from the first heading.
+/// How the keys of the form's first heading are written: `first`, or `own` if `first` is `None`.
 fn keys_or(own: KeyLine, first: Option<KeyLine>) -> KeyLine
     ensures { result ≡ keys_or own first }
 {
@@ -154,7 +154,7 @@ fn keys_or(own: KeyLine, first: Option<KeyLine>) -> KeyLine
     }
 }
 
-/// The pattern of a heading line after the number of letters.
+/// The pattern of what follows the number of letters in a heading line.
 fn keys_pattern(keys: KeyLine) -> &'static [u8]
     ensures { result.now ≡ keys_pattern keys }
 {

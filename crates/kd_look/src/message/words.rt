@@ -125,7 +125,7 @@ fn push_kind(
     push_filled(words, template, &[name, machine])
 }
 
-/// Appends a line with a title and a number.
+/// Appends a line with a title and a number, such as `parts: 2`.
 #[tactic(auto, using(std::proofs::Common::append_assoc), unfolding(crate::specs::MessageWords::number_line))]
 fn push_number_line(words: &mut String, title: &str, number: usize) -> Result<(), AllocError>
     ensures { OnOk result (string_bytes words.new
