@@ -94,7 +94,7 @@ first_fault faults = option_map (λ fault. fault.1) (slice_get faults 0)
 
 -- ---- What inner functions answer. No public contract cites this definition.
 
--- the item number that a check gives with the fault `fault`; `None` if the check gives no number, or not this fault
+-- the number of the wrong list item, if `checked` has the fault `fault` and an item's number; otherwise `None`
 abbrev pub told_item : SheetFault → Result (Unit {0}) Slip → Option ℕ
 told_item fault (Err (slips.Fault found item words)) = if (fault_eq.ghosts).eq found fault then item else None
 told_item fault checked = None

@@ -80,7 +80,7 @@ table_faults earlier table =
     ++ after_model (at_key (day_place earlier table) keys.Model) (model_day_faults (day_place earlier table) table)
     (model_in table)
 
--- the faults of an entry; an entry that isn't a table has one fault; `earlier` has the items before this entry
+-- The faults of an entry. An entry that isn't a table has one fault. `earlier` has the items before this entry.
 abbrev pub entry_faults : List Data → Data → List (KeyPlace × SheetFault)
 entry_faults earlier item = option_map_or (table_faults earlier) (as_table item)
     ((in_entry (length earlier + 1) None keys.Day, BadValue keys.Day) ∷ [])

@@ -39,8 +39,8 @@ pub const CABLE_ORDER: Text = (
 /// The words for a refused value, if no check explains the refusal.
 pub const REFUSED: Text = ("the desk refuses the value", "desk lehnt den Wert ab");
 
-/// A key sheet has a wrong type in place of its list of days. The next text is for a wrong type in place of an entry.
-/// The value is the wrong type, in words.
+/// A value of the wrong type stands in place of a key sheet's list of days. The next text is for a value in place of an
+/// entry. The sign `~` stands for the type, in words.
 pub const DAYS_NEEDED: Text = (
     "~ stands where a list of days is needed: write `[[day]]` above the lines of each day",
     "~ steht, wo eine Liste von Tagen stehen muss: `[[day]]` über die Zeilen jedes Tages schreiben",
