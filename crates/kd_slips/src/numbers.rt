@@ -23,7 +23,7 @@ pub fn number_at(wording: Wording, table: &Table, key: Key, last: u8) -> Result<
     )
 }
 
-/// `value` as a whole number from 1 to `last`; for any other value, a slip with the fault `fault`.
+/// `value` as a whole number from 1 to `last`, or a slip with the fault `fault` if it isn't one.
 pub fn number_of(wording: Wording, value: &Value, fault: SheetFault, last: u8) -> Result<u8, Slip>
     ensures value { IfOk result (λ number. number_up_to last (view value.now) ≡ Some number) }
     ensures refused { OnErr result (number_up_to last (view value.now) ≡ None) }

@@ -90,7 +90,7 @@ pub const NO_CAPITAL: Text = (
     "~ hat ein Zeichen, das kein Großbuchstabe von A bis Z ist",
 );
 
-/// A text has one letter, and needs more. The next template is for every other wrong number of letters. The values are
+/// A text has one letter, and needs more. The next template is for any other wrong number of letters. The values are
 /// the text, its length, the number of letters that are needed, and what these letters stand for.
 pub const ONE_LETTER: Text = (
     "~ has ~ letter, and ~ are needed~",
@@ -102,8 +102,8 @@ pub const OTHER_LETTERS: Text = (
     "~ hat ~ Buchstaben, nötig sind ~~",
 );
 
-/// What the letters of a text stand for: this text for list letters, which is empty, and the texts after it up to
-/// `FOR_A_GROUP`. The value of `FOR_EACH_IN_BOX` is the wheels of the box, in words.
+/// What the letters of a text stand for: this text, and the texts after it up to `FOR_A_GROUP`. This text is for list
+/// letters, and is empty. The value of `FOR_EACH_IN_BOX` is the wheels of the box, in words.
 pub const FOR_THE_LIST: Text = ("", "");
 
 pub const FOR_EACH_SLOT: Text = (", one for each slot", ", einer für jeden Platz");
@@ -251,7 +251,7 @@ pub const MANY_ENDS: Text = (
 );
 
 /// A day has fewer pairs, or fewer groups, than another day. The values are the day, its pairs or groups in words, the
-/// other day, and the number of this day's pairs or groups.
+/// other day, and the other day's number of pairs or groups.
 pub const FEW: Text = (
     "day ~ has ~, and day ~ has ~\n",
     "Tag ~ hat ~, und Tag ~ hat ~\n",

@@ -68,7 +68,7 @@ pub fn text_at(wording: Wording, table: &Table, key: Key) -> Result<&str, Slip>
     }
 }
 
-/// The text of `item`; if `item` isn't a text, a slip with the fault `fault`. `number` is the item's number in its
+/// The text of `item`, or a slip with the fault `fault` if `item` isn't a text. `number` is the item's number in its
 /// list.
 pub fn item_text(
     wording: Wording,
@@ -120,7 +120,9 @@ pub fn items_at(wording: Wording, table: &Table, key: Key) -> Result<&[Value], S
     items_of(wording, value_at(wording, table, key)?, key)
 }
 
-/// Checks that `len`, a list's number of items, is `count`. If it isn't, the refusal's words are the template `text`.
+/// Checks that `len`, a list's number of items, is `count`.
+///
+/// If it isn't, the template `text` gives the refusal's words.
 pub fn check_count(
     wording: Wording,
     key: Key,
@@ -141,8 +143,9 @@ pub fn check_count(
     )
 }
 
-/// Checks that `len`, a list's number of items, is at most `most`. If it isn't, the refusal's words are the template
-/// `text`.
+/// Checks that `len`, a list's number of items, is at most `most`.
+///
+/// If it isn't, the template `text` gives the refusal's words.
 pub fn check_at_most(
     wording: Wording,
     key: Key,
