@@ -68,7 +68,7 @@ unfoldable pub group_day_line : Language → GroupSearch → ℕ → List ℕ �
 group_day_line l search part group day =
     filled (text_in l texts.GROUP_DAY) (search.name ∷ decimal part ∷ group ∷ decimal day ∷ search.sheet ∷ [])
 
--- the warning that no day of the sheet suits the message and the group of part `part`; `group` is the group in capital
+-- the warning that no day for the message's machine has the group of part `part`; `group` is the group in capital
 -- letters
 unfoldable pub no_group_line : Language → GroupSearch → ℕ → List ℕ → List ℕ
 no_group_line l search part group =

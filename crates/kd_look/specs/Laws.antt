@@ -90,8 +90,8 @@ OrderFaultsAreThoseOfSend =
     → HasKeyLineForm s form → order_answer order form ≡ Err found → IsOrderAnswer s order answer
     → (answer ≡ Err found.fault) ⊎ IsRefusedByDay s order answer
 
--- If `look` finds no fault in an order, `send` makes a form of the order, or refuses the order with
--- a fault that only the day shows.
+-- If `look` finds no fault in an order, `send` makes a form of the order. It may instead refuse the order with a fault
+-- that only the day shows.
 abbrev pub FaultlessOrdersAreSent : Type 0
 FaultlessOrdersAreSent =
     (s : Day) (form : KeyLine) (order : List ℕ) (start : ℕ) (answer : Result (List ℕ) FormFault)
@@ -155,8 +155,8 @@ FormFaultsAreThoseOfReceive =
     → form_answer form ≡ Err found → IsFormAnswer s form answer
     → (answer ≡ Err found.fault) ⊎ IsRefusedForLetters s form answer
 
--- If `look` finds no fault in a form, `receive` reads the form, or refuses it with a fault of a
--- part's letters.
+-- If `look` finds no fault in a form, `receive` reads the form. It may instead refuse the form with a fault of a part's
+-- letters.
 abbrev pub FaultlessFormsAreReceived : Type 0
 FaultlessFormsAreReceived =
     (s : Day) (form : List ℕ) (first : FormHeading) (answer : Result (List ℕ) FormFault) → IsDayOfForm s form
@@ -203,12 +203,12 @@ FormsAreSeenWithoutLetters =
 
 -- ---- The machine that a message is for.
 
--- If `send` makes a form of an order, `look` takes the order for the day's machine.
+-- If `send` makes a form of an order, `look` finds that the order is for the day's machine.
 abbrev pub OrdersAreForTheirMachine : Type 0
 OrdersAreForTheirMachine =
     (s : Day) (order form : List ℕ) → IsLegalDay s → IsFormOf s order form → HasKeyLineForm s (key_line_of order)
 
--- If `receive` reads a form, the form's first heading shows the day's machine. `look` takes the form for this machine.
+-- If `receive` reads a form, the form's first heading shows the day's machine, and `look` finds this machine.
 abbrev pub FormsAreForTheirMachine : Type 0
 FormsAreForTheirMachine =
     (s : Day) (form text : List ℕ) → IsLegalDay s → IsTextOf s form text
@@ -216,11 +216,11 @@ FormsAreForTheirMachine =
 
 -- ---- The kind of a message: an order, or a form.
 
--- `look` takes a text for a form exactly if the text begins as a heading line does.
+-- `look` finds that a text is a form exactly if the text begins as a heading line does.
 abbrev pub FormsBeginWithHeadings : Type 0
 FormsBeginWithHeadings = (text : List ℕ) → (is_message text && is_form text) ≡ begins_heading text
 
--- If `send` makes a form of an order, `look` takes the order for an order.
+-- If `send` makes a form of an order, `look` finds that the order is an order.
 abbrev pub OrdersAreNoForms : Type 0
 OrdersAreNoForms =
     (s : Day) (order form : List ℕ) → IsFormOf s order form → (is_message order ≡ true) × (is_form order ≡ false)

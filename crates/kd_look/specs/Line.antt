@@ -1,6 +1,7 @@
--- The number of the line in which a value of a file stands. To find it, the file is cut off after its first line, then
--- after its second line, and so on, until the cut file is a document with the value. A missing array `day` gets the
--- line of the file's first key. Code: the document is parsed up to the end of each line in turn, once for all faults.
+-- The number of the line in which a value of a file stands. To find it, the file is cut off after each of its lines in
+-- turn. The value's line is the first one after which the cut file is a document with the value. A missing array `day`
+-- gets the line of the file's first key. Code: the document is parsed up to the end of each line in turn, once for all
+-- faults.
 -- Test: tests/cases/curator-look.toml
 use Rattle.std.specs.Prelude.{ℕ, ◌+◌, ◌==◌, ◌||◌, ◌&&◌, nat_lt, Bool, true, false, List, find, length, take, count_by}
 use Rattle.std.specs.Prelude.{slice_index, Option, Some, None, is_some, option_map, if◌then◌else◌}
@@ -50,7 +51,7 @@ reads_value sought text = option_map_or (has_value sought) (result_ok (document_
 abbrev pub ends_line : List ℕ → ℕ → Bool
 ends_line text index = slice_index text index == 10 || index + 1 == length text
 
--- Whether a line ends after the byte at `index`, and the text up to this byte is a document with the entry or key
+-- Whether a line ends after the byte at `index`, and `text` up to this byte is a document with the entry or key
 -- `sought`.
 unfoldable pub has_value_at : List ℕ → Sought → ℕ → Bool
 has_value_at text sought index = ends_line text index && reads_value sought (take (index + 1) text)

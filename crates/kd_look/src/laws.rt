@@ -60,15 +60,15 @@ pub fn forms_are_judged_without_their_letters()
 
 /// This crate says rightly which machine a message is for.
 ///
-/// It is the machine of the day on which `send` makes a form of the order, or `receive` reads the form.
+/// If `send` makes a form of the order, or `receive` reads the form, this is the machine of the day that they use.
 pub fn messages_are_taken_for_their_machine()
     ensures orders { OrdersAreForTheirMachine }
     ensures forms { FormsAreForTheirMachine }
 {}
 
-/// This crate takes a text for a form exactly if the text begins as a heading line does.
+/// This crate tells forms from orders: a form is a text that begins as a heading line does.
 ///
-/// If `send` makes a form of an order, this crate takes the order for an order.
+/// If `send` makes a form of an order, this crate finds that the order is an order.
 pub fn messages_are_taken_for_their_kind()
     ensures forms { FormsBeginWithHeadings }
     ensures orders { OrdersAreNoForms }

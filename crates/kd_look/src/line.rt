@@ -34,8 +34,8 @@ enum Sought {
 
 /// The line number of each of `findings`. `None` if the line can't be found, or `text` is too long.
 ///
-/// To find the line, `text` is cut off after its first line, then after its second line, and so on, until the cut text
-/// is a document with the entry or key that is sought for the finding.
+/// To find the line, `text` is cut off after each of its lines in turn. The finding's line is the first one after which
+/// the cut text is a document with the entry or key that is sought for the finding.
 pub fn lines_of(
     alloc: Global,
     text: &[u8],
