@@ -77,8 +77,8 @@ unread_in_entries items = flat_map (λ number. option_map_or (unread_in_entry nu
     (range_with_len 1 (length items))
 
 -- The known keys of a document without the array `day`. In a machine file, the keys of the file's model are known. In
--- any other document, the keys of all machine files and of all days are known. It may be a key sheet that lacks its
--- first line `[[day]]`, and so has a day's keys at the top.
+-- any other document, the keys of all machine files and of all days are known. Such a document may be a key sheet that
+-- lacks its first line `[[day]]`, and so has a day's keys at the top.
 abbrev pub top_keys : Members → List Key
 top_keys document = if is_machine_file document then file_keys (result_ok (model_in document))
     else rotor_file_keys ++ pin_file_keys ++ rotor_day_keys ++ pin_day_keys

@@ -21,8 +21,7 @@ pub struct Finding {
 /// What is wrong with a value.
 #[derive(Drop)]
 pub struct Explanation {
-    /// The number of the wrong item in the list at the key, counted from 1. `None` if the words are about the whole
-    /// value.
+    /// The number of the list item that is wrong, counted from 1. `None` if the words are about the whole value.
     pub item: Option<usize>,
     pub words: String,
 }
