@@ -1,4 +1,4 @@
--- The languages of texts. A text with words is a pair: the English text and the German text.
+-- The languages in which texts are written. A text with words is a pair: the English text and the German text.
 use Rattle.std.specs.Prelude.{ℕ, List}
 use Rattle.kd_language.specs.declared.language.Language.{Language}
 use Rattle.kd_language.specs.declared.language.Language.TheVariants.{English, German}

@@ -1,11 +1,11 @@
-//! `Language`: the languages of texts.
+//! `Language`: English or German, the languages in which texts are written.
 ghost use Rattle.std.specs.Prelude.{◌≡◌};
 ghost use Rattle.kd_language.specs.Language.{in_language};
 
 /// A text in English and in German.
 pub type Text = (&'static str, &'static str);
 
-/// A language of texts.
+/// The language in which a text is written.
 #[derive(Clone, Copy, Debug, PartialEq, Eq)]
 pub enum Language {
     English,
