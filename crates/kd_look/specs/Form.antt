@@ -30,7 +30,7 @@ heading_reason mark = if mark == 35 then reasons.HeadingNumber
     else if mark == 32 then reasons.HeadingSpace
     else reasons.LineGoesOn
 
--- the fault of a wrong byte of the heading of part `number`
+-- the fault for a wrong byte in the heading of part `number`
 abbrev pub heading_fault : ℕ → WrongByte → MessageFault
 heading_fault number wrong =
     record { index = wrong.index; fault = BadHeading number; reason = heading_reason wrong.mark }

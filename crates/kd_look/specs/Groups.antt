@@ -26,7 +26,7 @@ pub record KnownMessage : Type 0 where
   pub keys : KeyLine
   pub groups : List (List ℕ)
 
--- the letters of a text, without the signs between them
+-- the capital letters of a text, where A is 0; other signs are left out
 abbrev pub letters_of : List ℕ → List ℕ
 letters_of text = map (λ byte. byte - 65) (filter is_capital text)
 

@@ -31,7 +31,7 @@ reason_for text form wrong =
     else if wrong.mark == 10 then reasons.LineGoesOn
     else reasons.LineStart
 
--- the fault of a wrong byte of the head
+-- the fault for a wrong byte in the order's head
 abbrev pub head_fault : List ℕ → KeyLine → WrongByte → MessageFault
 head_fault text form wrong =
     record { index = wrong.index; fault = BadByte (wrong.index + 1); reason = reason_for text form wrong }
@@ -74,7 +74,7 @@ gives_letter form byte = is_capital byte
 abbrev pub letter_count : List ℕ → KeyLine → ℕ → ℕ
 letter_count text form start = count_by (gives_letter form) (drop start text)
 
--- the greatest number of letters of text that a part can have
+-- how many letters of the order's text a part can have at most
 abbrev pub part_letters : KeyLine → ℕ
 part_letters lines.Converter = 500
 part_letters form = 245

@@ -154,7 +154,7 @@ fn has_due_numbers(first: Option<FormHeading>, number: u8, heading: FormHeading)
         }
 }
 
-/// The fault of a wrong byte of the heading of part `number`.
+/// The fault for a wrong byte in the heading of part `number`.
 fn heading_fault(number: u8, wrong: WrongByte) -> MessageFault
     ensures { result ≡ heading_fault number wrong }
 {

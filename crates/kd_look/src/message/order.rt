@@ -45,7 +45,7 @@ fn text_start(text: &[u8], form: KeyLine) -> Result<usize, MessageFault>
     }
 }
 
-/// The fault of a wrong byte of the head.
+/// The fault for a wrong byte in the order's head.
 fn head_fault(text: &[u8], form: KeyLine, wrong: WrongByte) -> MessageFault
     requires { wrong.index ≤ length text.now }
     ensures { result ≡ head_fault text.now form wrong }
@@ -193,7 +193,7 @@ fn gives_letter(form: KeyLine, byte: u8) -> bool
     }
 }
 
-/// The greatest number of letters of text that a part can have.
+/// How many letters of the order's text a part can have at most.
 fn part_letters(form: KeyLine) -> usize
     ensures { result ≡ part_letters form }
 {
