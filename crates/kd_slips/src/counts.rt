@@ -90,7 +90,7 @@ fn push_few(
     }
 }
 
-/// The first day in `rest` that has more pairs than `day`, if no day in `days` has more pairs than it.
+/// The first day in `rest` that has more pairs than `day`, and at least as many as each day in `days`.
 ///
 /// If `counted` is `Groups`, groups are compared instead. Only days of the same model are compared.
 fn find_most(

@@ -47,7 +47,7 @@ fn quoted_words(wording: Wording, text: &str) -> Result<String, AllocError> {
     wording.fill(QUOTED_NUMBER, &[text_shown.as_str()])
 }
 
-/// Why `value` is refused: it is neither a text nor a number, and a number is needed.
+/// Why `value` is refused: it is neither a text nor a whole number, and a number is needed.
 fn no_number_words(wording: Wording, value: &Value) -> Result<String, AllocError> {
     wording.fill(NUMBER_NEEDED, &[kind_of(wording.language, value)])
 }
