@@ -101,7 +101,7 @@ sheet_lines l name message sheet = option_map_or (λ month.
     parts_lines l (record { name = name; keys = message.keys; sheet = sheet.name; month = month }) 1 message.groups)
     (month_in sheet.file) []
 
--- the lines that say which days of the key sheets have the groups of the file `read`; empty if `read` isn't a message
+-- the lines that say which days of the key sheets have the groups of `read`; empty if `read` isn't a faultless message
 abbrev pub message_lines : Language → List KnownFile → KnownFile → List ℕ
 message_lines l all read = option_map_or (λ message. flat_map (sheet_lines l read.name message) all) read.message []
 

@@ -47,7 +47,7 @@ pub fn group_day_lines(wording: Wording, files: &[ReadFile<'_>]) -> Result<Strin
 
 /// Appends the lines that say which days of the key sheets in `files` have the groups of `file`.
 ///
-/// Appends nothing if `file` isn't an order or a form.
+/// Appends nothing if `file` isn't a faultless order or form.
 fn push_message(
     lines: &mut String,
     wording: Wording,

@@ -66,7 +66,8 @@ pub const MARK: Text = (
 /// The words after a file's name in a warning about two days. In English, an `s` follows: `days 3 and 5`.
 pub const DAY_WARNING: Text = (": warning: day", ": Warnung: Tag");
 
-/// The end of the warning about two equal days, after `DAY_WARNING`. The values are the days' numbers.
+/// The end of the warning that two days differ only in their numbers, after `DAY_WARNING`. The values are these
+/// numbers.
 pub const ALIKE: Text = (
     "s ~ and ~ are alike but for the number",
     " ~ und Tag ~ sind bis auf die Nummer gleich",
