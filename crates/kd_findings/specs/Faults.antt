@@ -1,5 +1,5 @@
 -- The faults of a machine file: one for each key whose value the desk refuses. The keys come in the order in which the
--- desk tests them. The desk stops at a file's first fault; here, each key is judged separately.
+-- desk tests them. The desk itself stops at a file's first fault. Here, each key is judged separately.
 -- Test: tests/cases/curator-look.toml
 use Rattle.std.specs.Prelude.{ℕ, nat_le, true, List, [], ◌∷◌, ◌++◌, length, map, slice_get, Option, None, Result, Ok, Err}
 use Rattle.std.specs.Prelude.{if◌then◌else◌}
@@ -31,11 +31,11 @@ use Rattle.kd_findings.specs.declared.key_place.KeyPlace.{KeyPlace}
 abbrev pub in_file : Key → KeyPlace
 in_file key = record { entry = None; day = None; key = key }
 
--- The place of `key` in the entry of `place`. If `place` has no entry, `key` is at the top of the file.
+-- The place of the key `key` in the same entry as `place`. If `place` has no entry, `key` is at the top of the file.
 abbrev pub at_key : KeyPlace → Key → KeyPlace
 at_key place key = record place { key = key }
 
--- a list with only `fault` and its place `place`; empty if there is no fault
+-- the fault with its place, as a list with one item; empty if there is no fault
 abbrev pub at_place : KeyPlace → Option SheetFault → List (KeyPlace × SheetFault)
 at_place place fault = option_to_list (option_map (λ one. (place, one)) fault)
 
@@ -43,12 +43,13 @@ at_place place fault = option_to_list (option_map (λ one. (place, one)) fault)
 abbrev pub fault_at : {A : Type 0} → KeyPlace → Result A SheetFault → List (KeyPlace × SheetFault)
 fault_at place reading = at_place place (result_err reading)
 
--- the fault at the key `model`; if the model can be read, the faults at the keys that this model needs
+-- The faults at the key `model` and at the keys that depend on the model. If the model is refused, its fault is the
+-- only one. Otherwise `faults` gives the faults at the other keys.
 abbrev pub after_model : KeyPlace → (Model → List (KeyPlace × SheetFault)) → Result Model SheetFault → List (KeyPlace × SheetFault)
 after_model place faults (Ok model) = faults model
 after_model place faults (Err fault) = (place, fault) ∷ []
 
--- the faults of a rotor machine's file, at the file's keys after its key `model`
+-- the faults of a rotor machine's file, at all its keys except `version` and `model`
 unfoldable pub rotor_file_faults : Model → Members → List (KeyPlace × SheetFault)
 rotor_file_faults model table =
     fault_at (in_file keys.Reflector) (reflector_in model table)
@@ -57,7 +58,7 @@ rotor_file_faults model table =
     ++ (fault_at (in_file keys.Letters) (letters_at keys.Letters (length (box_of model)) table)
     ++ fault_at (in_file keys.Cables) (cables_in table))))
 
--- the faults of a Converter's file, at the file's keys after its key `model`
+-- the faults of a Converter's file, at all its keys except `version` and `model`
 unfoldable pub pin_file_faults : Members → List (KeyPlace × SheetFault)
 pin_file_faults table =
     fault_at (in_file keys.Letters) (shown_letters_in keys.Letters table)
@@ -83,7 +84,7 @@ machine_faults table =
     fault_at (in_file keys.Version) (version_in table)
     ++ after_model (in_file keys.Model) (model_file_faults table) (file_model table)
 
--- the faults in findings, each with its place
+-- the faults of a list of findings, each with its place
 abbrev pub faults_of : List Finding → List (KeyPlace × SheetFault)
 faults_of findings = map (λ finding. (finding.place, finding.fault)) findings
 
@@ -93,7 +94,7 @@ first_fault faults = option_map (λ fault. fault.1) (slice_get faults 0)
 
 -- ---- What inner functions answer. No public contract cites this definition.
 
--- the number of the list item in which a check found `fault`; `None` if the check found `fault` in no item
+-- the number of the wrong list item, if `checked` has the fault `fault` and an item's number; otherwise `None`
 abbrev pub told_item : SheetFault → Result (Unit {0}) Slip → Option ℕ
 told_item fault (Err (slips.Fault found item words)) = if (fault_eq.ghosts).eq found fault then item else None
 told_item fault checked = None

@@ -1,10 +1,12 @@
--- Which documents are machine files, and which are key sheets. Their keys at the top decide, not the file's name.
+-- Which documents are machine files, and which are key sheets. Their keys at the top decide, not the file's name. The
+-- first rule that fits is the one that holds:
 --
 -- - A document with the array `day` is a key sheet.
--- - Without this array, a document with `version`, or with `model` and without `day`, is a machine file.
--- - Any other document with `day` is a key sheet whose `day` has the wrong type, such as `[day]`.
--- - A document without the keys `day`, `version` and `model` may be either. It may be a key sheet without its lines
---   `[[day]]`, or a machine file without `version` and `model`. `look` says that it can't tell which.
+-- - A document with the key `version` is a machine file.
+-- - A document with the key `day` is a key sheet. Its `day` has the wrong type, such as `[day]`.
+-- - A document with the key `model` is a machine file.
+-- - Any other document may be either. It may be a key sheet without its lines `[[day]]`, or a machine file without
+--   `version` and `model`. `look` says that it can't tell which.
 --
 -- Source: `docs/FORMATS.md`. Test: tests/cases/curator-look.toml
 use Rattle.std.specs.Prelude.{◌&&◌, ◌||◌, Bool, not, is_some, List, Option}

@@ -16,7 +16,7 @@ line_at text index = count_by (λ byte. byte == 10) (take index text) + 1
 abbrev pub begins_character : ℕ → Bool
 begins_character byte = nat_lt byte 128 || nat_lt 191 byte
 
--- how many characters begin in the bytes up to the first line feed
+-- how many characters begin before the first line feed
 abbrev pub characters_to_feed : List ℕ → ℕ
 characters_to_feed [] = 0
 characters_to_feed (byte ∷ rest) = if byte == 10 then 0
@@ -37,8 +37,8 @@ pub record NamesPlace (l : Language) (text : List ℕ) (start : ℕ) (words : Li
   pub plain : IsInOneLine reason
   pub whole : words ≡ place_words l (line_at text start) (column_at text start) reason
 
--- `words` tell the line and the column of a byte of `text`, or of the text's end. Then `words` tell a reason in one
--- line.
+-- `words` give a line and a column of `text`, and then a reason in one line. The line and the column are those of a
+-- byte, or of the text's end.
 pub record SaysNotToml (l : Language) (text words : List ℕ) : Type 0 where
   pub start : ℕ
   pub within : start ≤ length text

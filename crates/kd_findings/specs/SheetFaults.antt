@@ -1,6 +1,6 @@
 -- The faults of a key sheet: one for each key whose value the desk refuses. The entries come in the order of the file.
--- The keys of an entry come in the order in which the desk tests them. The desk stops at a sheet's first fault; here,
--- the later entries are judged, too.
+-- The keys of an entry come in the order in which the desk tests them. The desk itself stops at a sheet's first fault.
+-- Here, the later entries are judged, too.
 -- Test: tests/cases/curator-look.toml
 use Rattle.std.specs.Prelude.{◌≡◌, ◌⊎◌, ℕ, ◌+◌, ◌≤◌, ◌==◌, Bool, false, not, List, [], ◌∷◌, ◌++◌, length, take}
 use Rattle.std.specs.Prelude.{Option, Some, None, Result, Ok, true, if◌then◌else◌}
@@ -41,14 +41,14 @@ abbrev pub has_number : ℕ → Data → Bool
 has_number number item =
     option_map_or (λ day. day == number) (option_and_then (λ table. result_ok (number_in table)) (as_table item)) false
 
--- The day of an entry, or the fault of the key `day`. A day that an earlier entry already has is a fault, too.
+-- The day of an entry, or the fault of the key `day`. If an earlier entry has the same day, this is a fault, too.
 unfoldable pub new_day : List Data → Members → Result ℕ SheetFault
 new_day earlier table = do
   number ← number_in table
   demand (not (list_any (has_number number) earlier)) (DayTwice number)
   Ok number
 
--- the faults of a rotor machine's day, at the file's keys after its key `model`
+-- the faults of an entry for a rotor machine, at all its keys except `day` and `model`
 unfoldable pub rotor_day_faults : KeyPlace → Model → Members → List (KeyPlace × SheetFault)
 rotor_day_faults place model table =
     fault_at (at_key place keys.Reflector) (reflector_in model table)
@@ -57,7 +57,7 @@ rotor_day_faults place model table =
     ++ (fault_at (at_key place keys.Window) (letters_at keys.Window (slots_of model) table)
     ++ (fault_at (at_key place keys.Plugs) (pairs_in table) ++ fault_at (at_key place keys.Groups) (groups_in table)))))
 
--- the faults of a Converter's day, at the file's keys after its key `model`
+-- the faults of an entry for a Converter, at all its keys except `day` and `model`
 unfoldable pub pin_day_faults : KeyPlace → Members → List (KeyPlace × SheetFault)
 pin_day_faults place table =
     fault_at (at_key place keys.Rows) (rows_in table)
@@ -69,23 +69,23 @@ abbrev pub model_day_faults : KeyPlace → Members → Model → List (KeyPlace 
 model_day_faults place table model =
     by_family (rotor_day_faults place model table) (pin_day_faults place table) (family_of model)
 
--- the place of the key `day` in an entry; `earlier` has all items of the array `day` before this entry
+-- the place of an entry's key `day`; `earlier` has the items before this entry in the sheet's list of entries
 abbrev pub day_place : List Data → Members → KeyPlace
 day_place earlier table = in_entry (length earlier + 1) (result_ok (number_in table)) keys.Day
 
--- the faults of an entry that is a table
+-- the faults of an entry that is a table; `earlier` has the items before this entry
 unfoldable pub table_faults : List Data → Members → List (KeyPlace × SheetFault)
 table_faults earlier table =
     fault_at (day_place earlier table) (new_day earlier table)
     ++ after_model (at_key (day_place earlier table) keys.Model) (model_day_faults (day_place earlier table) table)
     (model_in table)
 
--- the faults of an entry; `earlier` has all items of the array `day` before this entry
+-- The faults of an entry. An entry that isn't a table has one fault. `earlier` has the items before this entry.
 abbrev pub entry_faults : List Data → Data → List (KeyPlace × SheetFault)
 entry_faults earlier item = option_map_or (table_faults earlier) (as_table item)
     ((in_entry (length earlier + 1) None keys.Day, BadValue keys.Day) ∷ [])
 
--- the faults of the entries in a list; `earlier` has the items before these entries
+-- the faults of all entries in a list; `earlier` has the items before this list
 abbrev pub faults_after : List Data → List Data → List (KeyPlace × SheetFault)
 faults_after earlier [] = []
 faults_after earlier (item ∷ rest) = entry_faults earlier item ++ faults_after (earlier ++ item ∷ []) rest
@@ -102,15 +102,14 @@ pub record AreSheetFaults (items : List Data) (faults : List (KeyPlace × SheetF
 abbrev pub day_fault : Members → SheetFault
 day_fault document = if is_given keys.Day document then BadValue keys.Day else Missing keys.Day
 
--- `faults` are the faults of `document`. The truth value says whether the document is a machine file. `items` are the
--- items of the document's array `day`, if there is one.
+-- `faults` are the faults of `document`. The first argument says whether the document is a machine file. `items` are
+-- the items of the document's array `day`, if there is one.
 abbrev pub AreFaultsOf : Bool → Option (List Data) → Members → List (KeyPlace × SheetFault) → Type 0
 AreFaultsOf true entries document faults = faults ≡ machine_faults document
 AreFaultsOf false (Some items) document faults = AreSheetFaults items faults
 AreFaultsOf false None document faults = faults ≡ (in_file keys.Day, day_fault document) ∷ []
 
--- `faults` are the faults of `document`: a machine file, a key sheet with entries, or another document without the
--- array `day`.
+-- `faults` are the faults of `document`. A document that isn't a machine file is judged as a key sheet.
 abbrev pub AreFaults : Members → List (KeyPlace × SheetFault) → Type 0
 AreFaults document faults = AreFaultsOf (is_machine_file document) (entries_of document) document faults
 

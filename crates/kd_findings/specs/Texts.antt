@@ -5,7 +5,7 @@ use Rattle.kd_language.specs.declared.language.Language.{Language}
 use Rattle.kd_language.specs.Language.{text_in}
 use Rattle.kd_findings.specs.declared.texts.TheConstants.{DAY, ENTRY}
 
--- The text begins with a piece that satisfies `First`. The rest satisfies `Others`.
+-- The text has two parts. The first part satisfies `First`, and the other part satisfies `Others`.
 pub record BeginsWith (First Others : List ℕ → Type 0) (text : List ℕ) : Type 0 where
   pub piece : List ℕ
   pub others : List ℕ
@@ -13,7 +13,8 @@ pub record BeginsWith (First Others : List ℕ → Type 0) (text : List ℕ) : T
   pub after : Others others
   pub whole : text ≡ piece ++ others
 
--- The text has a piece for each item of a list, in the order of the items. `IsPiece` relates an item to its piece.
+-- The text has a piece for each item of a list, in the order of the items. `IsPiece` says which texts can be an item's
+-- piece.
 abbrev pub ArePieces : {A : Type 0} → (A → List ℕ → Type 0) → List A → List ℕ → Type 0
 ArePieces IsPiece [] text = text ≡ []
 ArePieces IsPiece (first ∷ rest) text = BeginsWith (IsPiece first) (λ others. ArePieces IsPiece rest others) text

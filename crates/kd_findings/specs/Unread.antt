@@ -33,7 +33,7 @@ rotor_file_keys =
 abbrev pub pin_file_keys : List Key
 pin_file_keys = keys.Version ∷ keys.Model ∷ keys.Letters ∷ keys.Pins ∷ keys.Bars ∷ []
 
--- the keys of a machine file of this model; if the model isn't known, the keys of all machine files
+-- the keys of machine files for a model; if the model isn't known, the keys of all machine files
 abbrev pub file_keys : Option Model → List Key
 file_keys (Some model) = by_family rotor_file_keys pin_file_keys (family_of model)
 file_keys None = rotor_file_keys ++ pin_file_keys
@@ -47,7 +47,7 @@ rotor_day_keys =
 abbrev pub pin_day_keys : List Key
 pin_day_keys = keys.Day ∷ keys.Model ∷ keys.Rows ∷ keys.Pins ∷ keys.Window ∷ keys.List ∷ []
 
--- the keys of an entry of this model; if the model isn't known, the keys of all entries
+-- the keys of entries for a model; if the model isn't known, the keys of all entries
 abbrev pub day_keys : Option Model → List Key
 day_keys (Some model) = by_family rotor_day_keys pin_day_keys (family_of model)
 day_keys None = rotor_day_keys ++ pin_day_keys
@@ -61,8 +61,7 @@ abbrev pub names_in : Members → List (List ℕ)
 names_in no_members = []
 names_in (member name value rest) = name ∷ names_in rest
 
--- the keys of `table` that aren't among the keys `known`, each with the number `entry` and the day `day` of the table's
--- entry
+-- the keys of `table` that aren't among the keys `known`; `entry` is the number of the table's entry, and `day` its day
 unfoldable pub unread_in : Option ℕ → Option ℕ → List Key → Members → List UnreadKey
 unread_in entry day known table = map (λ name. record { entry = entry; day = day; name = name })
     (filter (λ name. not (is_name_of known name)) (names_in table))
@@ -78,8 +77,8 @@ unread_in_entries items = flat_map (λ number. option_map_or (unread_in_entry nu
     (range_with_len 1 (length items))
 
 -- The known keys of a document without the array `day`. In a machine file, the keys of the file's model are known. In
--- any other document, the keys of all machine files and of all days are known. A key sheet without its first line
--- `[[day]]` has a day's keys at the top.
+-- any other document, the keys of all machine files and of all days are known. Such a document may be a key sheet that
+-- lacks its first line `[[day]]`, and so has a day's keys at the top.
 abbrev pub top_keys : Members → List Key
 top_keys document = if is_machine_file document then file_keys (result_ok (model_in document))
     else rotor_file_keys ++ pin_file_keys ++ rotor_day_keys ++ pin_day_keys

@@ -59,7 +59,7 @@ unfoldable pub cable_lines : Language → List ℕ → Members → List ℕ
 cable_lines l name document = option_map_or (flat_map (cable_line l name))
     (option_and_then as_items (get_member (key_name keys.Cables) document)) []
 
--- the warnings about the cables of a machine of this model; a Converter has none
+-- the warnings about the cables in a machine file for this model; a Converter has no cables
 abbrev pub model_lines : Language → List ℕ → Members → Model → List ℕ
 model_lines l name document model = by_family (cable_lines l name document) [] (family_of model)
 

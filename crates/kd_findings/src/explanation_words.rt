@@ -7,7 +7,7 @@ use crate::findings::Explanation;
 use crate::words::push_item;
 use std::alloc::{AllocError, Global};
 
-/// The words after a fault's key: the number of the wrong item, if it is known, and what is wrong.
+/// The words after the key's name in a fault's line: the number of the wrong item, if it is known, and what is wrong.
 #[tactic(auto, using(std::proofs::Common::append_assoc))]
 pub fn wrong_words(alloc: Global, explanation: &Explanation) -> Result<String, AllocError>
     ensures { IfOk result (λ words. string_bytes words

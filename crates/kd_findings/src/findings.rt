@@ -21,14 +21,13 @@ pub struct Finding {
 /// What is wrong with a value.
 #[derive(Drop)]
 pub struct Explanation {
-    /// The number of the wrong item in the list at the key, counted from 1. `None` if the words are about the whole
-    /// value.
+    /// The number of the list item that is wrong, counted from 1. `None` if the words are about the whole value.
     pub item: Option<usize>,
     pub words: String,
 }
 
-/// Appends `fault`, the fault of the value at `place`, if there is a fault. The words that explain the fault come from
-/// `checked`.
+/// Appends the fault of the value at `place`, if there is one. `checked` is the result of a check of this value. It has
+/// the words that explain the fault.
 pub fn note(
     list: &mut Vec<Finding>,
     wording: Wording,

@@ -105,7 +105,7 @@ fn day_fault(document: &Table) -> SheetFault
     }
 }
 
-/// Explains the refusal of a document that isn't a machine file, and has no array `day`.
+/// Says why a document that isn't a machine file, and has no array `day`, is refused.
 fn check_day(wording: Wording, document: &Table) -> Result<(), Slip> {
     match find_at(document, Key::Day) {
         Some(value) => refuse(

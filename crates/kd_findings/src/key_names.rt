@@ -41,7 +41,7 @@ pub fn meant_key(keys: &[Key], name: &str) -> Option<Key> {
     }
 }
 
-/// The key in `keys` for which the table `OTHER_NAMES` has the name `name`.
+/// The key of `keys` that stands beside the name `name` in the table `OTHER_NAMES`.
 fn named_elsewhere(keys: &[Key], name: &str) -> Option<Key> {
     for (other, key) in &OTHER_NAMES {
         if *other == name && keys.contains(key) {

@@ -38,7 +38,7 @@ impl KeyPlace {
         }
     }
 
-    /// The place of `key` in the entry of `self`. If `self` has no entry, `key` is at the top of the file.
+    /// The place of the key `key` in the same entry as `self`. If `self` has no entry, `key` is at the top of the file.
     pub fn at(self, key: Key) -> Self
         ensures { result ≡ at_key self key }
     {

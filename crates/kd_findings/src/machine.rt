@@ -47,8 +47,8 @@ pub fn machine_faults(wording: Wording, table: &Table) -> Result<Vec<Finding>, A
     Ok(list)
 }
 
-/// Appends the fault of a machine file's model. If the model can be read, appends the faults at the keys that this
-/// model needs.
+/// Appends the faults at a machine file's key `model` and at the keys that depend on the model. If the model is
+/// refused, appends only its fault.
 fn judge_model(list: &mut Vec<Finding>, wording: Wording, table: &Table) -> Result<(), AllocError>
     ensures { OnOk result (faults_of list.new.items ≡ faults_of list.old.items
         ++ after_model (in_file keys.Model) (model_file_faults (table_view table.now))
@@ -184,7 +184,7 @@ fn judge_converter(
     )
 }
 
-/// Explains the refusal of a machine file's model.
+/// Says why a machine file's model is refused.
 fn check_model(wording: Wording, table: &Table) -> Result<(), Slip> {
     model_at(wording, table)?;
     refuse(

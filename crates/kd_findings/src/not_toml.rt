@@ -60,7 +60,7 @@ fn words_at(wording: Wording, bytes: &[u8], error: &Error) -> Result<String, All
     place_words(wording, place, first_line(reason.as_str()))
 }
 
-/// The place after the bytes `before`.
+/// The line and the column after the bytes `before`.
 pub fn place_after(before: &[u8]) -> TextPlace
     ensures line { result.line ≡ count_by (λ byte. byte == 10) before.now + 1 }
     ensures column { result.column ≡ characters_to_feed (reverse before.now) + 1 }
@@ -85,7 +85,7 @@ fn begins_character(byte: u8) -> bool
     byte < 128 || 191 < byte
 }
 
-/// The words for the fault in line `line`. `message` is the parser's message.
+/// What is wrong in line `line` of `bytes`, in words. `message` is the parser's message.
 fn reason_for(
     wording: Wording,
     bytes: &[u8],

@@ -113,7 +113,7 @@ fn have_number(items: &[Value], number: u8) -> bool
     }
 }
 
-/// Explains the refusal of an entry's day. `earlier` are the items before the entry.
+/// Says why an entry's day is refused. `earlier` are the items before the entry.
 fn check_day(wording: Wording, earlier: &[Value], table: &Table) -> Result<(), Slip> {
     check_number(wording, table, Key::Day, DAYS)?;
     let Ok(day) = number_at(table, Key::Day, DAYS) else {
@@ -127,7 +127,7 @@ fn check_day(wording: Wording, earlier: &[Value], table: &Table) -> Result<(), S
     )
 }
 
-/// Why the day `day`, which the entries `before` and `entry` have, is refused.
+/// Why the day `day` is refused: entry `before` and entry `entry` are both for this day.
 fn day_twice_words(
     wording: Wording,
     day: u8,
@@ -172,8 +172,8 @@ fn has_number(item: &Value, number: u8) -> bool
     }
 }
 
-/// Appends the fault of an entry's model. If the model can be read, appends the faults at the keys that this model
-/// needs.
+/// Appends the faults at an entry's key `model` and at the keys that depend on the model. If the model is refused,
+/// appends only its fault.
 fn judge_model(
     list: &mut Vec<Finding>,
     wording: Wording,
@@ -202,7 +202,7 @@ fn judge_model(
     }
 }
 
-/// Appends the faults at the keys of a rotor machine's day, except `day` and `model`.
+/// Appends the faults at the keys of an entry for a rotor machine, except `day` and `model`.
 fn judge_rotors(
     list: &mut Vec<Finding>,
     wording: Wording,
@@ -249,7 +249,7 @@ fn judge_rotors(
     )
 }
 
-/// Appends the faults at the keys of a Converter's day, except `day` and `model`.
+/// Appends the faults at the keys of an entry for a Converter, except `day` and `model`.
 fn judge_converter(
     list: &mut Vec<Finding>,
     wording: Wording,
@@ -283,13 +283,13 @@ fn judge_converter(
     note(list, wording, place.at(Key::List), letters, checked)
 }
 
-/// Explains the refusal of an entry's model.
+/// Says why an entry's model is refused.
 fn check_model(wording: Wording, table: &Table) -> Result<(), Slip> {
     model_at(wording, table)?;
     Ok(())
 }
 
-/// Explains the refusal of an item of the array `day` that isn't a table.
+/// Says why an item of the array `day` that isn't a table is refused.
 fn refuse_entry(wording: Wording, item: &Value) -> Result<(), Slip> {
     refuse(
         SheetFault::BadValue(Key::Day),

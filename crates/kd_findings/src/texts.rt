@@ -2,7 +2,7 @@
 
 use kd_language::Text;
 
-/// What stands before the number of a day, an entry, a line or a column: this text, and the next three texts.
+/// The words before the number of a day. The next three texts stand before the number of an entry, a line and a column.
 pub const DAY: Text = (", day ", ", Tag ");
 
 pub const ENTRY: Text = (", entry ", ", Eintrag ");
@@ -20,7 +20,8 @@ pub const UNREAD: Text = (
     "~ ist ein Name, den niemand liest~\n",
 );
 
-/// The advice for an unread key: this text, or the next text. The value is a known key.
+/// The advice to write a known key in place of an unread key. The value is the known key. The next text is the advice
+/// to write `[[day]]`.
 pub const WRITE_KEY: Text = (": write `~`", ": `~` schreiben");
 
 pub const WRITE_ENTRIES: Text = (
@@ -38,7 +39,8 @@ pub const CABLE_ORDER: Text = (
 /// The words for a refused value, if no check explains the refusal.
 pub const REFUSED: Text = ("the desk refuses the value", "desk lehnt den Wert ab");
 
-/// A value has the wrong type: this text, and the next text. The value is the type, in words.
+/// A value of the wrong type stands in place of a key sheet's list of days. The next text is for a value in place of an
+/// entry. The sign `~` stands for the type, in words.
 pub const DAYS_NEEDED: Text = (
     "~ stands where a list of days is needed: write `[[day]]` above the lines of each day",
     "~ steht, wo eine Liste von Tagen stehen muss: `[[day]]` über die Zeilen jedes Tages schreiben",
@@ -59,7 +61,7 @@ pub const NEW_VERSION_NEEDED: Text = (
     "die Maschinendatei einer M4 braucht `version = 2`",
 );
 
-/// The values are the day, and two entries.
+/// Two entries are for the same day. The values are the day, and the numbers of the two entries.
 pub const DAY_TWICE: Text = (
     "day ~ stands in entry ~ and in entry ~",
     "Tag ~ steht in Eintrag ~ und in Eintrag ~",

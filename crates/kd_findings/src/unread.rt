@@ -114,8 +114,7 @@ static ANY_DAY: [Key; 14] = [
 /// A file's key that the desk doesn't know, and so doesn't read.
 #[derive(Clone, Copy)]
 pub struct Unread<'t> {
-    /// The number of the entry of a key sheet in which the key stands, counted from 1. `None` for a key at the top of
-    /// the file.
+    /// The number of the key sheet's entry that has the key, counted from 1. `None` for a key at the top of the file.
     pub entry: Option<usize>,
     /// The entry's day, if it can be read.
     pub day: Option<u8>,
@@ -163,7 +162,7 @@ fn top_keys(document: &Table) -> &'static [Key]
     }
 }
 
-/// The keys of a machine file of `model`. If the model isn't known, the keys of all machine files.
+/// The keys of machine files for `model`. If the model isn't known, the keys of all machine files.
 fn file_keys(model: Option<Model>) -> &'static [Key]
     ensures { result.now ≡ file_keys model }
 {
@@ -207,7 +206,7 @@ fn push_entry_keys<'t>(
     }
 }
 
-/// The keys of an entry of `model`. If the model isn't known, the keys of all entries.
+/// The keys of entries for `model`. If the model isn't known, the keys of all entries.
 fn day_keys(model: Option<Model>) -> &'static [Key]
     ensures { result.now ≡ day_keys model }
 {
@@ -247,7 +246,8 @@ fn push_unread<'t>(
     Ok(())
 }
 
-/// What a person may have meant by the key `name` with the value `value`. `keys` are the known keys of the key's table.
+/// What a person may have meant by the key `name` with the value `value`. `keys` are the keys that the desk knows in
+/// the same table.
 fn meant_by(keys: &[Key], name: &str, value: &Value) -> Meant {
     if (value.is_table() || value.is_array()) && is_near(1, name.as_bytes(), b"day") {
         return Meant::Entries;

@@ -65,7 +65,7 @@ fn push_unread(
     push_told(text, wording, name, key, first_line(advice.as_str()))
 }
 
-/// The advice for an unread key: what to write instead. It is empty for `Unknown`.
+/// The advice for an unread key: what to write instead. Empty if `meant` is `Unknown`.
 fn advice_of(wording: Wording, meant: Meant) -> Result<String, AllocError> {
     match meant {
         Meant::Key(key) => wording.fill(texts::WRITE_KEY, &[key.name()]),

@@ -6,7 +6,7 @@ use Rattle.std.specs.List.{before_first, after_first}
 abbrev pub is_gap : ℕ → Bool
 is_gap byte = byte == 126
 
--- the template, with its signs `~` replaced by the values, in order
+-- the template with values in place of its signs `~`: the first value in place of the first sign, and so on
 unfoldable pub filled : List ℕ → List (List ℕ) → List ℕ
 filled template [] = template
 filled template (value ∷ values) =

@@ -1,11 +1,11 @@
-//! `Language`: the languages of texts.
+//! `Language`: English or German, the languages in which texts are written.
 ghost use Rattle.std.specs.Prelude.{◌≡◌};
 ghost use Rattle.kd_language.specs.Language.{in_language};
 
 /// A text in English and in German.
 pub type Text = (&'static str, &'static str);
 
-/// A language of texts.
+/// The language in which a text is written.
 #[derive(Clone, Copy, Debug, PartialEq, Eq)]
 pub enum Language {
     English,
@@ -13,7 +13,7 @@ pub enum Language {
 }
 
 impl Language {
-    /// The half of `text` that is in this language.
+    /// The English or the German text of the pair `text`, as this language says.
     pub fn text(self, text: Text) -> &'static str
         ensures { result.now ≡ in_language self text.entry.0.now text.entry.1.now }
     {

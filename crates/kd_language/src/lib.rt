@@ -1,4 +1,4 @@
-//! The languages of texts, and templates that are filled with values.
+//! Texts in English and in German, and templates that are filled with values.
 #![tactic(auto)]
 
 mod language;

@@ -6,7 +6,7 @@ ghost use Rattle.kd_language.specs.Template.{filled, is_gap};
 
 use std::alloc::AllocError;
 
-/// Appends `template`, with its signs `~` replaced by the values, in order.
+/// Appends `template` with values in place of its signs `~`: the first value for the first sign, and so on.
 #[tactic(auto, using(std::proofs::Common::append_assoc), unfolding(crate::specs::Template::filled))]
 pub fn push_filled(text: &mut String, template: &str, values: &[&str]) -> Result<(), AllocError>
     ensures { OnOk result (string_bytes text.new
@@ -23,7 +23,7 @@ pub fn push_filled(text: &mut String, template: &str, values: &[&str]) -> Result
     }
 }
 
-/// The text of `template` before its first sign `~`, and the text after this sign. Without a sign `~`, the texts are
+/// The text of `template` before its first sign `~`, and the text after this sign. If there is no sign `~`, the whole
 /// `template` and an empty text.
 #[tactic(auto, using(std::proofs::lemmas::Str::Pattern::split_once_first))]
 pub fn cut(template: &str) -> (&str, &str)

@@ -1,4 +1,4 @@
-//! `Wording`: the language of words, and the memory for them.
+//! `Wording`: the language in which texts are written, and the memory for them.
 ghost use Rattle.std.specs.Prelude.{◌≡◌, map, IfOk};
 ghost use Rattle.std.specs.String.{string_bytes};
 ghost use Rattle.kd_language.specs.Language.{in_language};
@@ -8,7 +8,7 @@ use crate::language::{Language, Text};
 use crate::template::push_filled;
 use std::alloc::{AllocError, Global};
 
-/// The language of words, and the memory for them.
+/// The language in which texts are written, and the memory for them.
 #[derive(Clone, Copy)]
 pub struct Wording {
     pub alloc: Global,
@@ -16,7 +16,8 @@ pub struct Wording {
 }
 
 impl Wording {
-    /// A copy of `text` in the wording's language, with its signs `~` replaced by the values, in order.
+    /// A copy of `text` in this language, with values in place of its signs `~`: the first value for the first sign,
+    /// and so on.
     pub fn fill(self, text: Text, values: &[&str]) -> Result<String, AllocError>
         ensures { IfOk result (λ words. string_bytes words
             ≡ filled (in_language self.language text.entry.0.now text.entry.1.now)

@@ -26,26 +26,26 @@ fault_end fault = codes " (" ++ sheet_fault_text fault ++ codes ")\n"
 unfoldable pub line_words : Language → Option ℕ → List ℕ
 line_words l line = option_map_or (titled (text_in l LINE)) line []
 
--- the line of a fault; `wrong` are the words that say what is wrong
+-- the report's line about a fault; `wrong` says what is wrong
 unfoldable pub fault_line : Language → List ℕ → KeyPlace → Option ℕ → List ℕ → SheetFault → List ℕ
 fault_line l name place line wrong fault =
     name ++ entry_words l place.day place.entry ++ line_words l line ++ codes ", " ++ key_name place.key ++ wrong
     ++ fault_end fault
 
--- The text is the report's line about `fault` at `place` in the file `name`. `line` is the number of the file's line,
--- if it is known. `wrong` says what is wrong, in words without a line end.
+-- The text is the report's line about `fault` at `place` in the file `name`. `line` is the number of the file's line in
+-- which the fault stands, if it is known. `wrong` says what is wrong, in words without a line end.
 pub record IsLineAt (l : Language) (name : List ℕ) (place : KeyPlace) (line : Option ℕ) (fault : SheetFault)
     (text : List ℕ) : Type 0 where
   pub wrong : List ℕ
   pub plain : IsInOneLine wrong
   pub whole : text ≡ fault_line l name place line wrong fault
 
--- `text` is the report's line about `fault` at `place` in the file `name`. `text` has the number of the fault's line in
--- `bytes`, if this line is known.
+-- `text` is the report's line about `fault` at `place` in the file `name`. `text` gives the number of the file's line
+-- in which the fault stands, if this line can be found in `bytes`, the file's content.
 abbrev pub IsFaultLine : Language → List ℕ → List ℕ → KeyPlace → SheetFault → List ℕ → Type 0
 IsFaultLine l name bytes place fault text = IsLineAt l name place (line_of_fault bytes place fault) fault text
 
--- The text has a line for each fault, in the order of the faults.
+-- The text has a line for each fault in the list, in the order of the list.
 abbrev pub AreFaultLines : Language → List ℕ → List ℕ → List (KeyPlace × SheetFault) → List ℕ → Type 0
 AreFaultLines l name bytes [] text = text ≡ []
 AreFaultLines l name bytes (found ∷ rest) text = BeginsWith (IsFaultLine l name bytes found.0 found.1)

@@ -10,8 +10,8 @@ use Rattle.kd_look.specs.declared.file.File.{File}
 use Rattle.kd_look.specs.declared.file.File.TheVariants as files
 
 -- The machine or the key sheet that a document describes, or the document's first fault. A document that isn't a
--- machine file is read as a key sheet. If such a document has no array `day`, the fault is that `day` is missing, or
--- isn't an array.
+-- machine file is read as a key sheet, which needs an array `day`. Without this array, the fault is that `day` is
+-- missing, or isn't an array.
 unfoldable pub file_in : Members → Result File SheetFault
 file_in document =
     if is_machine_file document then machine_in document >>= (λ machine. Ok (files.Machine machine))

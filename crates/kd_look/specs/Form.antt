@@ -1,6 +1,6 @@
--- The first fault of a form's headings, of its signs, or of its numbers of letters and parts.
--- Faults are tested in the order of `desk receive`. Faults that only the day, the machine or the
--- indicators show are left out. Indexes are counted from 0, and parts from 1.
+-- How a form is tested before its letters are deciphered: its headings, its bytes, and its numbers of letters and
+-- parts. Of several faults, the result is the first one in the order of the tests of `desk receive`. Faults that show
+-- only with the day, the machine or the indicators are left out. Indexes are counted from 0, and parts from 1.
 -- Test: tests/cases/curator-look.toml
 use Rattle.std.specs.Prelude.{codes, ℕ, suc, zero, ◌+◌, ◌-◌, ◌==◌, ◌&&◌, nat_le, not, Bool, false, List}
 use Rattle.std.specs.Prelude.{Option, Some, None, Result, Ok, Err, count_by, find, is_ok, length, option_map}
@@ -20,7 +20,7 @@ use Rattle.kd_look.specs.declared.message.form.FormPart.{FormPart}
 use Rattle.kd_look.specs.declared.message.form_heading.FormHeading.{FormHeading}
 use Rattle.kd_look.specs.declared.message.signs.WrongByte.{WrongByte}
 
--- what is wrong with a byte of a heading: what belongs there, or which number is out of range
+-- what is wrong in a heading; `mark` says what belongs there: for example, the mark `/` means that a slash is missing
 abbrev pub heading_reason : ℕ → Reason
 heading_reason mark = if mark == 35 then reasons.HeadingNumber
     else if mark == 36 then reasons.HeadingCount
@@ -30,7 +30,7 @@ heading_reason mark = if mark == 35 then reasons.HeadingNumber
     else if mark == 32 then reasons.HeadingSpace
     else reasons.LineGoesOn
 
--- the fault of a wrong byte of the heading of part `number`
+-- the fault for a wrong byte in the heading of part `number`
 abbrev pub heading_fault : ℕ → WrongByte → MessageFault
 heading_fault number wrong =
     record { index = wrong.index; fault = BadHeading number; reason = heading_reason wrong.mark }
@@ -45,19 +45,20 @@ abbrev pub body_end : List ℕ → ℕ → ℕ
 body_end text body = option_map_or (λ index. index + 1)
     (find (heading_follows text) (range_with_len (body - 1) (length text - (body - 1)))) (length text)
 
--- the test of the bytes of a body, from `body` to `end`
+-- success if all bytes from `body` to `end` may stand in a body; otherwise the fault of the first that may not
 abbrev pub body_signs : List ℕ → ℕ → ℕ → Result (Unit {0}) MessageFault
 body_signs text body end = option_map_or
     (λ place. Err (record { index = body + place; fault = BadByte (body + place + 1); reason = reasons.BodySign }))
     (wrong_sign (slice_range text body end)) (Ok tt)
 
--- whether the heading gives part number `number`, and as many parts as the first heading gives
+-- Whether `heading` gives the part number `number`. If it isn't the form's first heading, it must also give the same
+-- number of parts as the first.
 abbrev pub has_due_numbers : Option FormHeading → ℕ → FormHeading → Bool
 has_due_numbers None number heading = heading.part == number
 has_due_numbers (Some first) number heading = heading.part == number && heading.parts == first.parts
 
--- The heading at `index`, or its first fault. `number` is the part's number, and `first` the form's first heading, if
--- there is an earlier part.
+-- The heading of part `number`, which begins at `index`, or the heading's first fault. `first` is the form's first
+-- heading. For the first part, `first` is `None`.
 unfoldable pub due_heading : List ℕ → Option FormHeading → ℕ → ℕ → Result FormHeading MessageFault
 due_heading text first number index = do
   heading ← result_map_both (λ heading. heading) (heading_fault number)
@@ -66,8 +67,8 @@ due_heading text first number index = do
       (record { index = index; fault = PartOrder; reason = reasons.PartsMixed })
   Ok heading
 
--- The part that begins at `index`, or its first fault. `number` is the part's number, and `first` the form's first
--- heading, if there is an earlier part.
+-- Part `number` of the form, which begins at `index`, or the part's first fault. `first` is the form's first heading.
+-- For the first part, `first` is `None`.
 unfoldable pub part_at : List ℕ → Option FormHeading → ℕ → ℕ → Result FormPart MessageFault
 part_at text first number index = do
   heading ← due_heading text first number index
@@ -77,13 +78,13 @@ part_at text first number index = do
       (record { index = index; fault = CountWrong number; reason = reasons.BodyCount })
   Ok (record { heading = heading; end = end })
 
--- the form's first heading: `first`, or `own` if no heading stands before `own`
+-- the form's first heading: `first`, or `own` if `first` is `None`
 abbrev pub first_or : FormHeading → Option FormHeading → FormHeading
 first_or own None = own
 first_or own (Some first) = first
 
--- The first heading of the form whose part `number` begins at `index`, or the form's first fault. `first` is the form's
--- first heading, if there is an earlier part. At most `left` parts may still come.
+-- Reads the form from part `number` on, which begins at `index`. The result is the form's first heading, or the first
+-- fault. `first` is the form's first heading. For the first part, `first` is `None`. At most `left` parts are read.
 abbrev pub form_from : List ℕ → ℕ → Option FormHeading → ℕ → ℕ → Result FormHeading MessageFault
 form_from text zero first number index =
     Err (record { index = index; fault = PartOrder; reason = reasons.PartsMixed })

@@ -20,36 +20,39 @@ with_byte number byte = if nat_le 48 byte && nat_le byte 57
 abbrev pub with_digit : List ℕ → Number → Number
 with_digit text number = option_map_or (with_byte number) (slice_get text number.end) number
 
--- a number of at most three digits, and the index after it; 0 if no digit stands at `index`
+-- the number at `index`, read up to its third digit, and the index after it; if there is no digit, the number is 0
 unfoldable pub digits_at : List ℕ → ℕ → Number
 digits_at text index = with_digit text (with_digit text (with_digit text (record { value = 0; end = index })))
 
--- the number at `index`, which has at most three digits and doesn't begin with 0; if no valid
--- number is there, the wrong byte at `index`, with the mark `#`
+-- The number at `index`, of which at most three digits are read. If there is no number, or if it begins with 0, the
+-- result is the wrong byte at `index`, with the mark `#`.
 unfoldable pub number_at : List ℕ → ℕ → Result Number WrongByte
 number_at text index = if (digits_at text index).value == 0 then Err (record { index = index; mark = 35 })
     else if fits_at text 48 index then Err (record { index = index; mark = 35 })
     else Ok (digits_at text index)
 
--- the machine that a heading is for, shown by what follows the number of letters: nothing for a
--- Converter, a word of four letters for an M4
+-- The machine that a heading is for. What follows the number of letters shows it:
+-- - no space: a Converter
+-- - a space and four capital letters: an M4
+-- - a space and anything else: a machine with three slots
 unfoldable pub heading_keys : List ℕ → ℕ → KeyLine
 heading_keys text index = if fits_at text 32 index
     then (if fits_at text 95 (index + 1) && fits_at text 95 (index + 2) && (fits_at text 95 (index + 3)
     && fits_at text 95 (index + 4)) then lines.FourSlots else lines.ThreeSlots)
     else lines.Converter
 
--- the pattern of a heading line after the number of letters
+-- the pattern of what follows the number of letters in a heading line
 abbrev pub keys_pattern : KeyLine → List ℕ
 keys_pattern lines.ThreeSlots = codes " ___ ___"
 keys_pattern lines.FourSlots = codes " ____ ____"
 keys_pattern lines.Converter = []
 
--- the index after the line end at `index`; if the form ends at `index`, `index` itself
+-- The index after the line end at `index`, or the wrong byte there. If the form ends at `index`, no line end is needed,
+-- and the result is `index`.
 unfoldable pub heading_end : List ℕ → ℕ → Result ℕ WrongByte
 heading_end text index = if index == length text then Ok index else end_of_line text index
 
--- the keys of the form's first heading, if there is an earlier heading; otherwise `own`
+-- how the keys of the form's first heading are written: `first`, or `own` if `first` is `None`
 abbrev pub keys_or : KeyLine → Option KeyLine → KeyLine
 keys_or own None = own
 keys_or own (Some first) = first
@@ -59,9 +62,9 @@ abbrev pub is_letter_count : KeyLine → ℕ → Bool
 is_letter_count lines.Converter count = nat_le 25 count && nat_le count 520 && count % 5 == 0
 is_letter_count form count = nat_le 6 count && nat_le count 250
 
--- The heading at `index`, or the first byte that is wrong there. A number out of range is wrong at
--- its first byte. `first` says which machine the form's first heading is for, if there is an
--- earlier heading.
+-- The heading at `index`, or the byte at which it is wrong. If the part number or the number of parts is out of range,
+-- this is the first byte of the part number. If the number of letters is out of range, this is its first byte. `first`
+-- says how the keys of the form's first heading are written. For the first heading itself, `first` is `None`.
 unfoldable pub heading_at : List ℕ → Option KeyLine → ℕ → Result FormHeading WrongByte
 heading_at text first index = do
   start ← marks_end text (codes "PART ") index

@@ -1,5 +1,5 @@
 -- How a form is read without deciphering its letters. The result is success, or the first fault of the form's headings,
--- of its bytes, or of its numbers of letters and parts. Parts are counted from 1.
+-- bytes, numbers of letters, or numbers of parts. Parts are counted from 1.
 -- Test: tests/cases/curator-look.toml
 use Rattle.std.specs.Prelude.{◌≡◌, ℕ, ◌+◌, List, [], ◌∷◌, length, None, Some}
 use Rattle.kd_state.specs.AnswerRules.{AnswerRule, ◌>>=◌, Demands, Yields}
@@ -11,16 +11,16 @@ use Rattle.kd_form.specs.FormText.{first_part_start, next_part_start}
 use Rattle.kd_form.specs.PartReading.{IsContentAnswer, PartStart}
 use Rattle.kd_form.specs.Sending.{letters_from}
 
--- The result of reading a part that starts at `p`, as in `IsPartAnswer`, but without deciphering its letters: the
--- number of all parts, or the part's first fault.
+-- The result of reading a part without deciphering its letters: the number of parts that the heading gives, or the
+-- part's first fault. The part starts at `p`. `IsPartAnswer` is the same with deciphering.
 abbrev pub IsShownPartAnswer : Day → PartStart → List ℕ → AnswerRule FormFault ℕ
 IsShownPartAnswer s p part = do
   content ← IsContentAnswer s p part
   _ ← Demands (length (letters_from None content.body) ≡ content.heading.letters) (CountWrong p.number)
   Yields content.heading.parts
 
--- The result of reading the remaining parts, of which the first starts at `p`, without deciphering their letters:
--- success, or the first fault. After the last part, the headings must say the right number of parts.
+-- The result of reading a form's unread parts without deciphering their letters: success, or the first fault. The first
+-- unread part starts at `p`. In the end, the form must have as many parts as its headings say.
 abbrev pub AreShownPartsAnswer : Day → PartStart → List (List ℕ) → AnswerRule FormFault (Unit {0})
 AreShownPartsAnswer s p [] answer =
     (count : ℕ) × (p.expected ≡ Some count) × Demands (p.number ≡ count + 1) PartOrder answer

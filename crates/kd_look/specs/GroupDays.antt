@@ -1,4 +1,4 @@
--- The lines that name the days of key sheets that have the groups of orders and forms.
+-- The lines that say which days of key sheets have the groups of orders and forms.
 -- Test: tests/cases/curator-look.toml
 use Rattle.std.specs.Prelude.{ℕ, ◌==◌, ◌++◌, ◌&&◌, Bool, false, List, [], ◌∷◌, count_by, decimal, Option, Some, None}
 use Rattle.std.specs.List.{enumerate_from, filter, flat_map, list_all, list_any, range_with_len}
@@ -20,21 +20,21 @@ use Rattle.kd_look.specs.declared.message.order_head.KeyLine.{KeyLine}
 use Rattle.kd_look.specs.declared.message.order_head.KeyLine.TheVariants as lines
 use Rattle.kd_look.specs.declared.texts.TheConstants as texts
 
--- A message and a key sheet in which the days of the message's groups are sought: the name of the message's file, how
--- the message's keys are written, the name of the sheet's file, and the sheet.
+-- A search for a message's groups in a key sheet. `name` and `sheet` are the names of the two files. `keys` says how
+-- the message's keys are written, and `month` has the sheet's days.
 pub record GroupSearch : Type 0 where
   pub name : List ℕ
   pub keys : KeyLine
   pub sheet : List ℕ
   pub month : List (Option Day)
 
--- how many slots the machines have that a message can be for; a Converter has no slots
+-- the number of slots of a machine, known from how its keys are written; a Converter has no slots
 abbrev pub key_slots : KeyLine → ℕ
 key_slots lines.ThreeSlots = 3
 key_slots lines.FourSlots = 4
 key_slots lines.Converter = 0
 
--- whether a message whose keys are written as `keys` can be for the model
+-- whether a message can be for the model, if the message's keys are written as `keys`
 abbrev pub can_be_for : KeyLine → Model → Bool
 can_be_for keys model = slots_of model == key_slots keys
 
@@ -63,28 +63,28 @@ is_day_with search group number = option_map_or (suits search group) (day_of sea
 abbrev pub days_with : GroupSearch → List ℕ → List ℕ
 days_with search group = filter (is_day_with search group) (range_with_len 1 31)
 
--- the line that says that the group of part `part` is of day `day`; `group` is the group in capital letters
+-- the line that says that the group of part `part` belongs to day `day`; `group` is the group in capital letters
 unfoldable pub group_day_line : Language → GroupSearch → ℕ → List ℕ → ℕ → List ℕ
 group_day_line l search part group day =
     filled (text_in l texts.GROUP_DAY) (search.name ∷ decimal part ∷ group ∷ decimal day ∷ search.sheet ∷ [])
 
--- the warning that no day of the sheet suits the message and the group of part `part`; `group` is the group in capital
+-- the warning that no day for the message's machine has the group of part `part`; `group` is the group in capital
 -- letters
 unfoldable pub no_group_line : Language → GroupSearch → ℕ → List ℕ → List ℕ
 no_group_line l search part group =
     filled (text_in l texts.NO_GROUP) (search.name ∷ decimal part ∷ search.sheet ∷ group ∷ [])
 
--- A line for each of the days that have the group. If there are none, the warning. `group` is the group in capital
--- letters.
+-- A line for each day in the list of the days that have the group. If this list is empty, the warning that no day has
+-- the group. `group` is the group in capital letters.
 abbrev pub lines_for : Language → GroupSearch → ℕ → List ℕ → List ℕ → List ℕ
 lines_for l search part group [] = no_group_line l search part group
 lines_for l search part group (day ∷ days) = flat_map (group_day_line l search part group) (day ∷ days)
 
--- the lines about the group of part `part`
+-- the lines that say which days of the sheet have the group of part `part`
 unfoldable pub part_lines : Language → GroupSearch → ℕ → List ℕ → List ℕ
 part_lines l search part group = lines_for l search part (letters_text group) (days_with search group)
 
--- the lines about groups; `part` is the part of the first group
+-- the lines about several parts' groups; the first group belongs to part `part`, the second to part `part` + 1
 abbrev pub parts_lines : Language → GroupSearch → ℕ → List (List ℕ) → List ℕ
 parts_lines l search part groups =
     flat_map (λ numbered. part_lines l search numbered.0 numbered.1) (enumerate_from part groups)
@@ -95,17 +95,17 @@ month_in (Some (files.Sheet month)) = Some month
 month_in (Some (files.Machine machine)) = None
 month_in None = None
 
--- the lines about the groups of a message and the days of a file; empty if the file isn't a key sheet
+-- the lines that say which days of the file `sheet` have the message's groups; empty if this file isn't a key sheet
 abbrev pub sheet_lines : Language → List ℕ → KnownMessage → KnownFile → List ℕ
 sheet_lines l name message sheet = option_map_or (λ month.
     parts_lines l (record { name = name; keys = message.keys; sheet = sheet.name; month = month }) 1 message.groups)
     (month_in sheet.file) []
 
--- the lines about the groups of a file and the days of all key sheets; empty if the file isn't an order or a form
+-- the lines that say which days of the key sheets have the groups of `read`; empty if `read` isn't a faultless message
 abbrev pub message_lines : Language → List KnownFile → KnownFile → List ℕ
 message_lines l all read = option_map_or (λ message. flat_map (sheet_lines l read.name message) all) read.message []
 
--- the lines about the groups of all orders and forms, and the days of all key sheets
+-- the lines that say which days of the key sheets have the groups of all orders and forms
 abbrev pub group_day_words : Language → List KnownFile → List ℕ
 group_day_words l all = flat_map (message_lines l all) all
 

@@ -1,5 +1,6 @@
--- The groups of an order or a form. By a part's group, the receiver finds the day. Two fillers stand before the group:
--- in an order, both are in the part's line of keys; in a form, both begin the part's body. Indexes are counted from 0.
+-- The groups of an order or a form. From a part's group, the receiver knows the day that the part is for. Two filler
+-- letters stand before the group. In an order, fillers and group end the part's line of keys. In a form, they begin the
+-- part's body. Indexes are counted from 0.
 -- Test: tests/cases/curator-look.toml
 use Rattle.std.specs.Prelude.{ℕ, ◌+◌, ◌-◌, ◌==◌, ◌++◌, nat_eq, decimal, false, List, [], ◌∷◌, drop, length, map, take}
 use Rattle.std.specs.Prelude.{Option, Some, None, Result, Ok, Err, if◌then◌else◌}
@@ -25,11 +26,11 @@ pub record KnownMessage : Type 0 where
   pub keys : KeyLine
   pub groups : List (List ℕ)
 
--- the letters of a text, without the signs between them
+-- the capital letters of a text, where A is 0; other signs are left out
 abbrev pub letters_of : List ℕ → List ℕ
 letters_of text = map (λ byte. byte - 65) (filter is_capital text)
 
--- three letters as a group; `None` if there are fewer
+-- the letters, if there are exactly three of them; otherwise `None`
 abbrev pub three_letters : List ℕ → Option (List ℕ)
 three_letters letters = if length letters == 3 then Some letters else None
 
@@ -57,8 +58,8 @@ order_groups text keys start = flat_map (order_group text keys) (range_with_len 
 abbrev pub after_line : List ℕ → List ℕ
 after_line text = option_map_or (λ place. drop (place + 1) text) (position (λ byte. byte == 10) text) []
 
--- The group of the part whose heading begins at `index`, as a list with one item. In a form without a fault, a body has
--- at least six letters, so the group is in the body.
+-- The group of the part whose heading begins at `index`, as a list with one item. The group is in the body: without a
+-- fault, a body has at least six letters.
 abbrev pub part_group : List ℕ → ℕ → List (List ℕ)
 part_group text index = option_to_list (group_of (after_line (drop index text)))
 
@@ -75,12 +76,14 @@ abbrev pub form_groups : List ℕ → KeyLine → List (List ℕ)
 form_groups text lines.Converter = []
 form_groups text keys = rotor_form_groups text
 
--- the form `text`, made from the answer of reading it; `None` if the form has a fault
+-- The message in the form `text`, or `None` if the form has a fault. The second argument is the result of reading the
+-- form.
 abbrev pub form_message : List ℕ → Result FormHeading MessageFault → Option KnownMessage
 form_message text (Ok first) = Some (record { keys = first.keys; groups = form_groups text first.keys })
 form_message text (Err fault) = None
 
--- the order `text`, made from the answer of reading it; `None` if the order has a fault
+-- The message in the order `text`, or `None` if the order has a fault. The second argument is the result of reading the
+-- order.
 abbrev pub order_message : List ℕ → Result ℕ MessageFault → Option KnownMessage
 order_message text (Ok start) =
     Some (record { keys = key_line_of text; groups = order_groups text (key_line_of text) start })
@@ -94,7 +97,7 @@ message_of text = if is_form text then form_message text (form_answer text) else
 unfoldable pub group_line : Language → ℕ → List ℕ → List ℕ
 group_line l part group = filled (text_in l GROUP) (decimal part ∷ letters_text group ∷ [])
 
--- the lines about groups; `part` is the part of the first group
+-- the lines about several parts' groups; the first group belongs to part `part`, the second to part `part` + 1
 abbrev pub numbered_lines : Language → ℕ → List (List ℕ) → List ℕ
 numbered_lines l part groups = flat_map (λ numbered. group_line l numbered.0 numbered.1) (enumerate_from part groups)
 

@@ -1,5 +1,6 @@
--- The statements of this crate's laws: `look` says of an order what `send` says, and of a form what
--- `receive` says, on a day for the same machine. The groups that `look` names are the message's own.
+-- The statements of this crate's laws. Without a machine, `look` says of an order what `send` says on a day for the
+-- order's machine. In the same way, `look` says of a form what `receive` says. The groups that `look` names are the
+-- message's own.
 use Rattle.std.specs.Prelude.{codes, ◌≡◌, ◌⊎◌, ℕ, ◌+◌, ◌≤◌, ◌&&◌, List, Result, Ok, Err, IfOk, None, Contains, drop}
 use Rattle.std.specs.Prelude.{[], ◌∷◌, Some, length, take, true, false}
 use Rattle.std.specs.List.{flat_map}
@@ -41,8 +42,7 @@ HasKeyLineForm (Pin s) lines.ThreeSlots = ⊥
 HasKeyLineForm (Pin s) lines.FourSlots = ⊥
 HasKeyLineForm (Pin s) lines.Converter = Unit {0}
 
--- If `look` finds a fault in an order's head, the fault's place is that of the head's first wrong
--- byte.
+-- If `look` finds a fault in an order's head, the fault is `BadByte`, at the head's first wrong byte.
 abbrev pub HeadFaultsAreThoseOfSend : Type 0
 HeadFaultsAreThoseOfSend =
     (s : Day) (form : KeyLine) (order : List ℕ) (found : MessageFault) → HasKeyLineForm s form
@@ -57,8 +57,7 @@ pub record HasHeadTo (s : Day) (order : List ℕ) (start : ℕ) : Type 0 where
   pub is_order : IsOrder s order keys (take start order) (drop start order)
   pub counted : keys_given order start ≡ length keys
 
--- If `look` finds no fault in an order's head, the head is whole for `send`, and ends where `look`
--- says.
+-- If `look` finds no fault in an order's head, `send` finds none there, and the head ends at the same byte for both.
 abbrev pub HeadsEndWhereSendEndsThem : Type 0
 HeadsEndWhereSendEndsThem =
     (s : Day) (form : KeyLine) (order : List ℕ) (start : ℕ) → HasKeyLineForm s form
@@ -66,13 +65,13 @@ HeadsEndWhereSendEndsThem =
 
 -- ---- Whole orders.
 
--- A fault of keys that only the day shows: a wrong group, or keys without an internal key.
+-- A fault of an order's keys that shows only with the day: a wrong group, or keys without an internal key.
 pub data IsDaysFault (fault : FormFault) : Type 0 where
   GroupWrong : (part : ℕ) → fault ≡ WrongGroup part → IsDaysFault fault
   NoInternalKey : (part : ℕ) → fault ≡ IndicatorSpent part → IsDaysFault fault
 
--- `answer` is the fault of the order's first keys that don't suit the day. Only the day shows this
--- fault.
+-- Some of the order's keys don't suit the day. `answer` is the fault of the first of these keys, a fault that only the
+-- day shows.
 pub record IsRefusedByDay (s : Day) (order : List ℕ) (answer : Result (List ℕ) FormFault) : Type 0 where
   pub keys : List Keys
   pub head : List ℕ
@@ -91,8 +90,8 @@ OrderFaultsAreThoseOfSend =
     → HasKeyLineForm s form → order_answer order form ≡ Err found → IsOrderAnswer s order answer
     → (answer ≡ Err found.fault) ⊎ IsRefusedByDay s order answer
 
--- If `look` finds no fault in an order, `send` makes a form of the order, or refuses the order with
--- a fault that only the day shows.
+-- If `look` finds no fault in an order, `send` makes a form of the order. It may instead refuse the order with a fault
+-- that only the day shows.
 abbrev pub FaultlessOrdersAreSent : Type 0
 FaultlessOrdersAreSent =
     (s : Day) (form : KeyLine) (order : List ℕ) (start : ℕ) (answer : Result (List ℕ) FormFault)
@@ -104,8 +103,8 @@ abbrev pub group_of_keys : Keys → List (List ℕ)
 group_of_keys (Rotor k) = k.group ∷ []
 group_of_keys (Pin k) = []
 
--- If `look` finds no fault in an order, the groups that it names are the groups of the order's lines of keys: one for
--- each line, in this order, and none for a Converter.
+-- If `look` finds no fault in an order, it names the groups of the order's lines of keys: one for each line, from the
+-- first line to the last. For a Converter's order, it names none.
 abbrev pub OrderGroupsAreThoseOfKeys : Type 0
 OrderGroupsAreThoseOfKeys =
     (s : Day) (order : List ℕ) (start : ℕ) (keys : List Keys) (head text : List ℕ)
@@ -114,7 +113,7 @@ OrderGroupsAreThoseOfKeys =
 
 -- ---- Forms.
 
--- the index after the number of letters in the heading at `index`, or the first wrong byte
+-- in the heading at `index`, the index after the number of letters; or the first wrong byte up to there
 unfoldable pub count_end : List ℕ → ℕ → Result ℕ WrongByte
 count_end text index = do
   start ← marks_end text (codes "PART ") index
@@ -125,7 +124,8 @@ count_end text index = do
   count ← number_at text space
   Ok count.end
 
--- The day is for the machine that the form's first heading is for, if the heading shows this.
+-- The day is for the machine that the form's first heading shows after its number of letters. If the heading is wrong
+-- before that place, any day will do.
 abbrev pub IsDayOfForm : Day → List ℕ → Type 0
 IsDayOfForm s form = IfOk (count_end form 0) (λ end. HasKeyLineForm s (heading_keys form end))
 
@@ -133,8 +133,8 @@ IsDayOfForm s form = IfOk (count_end form 0) (λ end. HasKeyLineForm s (heading_
 abbrev pub IsNextPart : List ℕ → PartsProperty
 IsNextPart part p parts = (others : List (List ℕ)) × (parts ≡ part ∷ others)
 
--- `answer` is the fault of the letters of one of the form's parts. All earlier parts are read without
--- a fault, and `letters` are their letters. Only the day shows this fault, or the part's indicators.
+-- All parts before `part` are read without a fault, and `letters` are their letters. `answer` is the fault of the
+-- letters of `part`. `look` doesn't test for such a fault: it is in the part's indicators, or shows only with the day.
 pub record IsRefusedForLetters (s : Day) (form : List ℕ) (answer : Result (List ℕ) FormFault) : Type 0 where
   pub part : List ℕ
   pub heading : Heading
@@ -155,8 +155,8 @@ FormFaultsAreThoseOfReceive =
     → form_answer form ≡ Err found → IsFormAnswer s form answer
     → (answer ≡ Err found.fault) ⊎ IsRefusedForLetters s form answer
 
--- If `look` finds no fault in a form, `receive` reads the form, or refuses it with a fault of a
--- part's letters.
+-- If `look` finds no fault in a form, `receive` reads the form. It may instead refuse the form with a fault of a part's
+-- letters.
 abbrev pub FaultlessFormsAreReceived : Type 0
 FaultlessFormsAreReceived =
     (s : Day) (form : List ℕ) (first : FormHeading) (answer : Result (List ℕ) FormFault) → IsDayOfForm s form
@@ -177,8 +177,7 @@ AreGroupsOfParts s (part ∷ parts) (group ∷ groups) = HasGroup s part group �
 AreGroupsOfParts s [] (group ∷ groups) = ⊥
 AreGroupsOfParts s (part ∷ parts) [] = ⊥
 
--- If `look` finds no fault in a rotor machine's form, the groups that it names are the groups in the bodies of the
--- form's parts.
+-- If `look` finds no fault in a rotor machine's form, it names the groups in the bodies of the form's parts.
 abbrev pub FormGroupsAreThoseOfBodies : Type 0
 FormGroupsAreThoseOfBodies =
     (s : RotorDay) (form : List ℕ) (first : FormHeading) → IsDayOfForm (Rotor s) form → form_answer form ≡ Ok first
@@ -204,12 +203,12 @@ FormsAreSeenWithoutLetters =
 
 -- ---- The machine that a message is for.
 
--- If `send` makes a form of an order, `look` takes the order for the day's machine.
+-- If `send` makes a form of an order, `look` finds that the order is for the day's machine.
 abbrev pub OrdersAreForTheirMachine : Type 0
 OrdersAreForTheirMachine =
     (s : Day) (order form : List ℕ) → IsLegalDay s → IsFormOf s order form → HasKeyLineForm s (key_line_of order)
 
--- If `receive` reads a form, the form's first heading shows the day's machine. `look` takes the form for this machine.
+-- If `receive` reads a form, the form's first heading shows the day's machine, and `look` finds this machine.
 abbrev pub FormsAreForTheirMachine : Type 0
 FormsAreForTheirMachine =
     (s : Day) (form text : List ℕ) → IsLegalDay s → IsTextOf s form text
@@ -217,11 +216,11 @@ FormsAreForTheirMachine =
 
 -- ---- The kind of a message: an order, or a form.
 
--- `look` takes a text for a form exactly if the text begins as a heading line does.
+-- `look` finds that a text is a form exactly if the text begins as a heading line does.
 abbrev pub FormsBeginWithHeadings : Type 0
 FormsBeginWithHeadings = (text : List ℕ) → (is_message text && is_form text) ≡ begins_heading text
 
--- If `send` makes a form of an order, `look` takes the order for an order.
+-- If `send` makes a form of an order, `look` finds that the order is an order.
 abbrev pub OrdersAreNoForms : Type 0
 OrdersAreNoForms =
     (s : Day) (order form : List ℕ) → IsFormOf s order form → (is_message order ≡ true) × (is_form order ≡ false)

@@ -1,6 +1,7 @@
--- The line of a value in a file: the first line such that the file, cut off after this line, is a document with the
--- value. A missing array `day` gets the line of the file's first key. Code: the document is parsed up to the end of
--- each line in turn, once for all faults.
+-- The number of the line in which a value of a file stands. To find it, the file is cut off after each of its lines in
+-- turn. The value's line is the first one after which the cut file is a document with the value. A missing array `day`
+-- gets the line of the file's first key. Code: the document is parsed up to the end of each line in turn, once for all
+-- faults.
 -- Test: tests/cases/curator-look.toml
 use Rattle.std.specs.Prelude.{ℕ, ◌+◌, ◌==◌, ◌||◌, ◌&&◌, nat_lt, Bool, true, false, List, find, length, take, count_by}
 use Rattle.std.specs.Prelude.{slice_index, Option, Some, None, is_some, option_map, if◌then◌else◌}
@@ -25,8 +26,8 @@ use Rattle.kd_look.specs.declared.line.Sought.TheVariants as soughts
 abbrev pub entry_of : List Data → ℕ → Option Members
 entry_of items entry = option_and_then as_table (numbered_item items entry)
 
--- the table that has a value: `document` itself or, if there is a number `entry`, item `entry` of the document's array
--- `day`
+-- the table in which to look for a value: `document` itself or, if there is a number `entry`, item `entry` of the
+-- document's array `day`
 unfoldable pub table_at : Members → Option ℕ → Option Members
 table_at document None = Some document
 table_at document (Some entry) = option_and_then (λ items. entry_of items entry) (entries_of document)
@@ -50,13 +51,13 @@ reads_value sought text = option_map_or (has_value sought) (result_ok (document_
 abbrev pub ends_line : List ℕ → ℕ → Bool
 ends_line text index = slice_index text index == 10 || index + 1 == length text
 
--- Whether a line ends after the byte at `index`, and the text up to this byte is a document with the entry or key
+-- Whether a line ends after the byte at `index`, and `text` up to this byte is a document with the entry or key
 -- `sought`.
 unfoldable pub has_value_at : List ℕ → Sought → ℕ → Bool
 has_value_at text sought index = ends_line text index && reads_value sought (take (index + 1) text)
 
--- The number of the first line such that `text`, cut off after this line, is a document with the entry or key `sought`.
--- Only lines that end before the byte at index `end` are tried.
+-- The line of the entry or key `sought`: the first line after which `text`, cut off there, is a document with this
+-- entry or key. Only lines that end before the byte at index `end` are tried.
 abbrev pub line_before : List ℕ → ℕ → Sought → Option ℕ
 line_before text end sought = option_map (line_at text) (find (has_value_at text sought) (range_with_len 0 end))
 
@@ -65,8 +66,8 @@ line_before text end sought = option_map (line_at text) (find (has_value_at text
 abbrev pub is_too_long : List ℕ → Bool
 is_too_long text = nat_lt 65536 (length text) || nat_lt 2048 (count_by (λ byte. byte == 10) text)
 
--- The number of the first line such that `text`, cut off after this line, is a document with the entry or key `sought`.
--- `None` if there is no such line, or `text` is too long.
+-- The line of the entry or key `sought`: the first line after which `text`, cut off there, is a document with this
+-- entry or key. `None` if there is no such line, or `text` is too long.
 abbrev pub line_number : List ℕ → Sought → Option ℕ
 line_number text sought = if is_too_long text then None else line_before text (length text) sought
 
@@ -84,7 +85,7 @@ abbrev pub sought_for : KeyPlace → SheetFault → Option Sought
 sought_for place (Missing key) = sought_without place.entry key
 sought_for place fault = Some (soughts.Key place.entry place.key)
 
--- the number of a fault's line in the file
+-- the number of a fault's line in the file; `None` if it can't be found
 unfoldable pub line_of_fault : List ℕ → KeyPlace → SheetFault → Option ℕ
 line_of_fault text place fault = option_and_then (line_number text) (sought_for place fault)
 
@@ -98,18 +99,18 @@ line_of text finding = line_of_fault text finding.place finding.fault
 unfoldable pub line_so_far : List ℕ → ℕ → Finding → Option ℕ
 line_so_far text end finding = option_and_then (line_before text end) (sought_for finding.place finding.fault)
 
--- the first argument if it has a line, otherwise the second argument, `later`
+-- the first argument, if it is a number; otherwise the second argument, `later`
 abbrev pub or_line : Option ℕ → Option ℕ → Option ℕ
 or_line (Some line) later = Some line
 or_line None later = later
 
--- `line`, if the document has the entry or key to look for; otherwise `None`
+-- `line`, if the document has the entry or key that is sought for `finding`; otherwise `None`
 unfoldable pub line_in : Members → ℕ → Finding → Option ℕ
 line_in document line finding =
     option_and_then (λ sought. if has_value sought document then Some line else None)
     (sought_for finding.place finding.fault)
 
--- `line`, if the text is a document with the entry or key to look for; otherwise `None`
+-- `line`, if the text is a document with the entry or key that is sought for `finding`; otherwise `None`
 abbrev pub line_in_text : List ℕ → ℕ → Finding → Option ℕ
 line_in_text text line finding =
     option_and_then (λ document. line_in document line finding) (result_ok (document_of text))

@@ -27,7 +27,7 @@ pub record NamedText : Type 0 where
 abbrev pub named_text : NamedFile → NamedText
 named_text file = record { name = file.name.now; bytes = file.bytes.now }
 
--- the earlier of two outcomes if it is `Faulty`, otherwise `later`
+-- the first of two outcomes, if it is `Faulty`; otherwise the second outcome, `later`
 abbrev pub or_later : Outcome → Outcome → Outcome
 or_later outcomes.Faultless later = later
 or_later (outcomes.Faulty fault) later = outcomes.Faulty fault
@@ -48,8 +48,8 @@ abbrev pub known_text : NamedText → KnownFile
 known_text file =
     record { name = file.name; file = result_ok (file_of file.bytes); message = file_message file.bytes }
 
--- the lines that compare the files: the warnings about machines for which no key sheet has a day, then the lines that
--- name the days of the messages' groups
+-- The lines that compare the files. First come the warnings about machines for which no key sheet has a day. Then come
+-- the lines that say which days have the messages' groups.
 abbrev pub comparison_words : Language → List KnownFile → List ℕ
 comparison_words l files = missing_words l files ++ group_day_words l files
 

@@ -72,38 +72,37 @@ fault_line l name text found =
     name ++ place_words l (line_at text found.index) (column_at text found.index) (reason_words l found.reason)
     ++ codes " (" ++ form_fault_text found.fault ++ codes ")\n"
 
--- the machines that an order or a form is for, after the word `for`
+-- the machine that a message is for, or both machines that it may be for, as named after the word `for`
 unfoldable pub machine_name : Language → KeyLine → List ℕ
 machine_name l lines.ThreeSlots = text_in l texts.ENIGMA_I_OR_M3
 machine_name l lines.FourSlots = text_in l AN_M4
 machine_name l lines.Converter = text_in l texts.CONVERTER
 
--- a line with a title and a number
+-- a line with a title and a number, such as `parts: 2`
 unfoldable pub number_line : List ℕ → ℕ → List ℕ
 number_line title number = titled title number ++ codes "\n"
 
--- The lines about an order in which no fault was found: the machine that the order is for, what was
--- looked at, how many parts the order makes, and how many letters of text it has. The text begins at
--- `start`.
+-- The lines about an order without a fault: the order's machine, what was looked at, the number of parts, and the
+-- number of letters in the order's text. The text begins at `start`.
 unfoldable pub order_lines : Language → List ℕ → List ℕ → ℕ → List ℕ
 order_lines l name text start =
     filled (text_in l texts.ORDER) (name ∷ machine_name l (key_line_of text) ∷ [])
     ++ number_line (text_in l texts.PARTS) (keys_given text start)
     ++ number_line (text_in l texts.LETTERS) (letter_count text (key_line_of text) start)
 
--- the lines about an order, made from the answer of reading the order
+-- the lines about an order; the last argument is the result of reading the order
 abbrev pub order_words_for : Language → List ℕ → List ℕ → Result ℕ MessageFault → List ℕ
 order_words_for l name text (Ok start) = order_lines l name text start
 order_words_for l name text (Err found) = fault_line l name text found
 
--- The lines about a form in which no fault was found: the machine that the form is for, what was
--- looked at, and how many parts the form has. `first` is the form's first heading.
+-- The lines about a form without a fault: the form's machine, what was looked at, and the number of parts. `first` is
+-- the form's first heading.
 unfoldable pub form_lines : Language → List ℕ → FormHeading → List ℕ
 form_lines l name first =
     filled (text_in l texts.FORM) (name ∷ machine_name l first.keys ∷ [])
     ++ number_line (text_in l texts.PARTS) first.parts
 
--- the lines about a form, made from the answer of reading the form
+-- the lines about a form; the last argument is the result of reading the form
 abbrev pub form_words_for : Language → List ℕ → List ℕ → Result FormHeading MessageFault → List ℕ
 form_words_for l name text (Ok first) = form_lines l name first
 form_words_for l name text (Err found) = fault_line l name text found

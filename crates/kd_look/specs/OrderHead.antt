@@ -24,8 +24,8 @@ unfoldable pub key_line_of : List ℕ → KeyLine
 key_line_of text =
     if fits_at text 32 6 then lines.Converter else if has_four_letters text then lines.FourSlots else lines.ThreeSlots
 
--- The index of the text in an order whose next line begins at `index`, or the first wrong byte. At most `left` lines of
--- keys may still come, and then the line `TEXT`.
+-- Reads an order's head from the line at `index` on. The result is the index at which the order's text begins, or the
+-- first wrong byte. At most `left` lines of keys may still come, and then the line `TEXT`.
 abbrev pub head_end : List ℕ → KeyLine → ℕ → ℕ → Result ℕ WrongByte
 head_end text form zero index = line_end text (codes "TEXT") index
 head_end text form (suc left) index =

@@ -39,12 +39,12 @@ abbrev pub message_outcome : List ℕ → Outcome
 message_outcome bytes =
     if is_form bytes then answer_outcome (form_answer bytes) else answer_outcome (order_start bytes)
 
--- the outcome for a file that isn't a document; the truth value says whether the file is an order or a form
+-- the outcome for a file that isn't a document; the first argument says whether the file is an order or a form
 abbrev pub outcome_without : Bool → List ℕ → SheetFault → Outcome
 outcome_without true bytes fault = message_outcome bytes
 outcome_without false bytes fault = outcomes.Faulty (founds.File fault)
 
--- the outcome for a file, made from the file's document or, if the file isn't a document, its fault
+-- the outcome for a file; the second argument is the file's document, or the fault of a file that isn't a document
 abbrev pub outcome_by : List ℕ → Result Members SheetFault → Outcome
 outcome_by bytes (Ok document) = outcome_of (file_in document)
 outcome_by bytes (Err fault) = outcome_without (is_message bytes) bytes fault
@@ -53,13 +53,14 @@ outcome_by bytes (Err fault) = outcome_without (is_message bytes) bytes fault
 abbrev pub file_outcome : List ℕ → Outcome
 file_outcome bytes = outcome_by bytes (document_of bytes)
 
--- the order or the form in a file that isn't a document; `None` if the file has a fault; the truth value says whether
--- the file is an order or a form
+-- the order or the form in a file that isn't a document; `None` if there is no such message, or it has a fault; the
+-- first argument says whether the file is an order or a form
 abbrev pub message_without : Bool → List ℕ → Option KnownMessage
 message_without true bytes = message_of bytes
 message_without false bytes = None
 
--- the order or the form in a file, made from the file's document or, if the file isn't a document, its fault
+-- the order or the form in a file; the second argument is the file's document, or the fault of a file that isn't a
+-- document
 abbrev pub message_by : List ℕ → Result Members SheetFault → Option KnownMessage
 message_by bytes (Ok document) = None
 message_by bytes (Err fault) = message_without (is_message bytes) bytes
@@ -93,8 +94,8 @@ IsDocumentReport l name bytes document text = MatchResult (file_in document)
 abbrev pub message_report : Language → List ℕ → List ℕ → List ℕ
 message_report l name bytes = message_words l name bytes ++ group_lines l (message_of bytes)
 
--- The text is the report on a file that isn't a document. The truth value says whether the file is an order
--- or a form.
+-- The text is the report on a file that isn't a document. The second argument says whether the file is an order or a
+-- form.
 abbrev pub IsOtherReport : Language → Bool → List ℕ → List ℕ → SheetFault → List ℕ → Type 0
 IsOtherReport l true name bytes fault text = text ≡ message_report l name bytes
 IsOtherReport l false name bytes fault text = SaysPlainly l name bytes fault text

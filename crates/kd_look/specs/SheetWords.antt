@@ -1,5 +1,5 @@
 -- A key sheet in words: lines for the days of each model, and lines for the days without groups. Successive days share
--- a line.
+-- a line, such as `M3: days 4 to 9`.
 -- Test: tests/cases/curator-look.toml
 use Rattle.std.specs.Prelude.{codes, ℕ, ◌+◌, ◌-◌, ◌==◌, ◌++◌, Bool, false, List, [], length, Option, decimal}
 use Rattle.std.specs.Prelude.{if◌then◌else◌}
@@ -24,17 +24,17 @@ unfoldable pub has_day : List (Option Day) → DaySort → ℕ → Bool
 has_day month (sorts.Of model) number = has_day_of model month number
 has_day month sorts.WithoutGroups number = option_map_or lacks_groups (day_of month number) false
 
--- The words that day `number` adds to the lines for the days of a sort, such as `M3: days 4 to 9`. The day is of this
--- sort. The first day of a line adds the line's beginning, with `title`. The last day of a line adds the line's end.
--- Days between them add nothing. `before` and `after` say whether the previous day and the next day are of this sort.
+-- The words that day `number` adds to the lines for days of its sort, such as the line `M3: days 4 to 9`. There, day 4
+-- adds `M3: days 4 to `, day 9 adds `9` and the line end, and the days between them add nothing. `before` and `after`
+-- say whether the days before and after are of the same sort.
 unfoldable pub day_words : Language → List ℕ → Bool → Bool → ℕ → List ℕ
 day_words l title before after number =
     if before then (if after then [] else decimal number ++ codes "\n")
     else (if after then title ++ text_in l FIRST_DAY ++ decimal number ++ text_in l LAST_DAY
     else title ++ text_in l DAY ++ decimal number ++ codes "\n")
 
--- the words that day `number` of the sheet adds to the lines for the days of a sort; empty if the day isn't of this
--- sort
+-- the words that day `number` of the sheet adds to the lines for the days of the sort `sort`; empty if the day isn't of
+-- this sort
 unfoldable pub numbered_day_words : Language → List (Option Day) → List ℕ → DaySort → ℕ → List ℕ
 numbered_day_words l month title sort number =
     if has_day month sort number

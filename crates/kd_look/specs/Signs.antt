@@ -8,7 +8,7 @@ use Rattle.kd_tables.specs.Text.{is_capital, is_text_byte}
 use Rattle.kd_sheet.specs.Document.{◌>>=◌}
 use Rattle.kd_look.specs.declared.message.signs.WrongByte.{WrongByte}
 
--- the place of the first byte that isn't allowed in a text, counted from 0
+-- the index of the first byte that isn't allowed in a text or a body
 abbrev pub wrong_sign : List ℕ → Option ℕ
 wrong_sign bytes = position (λ byte. not (is_text_byte byte)) bytes
 
@@ -28,13 +28,14 @@ end_of_line text index =
     then (if fits_at text 10 (index + 1) then Ok (index + 2) else Err (record { index = index + 1; mark = 10 }))
     else Err (record { index = index; mark = 10 })
 
--- the index after the bytes that fit the pattern `marks` from `index` on, or the first byte that doesn't fit
+-- Compares the bytes from `index` on with the pattern `marks`. The result is the index after these bytes, or the first
+-- byte that doesn't fit.
 abbrev pub marks_end : List ℕ → List ℕ → ℕ → Result ℕ WrongByte
 marks_end text [] index = Ok index
 marks_end text (mark ∷ marks) index =
     if fits_at text mark index then marks_end text marks (index + 1) else Err (record { index = index; mark = mark })
 
--- the index after the line that begins at `index`, or the first byte that doesn't fit the line's
--- pattern `marks`
+-- Compares the line that begins at `index` with the pattern `marks`. The result is the index after the line's end, or
+-- the first byte that doesn't fit.
 abbrev pub line_end : List ℕ → List ℕ → ℕ → Result ℕ WrongByte
 line_end text marks index = marks_end text marks index >>= end_of_line text

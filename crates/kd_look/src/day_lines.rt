@@ -1,4 +1,4 @@
-//! The warnings about days.
+//! Writes the warnings about a key sheet's days.
 ghost use Rattle.std.specs.Prelude.{◌≡◌, ◌++◌, ℕ, List, OnOk};
 ghost use Rattle.std.specs.String.{string_bytes};
 ghost use Rattle.kd_findings.specs.Texts.{AppendsText, EndsAtFeed};

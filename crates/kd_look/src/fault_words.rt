@@ -83,7 +83,7 @@ fn fault_lines(
     Ok(text)
 }
 
-/// Appends a line about each of `findings`. For each finding, `lines` has the number of the finding's line in the file.
+/// Appends a line about each of `findings`. `lines` has the number of each finding's line in the file, if it is known.
 fn push_findings(
     text: &mut String,
     wording: Wording,

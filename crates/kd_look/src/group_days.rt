@@ -1,4 +1,4 @@
-//! Names the days of key sheets that have the groups of orders and forms.
+//! Says which days of key sheets have the groups of orders and forms.
 ghost use Rattle.std.specs.Prelude.{◌≡◌, ◌↔◌, ◌++◌, ◌+◌, ◌<◌, ◌^◌, ◌∷◌, [], flat_map, length, map, IfOk, IsTrue, OnOk};
 ghost use Rattle.std.specs.List.{filter};
 ghost use Rattle.std.specs.String.{string_bytes};
@@ -22,7 +22,7 @@ use kd_state::SheetDay;
 use kd_tables::{Letter, Model};
 use std::alloc::{AllocError, Global};
 
-/// A message, and a key sheet in which the days of the message's groups are sought.
+/// A message, and a key sheet in which to find the days that have the message's groups.
 #[derive(Clone, Copy)]
 pub struct Search<'f> {
     /// The name of the message's file.
@@ -33,7 +33,7 @@ pub struct Search<'f> {
     pub month: &'f Sheet,
 }
 
-/// The lines about the groups of all orders and forms of `files`, and the days of all key sheets.
+/// The lines that say which days of the key sheets have the groups of all orders and forms of `files`.
 pub fn group_day_lines(wording: Wording, files: &[ReadFile<'_>]) -> Result<String, AllocError>
     ensures { IfOk result (λ lines.
         string_bytes lines ≡ group_day_words wording.language (map known_of files.now)) }
@@ -45,9 +45,9 @@ pub fn group_day_lines(wording: Wording, files: &[ReadFile<'_>]) -> Result<Strin
     Ok(lines)
 }
 
-/// Appends the lines about the groups of `file`, and the days of all key sheets of `files`.
+/// Appends the lines that say which days of the key sheets in `files` have the groups of `file`.
 ///
-/// Appends nothing if `file` isn't an order or a form.
+/// Appends nothing if `file` isn't a faultless order or form.
 fn push_message(
     lines: &mut String,
     wording: Wording,
@@ -63,7 +63,7 @@ fn push_message(
     }
 }
 
-/// Appends the lines about the groups of `message` and the days of all key sheets of `files`.
+/// Appends the lines that say which days of the key sheets in `files` have the groups of `message`.
 ///
 /// `name` is the name of the message's file.
 #[tactic(auto, using(std::proofs::Common::append_assoc))]
@@ -86,7 +86,7 @@ fn push_sheets(
     }
 }
 
-/// Appends the lines about the groups of `message` and the days of `sheet`.
+/// Appends the lines that say which days of `sheet` have the groups of `message`.
 ///
 /// Appends nothing if `sheet` isn't a key sheet.
 fn push_sheet(
@@ -113,7 +113,7 @@ fn push_sheet(
     }
 }
 
-/// Appends the lines about `groups`. The first group is that of part `part`.
+/// Appends the lines about `groups`. The first group belongs to part `part`, the second to part `part + 1`.
 #[tactic(auto, using(std::proofs::Common::append_assoc))]
 fn push_parts(
     lines: &mut String,
@@ -135,7 +135,7 @@ fn push_parts(
     }
 }
 
-/// Appends the lines about the group of part `part`.
+/// Appends the lines that say which days of the sheet have the group of part `part`.
 #[tactic(auto, unfolding(crate::specs::GroupDays::part_lines))]
 fn push_part(
     lines: &mut String,
@@ -161,7 +161,7 @@ fn push_part(
 
 /// Appends a line for each of `days`, the days that have the group of part `part`.
 ///
-/// `group` is the group in capital letters. If there is no such day, appends the warning.
+/// If there are no days, appends the warning that no day has the group. `group` is the group in capital letters.
 fn push_lines_for(
     lines: &mut String,
     language: Language,
@@ -203,7 +203,7 @@ fn push_days(
     }
 }
 
-/// Appends the line that says that the group of part `part` is of day `day`.
+/// Appends the line that says that the group of part `part` belongs to day `day`.
 ///
 /// `group` is the group in capital letters.
 #[tactic(auto, unfolding(crate::specs::GroupDays::group_day_line))]
@@ -233,7 +233,7 @@ fn push_day(
     )
 }
 
-/// Appends the warning that no day of the sheet suits the message and the group of part `part`.
+/// Appends the warning that no day for the message's machine has the group of part `part`.
 ///
 /// `group` is the group in capital letters.
 #[tactic(auto, unfolding(crate::specs::GroupDays::no_group_line))]
@@ -300,14 +300,14 @@ fn suits(search: &Search<'_>, group: [Letter; 3], day: &SheetDay) -> bool
     can_be_for(search.keys, day.model()) && has_group(group, day)
 }
 
-/// Whether a message whose keys are written as `keys` can be for `model`.
+/// Whether a message can be for `model`, if the message's keys are written as `keys`.
 fn can_be_for(keys: KeyLine, model: Model) -> bool
     ensures { result ≡ can_be_for keys model }
 {
     model.slots() == key_slots(keys)
 }
 
-/// How many slots the machines have that a message can be for. A Converter has no slots.
+/// The number of slots of a machine, known from how its keys are written. A Converter has no slots.
 fn key_slots(keys: KeyLine) -> u8
     ensures { result ≡ key_slots keys }
 {

@@ -1,5 +1,5 @@
-//! Laws: this crate says of an order what `send` says of it, and of a form what `receive` says. The
-//! groups that this crate names are the message's own.
+//! Laws: without a machine, this crate says of an order what `send` says, and of a form what `receive` says. The groups
+//! that this crate names are the message's own.
 ghost use Rattle.kd_look.specs.Laws.{FaultlessFormsAreReceived, FaultlessOrdersAreSent, FormFaultsAreThoseOfReceive};
 ghost use Rattle.kd_look.specs.Laws.{FormsAreForTheirMachine, FormsBeginWithHeadings, OrdersAreForTheirMachine};
 ghost use Rattle.kd_look.specs.Laws.{FormsAreSeenWithoutLetters, OrdersAreNoForms};
@@ -9,7 +9,7 @@ ghost use Rattle.kd_look.specs.Laws.{OrderGroupsAreThoseOfKeys};
 
 /// For an order's head, this crate and `send` find the same end, or the same first wrong byte.
 ///
-/// For `send`, the law takes any day of a machine that the order can be for.
+/// This holds on each day for a machine whose keys are written as this crate expects.
 pub fn heads_are_read_as_send_reads_them()
     ensures faults { HeadFaultsAreThoseOfSend }
     ensures ends { HeadsEndWhereSendEndsThem }
@@ -53,23 +53,22 @@ pub fn groups_of_forms_are_those_of_their_bodies()
 
 /// This crate says of a form what `receive` would say if it didn't decipher the form's letters.
 ///
-/// So the law says which fault this crate names, even in a form whose letters have a fault.
+/// So the law also says which fault this crate names in a form whose letters have a fault.
 pub fn forms_are_judged_without_their_letters()
     ensures { FormsAreSeenWithoutLetters }
 {}
 
-/// This crate takes a message for the right machine.
+/// This crate says rightly which machine a message is for.
 ///
-/// If `send` makes a form of an order on a day, or `receive` reads a form on a day, this machine is
-/// the day's.
+/// If `send` makes a form of the order, or `receive` reads the form, this is the machine of the day that they use.
 pub fn messages_are_taken_for_their_machine()
     ensures orders { OrdersAreForTheirMachine }
     ensures forms { FormsAreForTheirMachine }
 {}
 
-/// This crate takes a text for a form exactly if the text begins as a heading line does.
+/// This crate tells forms from orders: a form is a text that begins as a heading line does.
 ///
-/// If `send` makes a form of an order, this crate takes the order for an order.
+/// If `send` makes a form of an order, this crate finds that the order is an order.
 pub fn messages_are_taken_for_their_kind()
     ensures forms { FormsBeginWithHeadings }
     ensures orders { OrdersAreNoForms }

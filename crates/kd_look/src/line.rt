@@ -32,10 +32,10 @@ enum Sought {
     AnyKey,
 }
 
-/// The line of each of `findings`, found by cutting off `text` after each line in turn.
+/// The line number of each of `findings`. `None` if the line can't be found, or `text` is too long.
 ///
-/// For each finding, there is an entry or key to look for. The finding's line is the first line after which the cut
-/// text is a document with this entry or key. `None` if there is no such line, or `text` is too long.
+/// To find the line, `text` is cut off after each of its lines in turn. The finding's line is the first one after which
+/// the cut text is a document with the entry or key that is sought for the finding.
 pub fn lines_of(
     alloc: Global,
     text: &[u8],
@@ -88,9 +88,9 @@ fn no_lines(alloc: Global, findings: &[Finding]) -> Result<Vec<Option<usize>>, A
     Ok(lines)
 }
 
-/// For each of `findings`, the number of its line, if the line's last byte is at `index` or before.
+/// The line numbers of `findings`, as far as they are known after the byte at `index`.
 ///
-/// `lines` has only the numbers of lines whose last byte is before `index`.
+/// `lines` has the numbers that were known before this byte. The byte stands in line `line`.
 fn lines_after(
     alloc: Global,
     text: &[u8],
@@ -120,8 +120,9 @@ fn ends_line(text: &[u8], index: usize) -> bool
     text[index] == b'\n' || index + 1 == text.len()
 }
 
-/// Returns the line numbers `lines`, one for each of `findings`. A number that is missing becomes `line`, if `text` is
-/// a document with the entry or key sought for the finding.
+/// Returns `lines`, the line numbers of `findings`, with missing numbers replaced by `line`.
+///
+/// A missing number is replaced only if `text` is a document with the entry or key that is sought for the finding.
 fn lines_with(
     alloc: Global,
     text: &[u8],
@@ -141,8 +142,9 @@ fn lines_with(
     }
 }
 
-/// Returns the line numbers `lines`, one for each of `findings`. A number that is missing becomes `line`, if `document`
-/// has the entry or key sought for the finding.
+/// Returns `lines`, the line numbers of `findings`, with missing numbers replaced by `line`.
+///
+/// A missing number is replaced only if `document` has the entry or key that is sought for the finding.
 fn next_lines(
     alloc: Global,
     document: &Table,
@@ -162,7 +164,7 @@ fn next_lines(
     Ok(next)
 }
 
-/// `known`, if it isn't `None`. Otherwise `line`, if `document` has the entry or key to look for.
+/// `known`, if it is a number. Otherwise `line`, if `document` has the entry or key that is sought for `finding`.
 fn known_line(
     known: Option<usize>,
     document: &Table,
@@ -177,7 +179,7 @@ fn known_line(
     }
 }
 
-/// `line`, if `document` has the entry or key to look for; otherwise `None`.
+/// `line`, if `document` has the entry or key that is sought for `finding`; otherwise `None`.
 #[tactic(auto, unfolding(crate::specs::Line::line_in))]
 fn line_in(document: &Table, line: usize, finding: &Finding) -> Option<usize>
     ensures { result ≡ line_in (table_view document.now) line finding.now }

@@ -25,7 +25,7 @@ pub struct NamedFile<'f> {
     pub bytes: &'f [u8],
 }
 
-/// Describes `files` in the words of `wording`, or names their faults.
+/// Describes `files` in the language of `wording`, or names their faults.
 pub fn look_at<W: Sink>(
     wording: Wording,
     files: &[NamedFile<'_>],
@@ -66,8 +66,8 @@ fn report_all(wording: Wording, files: &[NamedFile<'_>]) -> Result<WholeReport, 
     Ok(WholeReport { text, outcome })
 }
 
-/// Appends the lines that compare `files`: the warnings about missing days, then the lines that
-/// name the days of the messages' groups.
+/// Appends the lines that compare `files`. First come the warnings about machines for which no key sheet has a day.
+/// Then come the lines that say which days have the messages' groups.
 #[tactic(auto, using(std::proofs::Common::append_assoc))]
 fn push_comparisons(
     text: &mut String,

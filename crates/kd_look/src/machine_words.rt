@@ -102,7 +102,7 @@ fn push_slot(
     }
 }
 
-/// Appends a wheel with its ring and its window letter.
+/// Appends the words for a wheel: its name, its ring and its window letter.
 #[tactic(auto, using(std::proofs::Common::append_assoc), unfolding(crate::specs::MachineWords::wheel_words))]
 fn push_wheel(
     text: &mut String,

@@ -145,7 +145,7 @@ fn push_no_day_words(
     push_filled(lines, language.text(NO_DAY), &[name, sheet, model])
 }
 
-/// The model after the word `for`.
+/// The model as it is named after the word `for`: in German, in the accusative.
 fn model_after_for(language: Language, model: Model) -> &'static str
     ensures { result.now ≡ model_after_for language model }
 {

@@ -103,7 +103,7 @@ fn report_with_groups(
     })
 }
 
-/// The outcome for an order or a form, made from the answer of reading it.
+/// The outcome for an order or a form. `answer` is the result of reading it.
 fn answer_outcome<A>(answer: &Result<A, MessageFault>) -> Outcome
     ensures { result ≡ answer_outcome answer.now }
 {

@@ -93,8 +93,8 @@ fn push_sort(
     Ok(())
 }
 
-/// Appends the words that the day `number` adds to the lines for the days of the sort `sort`. If the day isn't of this
-/// sort, appends nothing.
+/// Appends the words that day `number` adds to the lines for the days of the sort `sort`. Appends nothing if the day
+/// isn't of this sort.
 #[tactic(auto, unfolding(crate::specs::SheetWords::numbered_day_words))]
 fn push_day(
     text: &mut String,
@@ -143,7 +143,7 @@ fn lacks_groups(day: &SheetDay) -> bool
     }
 }
 
-/// Appends a line's last day, and ends the line. If the next day also belongs to the line, appends nothing.
+/// Appends the end of a line for several days: the last day. If the next day also belongs to the line, appends nothing.
 #[tactic(auto, using(std::proofs::Common::append_assoc), unfolding(crate::specs::SheetWords::day_words))]
 fn push_last_day(
     text: &mut String,
@@ -162,7 +162,7 @@ fn push_last_day(
     text.push_str("\n")
 }
 
-/// Appends `title` and the first day of a line. If the line has no further day, also ends the line.
+/// Appends the start of a line for days: `title` and the first day. If the line has only this day, also ends the line.
 #[tactic(auto, using(std::proofs::Common::append_assoc), unfolding(crate::specs::SheetWords::day_words))]
 fn push_first_day(
     text: &mut String,

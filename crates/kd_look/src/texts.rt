@@ -2,7 +2,7 @@
 
 use kd_language::Text;
 
-/// The rest of the first line about a machine file, and about a key sheet. The file's name stands before it.
+/// The words after a file's name in the first line about a machine file. The next text is for a key sheet.
 pub const MACHINE_FILE: Text = (
     ": a machine file without a fault\n",
     ": eine Maschinendatei ohne Fehler\n",
@@ -13,12 +13,12 @@ pub const KEY_SHEET: Text = (
     ": eine Schlüsseltafel ohne Fehler\n",
 );
 
-/// The words before a machine's model, and before its reflector.
+/// The word before a machine's model. The next text stands before a machine's reflector.
 pub const MODEL: Text = ("model ", "Modell ");
 
 pub const REFLECTOR: Text = ("reflector ", "Umkehrwalze ");
 
-/// The names of the things on a machine that have numbers.
+/// What a slot is called in a line about a machine. The next three texts are for cables, pin wheels and bars.
 pub const SLOT: Text = ("slot", "Platz");
 
 pub const CABLE: Text = ("cable", "Schnur");
@@ -27,8 +27,8 @@ pub const PIN_WHEEL: Text = ("wheel", "Rad");
 
 pub const BAR: Text = ("bar", "Stange");
 
-/// The words of a slot's line: before the wheel, before its ring, and before its window letter. The next text is for a
-/// slot without a wheel.
+/// In a slot's line, the word before the wheel. The next two texts stand before its ring and its window letter. Then
+/// comes the text for a slot without a wheel.
 pub const WHEEL: Text = ("wheel ", "Walze ");
 
 pub const RING: Text = (", ring ", ", Ring ");
@@ -40,12 +40,14 @@ pub const EMPTY: Text = ("empty\n", "leer\n");
 /// The end of the line of a cable with one letter.
 pub const FREE_END: Text = (", one end free\n", ", ein Ende frei\n");
 
-/// The words of a pin wheel's line: before the letter that the wheel shows, and before the letters of its pins.
+/// In a pin wheel's line, the word before the letter that the wheel shows. The next text stands before the letters of
+/// its effective pins.
 pub const SHOWN: Text = ("window ", "Fenster ");
 
 pub const PINS: Text = (", effective pins:", ", wirksame Stifte:");
 
-/// The words of a line for days: before a single day, before the first of several days, and before the last of them.
+/// In a line for days, the words before a single day. The next two texts stand before the first and the last of several
+/// days, as in `M3: days 4 to 9`.
 pub const DAY: Text = (": day ", ": Tag ");
 
 pub const FIRST_DAY: Text = (": days ", ": Tage ");
@@ -55,16 +57,17 @@ pub const LAST_DAY: Text = (" to ", " bis ");
 /// The title of the lines for days without groups.
 pub const WITHOUT_GROUPS: Text = ("without groups", "ohne Kenngruppen");
 
-/// The rest of the line that warns of a byte order mark. The file's name stands before it.
+/// The words after a file's name in the warning about a byte order mark.
 pub const MARK: Text = (
     ": warning: the file begins with a byte order mark, which the desk passes over\n",
     ": Warnung: die Datei beginnt mit einer Bytereihenfolge-Markierung; desk übergeht sie\n",
 );
 
-/// The words between a file's name and a warning of days. In English, the warning goes on with a plural's `s`.
+/// The words after a file's name in a warning about two days. In English, an `s` follows: `days 3 and 5`.
 pub const DAY_WARNING: Text = (": warning: day", ": Warnung: Tag");
 
-/// A warning of two days, after `DAY_WARNING`. The values are the days' numbers.
+/// The end of the warning that two days differ only in their numbers, after `DAY_WARNING`. The values are these
+/// numbers.
 pub const ALIKE: Text = (
     "s ~ and ~ are alike but for the number",
     " ~ und Tag ~ sind bis auf die Nummer gleich",
@@ -77,13 +80,13 @@ pub const NO_DAY: Text = (
     "~: Warnung: ~ hat keinen Tag für ~\n",
 );
 
-/// Models after the word `for`. In German, they are in the accusative. Models whose accusative is their nominative have
-/// their texts in `kd_slips`. The second text is for the two models whose messages look alike.
+/// A Converter after the word `for`, in German in the accusative. The next text names both models whose messages look
+/// alike. The texts for the other models are in `kd_slips`.
 pub const CONVERTER: Text = ("a Converter M-209", "einen Converter M-209");
 
 pub const ENIGMA_I_OR_M3: Text = ("an Enigma I or an M3", "eine Enigma I oder eine M3");
 
-/// The lines about an order, and about a form, in which no fault was found. The values are the file's name and the
+/// The first lines about an order without a fault. The next text is for a form. The values are the file's name and the
 /// model.
 pub const ORDER: Text = (
     "~: an order for ~, without a fault in its lines, its letters and its number of parts\nnot looked at: whether its keys suit the day\n",
@@ -95,7 +98,8 @@ pub const FORM: Text = (
     "~: ein Formular für ~, ohne Fehler in Spruchköpfen, Zeichen und Buchstabenzahlen\nnicht geprüft: ob Kenngruppen und Kennbuchstaben zum Tag passen\n",
 );
 
-/// The words before the number of a message's parts, and before the number of its letters.
+/// The words before the number of a message's parts. The next text stands before the number of letters in an order's
+/// text.
 pub const PARTS: Text = ("parts: ", "Teile: ");
 
 pub const LETTERS: Text = ("letters of text: ", "Buchstaben des Textes: ");
@@ -103,21 +107,21 @@ pub const LETTERS: Text = ("letters of text: ", "Buchstaben des Textes: ");
 /// The line about a part's group. The values are the part's number and the group.
 pub const GROUP: Text = ("part ~: group ~\n", "Teil ~: Kenngruppe ~\n");
 
-/// The line that names a day with a part's group. The values are the name of the message's file, the part's number, the
-/// group, the day's number, and the name of the sheet's file.
+/// The line that names a day with a part's group. The values are, in this order: the message's file, the part's number,
+/// the group, the day's number, and the sheet's file.
 pub const GROUP_DAY: Text = (
     "~: part ~: group ~ is of day ~ in ~\n",
     "~: Teil ~: Kenngruppe ~ gehört zu Tag ~ in ~\n",
 );
 
-/// The warning that no day has a part's group. The values are the name of the message's file, the part's number, the
-/// name of the sheet's file, and the group.
+/// The warning that no day has a part's group. The values are, in this order: the message's file, the part's number,
+/// the sheet's file, and the group.
 pub const NO_GROUP: Text = (
     "~: warning: part ~: no day for such a machine in ~ has the group ~\n",
     "~: Warnung: Teil ~: in ~ hat kein Tag für eine solche Maschine die Kenngruppe ~\n",
 );
 
-/// What is wrong with an order or a form. The names are those of `Reason`.
+/// What is wrong with an order or a form: this text, and the texts after it. Each is named after a `Reason`.
 pub const ORDER_ENDS: Text = (
     "the order ends before its text; above the text stands the line `TEXT`",
     "der Auftrag endet vor seinem Text; über dem Text steht die Zeile `TEXT`",
@@ -199,8 +203,8 @@ pub const BODY_COUNT: Text = (
     "dieser Teil hat mehr oder weniger Buchstaben, als sein Spruchkopf angibt",
 );
 
-/// The words for a missing letter, and for a missing space, in a line of keys. Each has an example of a right line, for
-/// three slots, for four slots, or for a Converter.
+/// A letter is missing in a line of keys: this text, and the next two texts. Then come the texts for a missing space.
+/// Each has an example of a right line, for three slots, for four slots, or for a Converter.
 pub const LETTER_FOR_THREE: Text = (
     "a capital letter belongs here, as in `PART AAA AAA QX UGZ`",
     "hier gehört ein Großbuchstabe hin, wie in `PART AAA AAA QX UGZ`",

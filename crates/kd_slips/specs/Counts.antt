@@ -28,14 +28,14 @@ abbrev pub count : Counted → DayCounts → ℕ
 count Pairs day = day.pairs
 count Groups day = day.groups
 
--- whether `other` is for the same model as `day`, and has more pairs or groups; `counted` says whether pairs or groups
--- are compared
+-- Whether `other` has more pairs than `day`. If `counted` is `Groups`, groups are compared instead. Only days of the
+-- same model are compared.
 abbrev pub has_more : Counted → DayCounts → DayCounts → Bool
 has_more counted day other =
     (model_eq.ghosts).eq other.model day.model && nat_lt (count counted day) (count counted other)
 
--- Whether `other` has more pairs or groups than `day`, and no day of the same model has more than `other`. `counted`
--- says whether pairs or groups are compared.
+-- Whether `other` has more pairs than `day`, and no day in `days` has more than `other`. If `counted` is `Groups`,
+-- groups are compared instead. Only days of the same model are compared.
 abbrev pub has_most : Counted → List DayCounts → DayCounts → DayCounts → Bool
 has_most counted days day other = has_more counted day other && not (list_any (has_more counted other) days)
 
@@ -48,14 +48,14 @@ noun l Groups number = if number == 1 then text_in l GROUP else text_in l GROUPS
 unfoldable pub count_words : Language → Counted → ℕ → List ℕ
 count_words l counted number = (if number == 0 then text_in l NO else decimal number) ++ noun l counted number
 
--- the warning about a day; `most` is a day of the same model that has the most pairs or groups
+-- the warning that `day` has fewer pairs, or fewer groups, than `most`, another day of its model
 unfoldable pub few_words : Language → List ℕ → Counted → DayCounts → DayCounts → List ℕ
 few_words l start counted day most =
     start ++ filled (text_in l FEW) (decimal day.day ∷ count_words l counted (count counted day)
     ∷ decimal most.day ∷ decimal (count counted most) ∷ [])
 
--- The warning about a day. Empty if no day of the same model has more pairs or groups. `counted` says whether pairs or
--- groups are compared.
+-- The warning that `day` has fewer pairs, or fewer groups, than another day of its model. Empty if no such day has
+-- more. `counted` says whether pairs or groups are compared.
 abbrev pub few_line : Language → List ℕ → List DayCounts → DayCounts → Counted → List ℕ
 few_line l start days day counted =
     option_map_or (few_words l start counted day) (find (has_most counted days day) days) []

@@ -1,5 +1,5 @@
--- The item number in a slip. A slip says why a value is refused. The number is for the first list item that the desk's
--- reader refuses, and the slip's words are about this item.
+-- The item number in a slip. A slip says in words why a value is refused. If these words are about an item of a list,
+-- the number is the item's number. The item is the first one that the desk's reader refuses.
 -- Test: tests/cases/curator-look.toml
 use Rattle.std.specs.Prelude.{◌≡◌, ℕ, ◌==◌, not, Bool, true, List, length, find, Option, Some, None, is_some}
 use Rattle.std.specs.Prelude.{if◌then◌else◌}
@@ -18,14 +18,12 @@ use Rattle.kd_sheet.specs.declared.key.Key.TheVariants as keys
 use Rattle.kd_slips.specs.declared.slip.Slip.{Slip}
 use Rattle.kd_slips.specs.declared.slip.Slip.TheVariants as slips
 
--- If the slip has a fault, the fault is `fault`, and the slip's words are about item `item`. The slip `NoMemory` always
--- satisfies this definition.
+-- The slip has the fault `fault` and the item number `item`, or it is `NoMemory`.
 abbrev pub HasFault : SheetFault → Option ℕ → Slip → Type 0
 HasFault fault item (slips.Fault found told words) = (found ≡ fault) × (told ≡ item)
 HasFault fault item slips.NoMemory = Unit {0}
 
--- If the slip has a fault, the slip's words are about item `item`. The slip `NoMemory` always satisfies this
--- definition.
+-- The slip has the item number `item`, or it is `NoMemory`.
 abbrev pub IsOfItem : Option ℕ → Slip → Type 0
 IsOfItem item (slips.Fault found told words) = told ≡ item
 IsOfItem item slips.NoMemory = Unit {0}
@@ -35,13 +33,13 @@ abbrev pub row_in : SheetFault → Option ℕ
 row_in (BadRow number) = Some number
 row_in fault = None
 
--- If the slip has a fault, the slip's words are about the item whose number the fault gives. The slip `NoMemory` always
--- satisfies this definition.
+-- The slip's item number is the row number that its fault gives, or the slip is `NoMemory`. If the fault gives no row
+-- number, the slip has no item number.
 abbrev pub IsOfItsRow : Slip → Type 0
 IsOfItsRow (slips.Fault found told words) = told ≡ row_in found
 IsOfItsRow slips.NoMemory = Unit {0}
 
--- the fault for the value at `key`, which is missing or of the wrong type
+-- the fault at `key`: `BadValue` if there is a value, otherwise `Missing`
 abbrev pub type_fault : Key → Option Data → SheetFault
 type_fault key value = if is_some value then BadValue key else Missing key
 

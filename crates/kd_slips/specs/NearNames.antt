@@ -20,11 +20,12 @@ smaller one other = if nat_le one other then one else other
 abbrev pub larger : ℕ → ℕ → ℕ
 larger one other = if nat_le one other then other else one
 
--- how many letters two names share at their starts and at their ends, together; at most the shorter name's length
+-- how many letters two names share at their starts and at their ends, added up; at most the shorter name's length
 abbrev pub in_common : List ℕ → List ℕ → ℕ
 in_common name known =
     smaller (alike_at_start name known + alike_at_end name known) (smaller (length name) (length known))
 
--- whether two names differ only in one stretch of letters, which has at most `slips` letters in each name
+-- whether two names differ only in one stretch of letters, which has at most `slips` letters in each name; for example,
+-- `ringe` and `rings` differ in one letter
 unfoldable pub is_near : ℕ → List ℕ → List ℕ → Bool
 is_near slips name known = nat_le (larger (length name) (length known)) (in_common name known + slips)

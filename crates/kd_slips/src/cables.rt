@@ -87,7 +87,7 @@ fn check_new(wording: Wording, items: &[Value], place: usize, text: &str) -> Res
     Ok(())
 }
 
-/// Refuses a cable that has the same letter at both ends.
+/// Refuses the cable `text` if it has the same letter at both ends.
 fn check_twice_within(wording: Wording, text: &str) -> Result<(), Slip>
     ensures { IfErr result (HasFault LetterTwice None) }
 {
@@ -102,7 +102,7 @@ fn check_twice_within(wording: Wording, text: &str) -> Result<(), Slip>
     Ok(())
 }
 
-/// Why the cable `text`, which has the letter `byte` at both ends, is refused.
+/// Why the cable `text` is refused: it has the letter `byte` at both ends.
 fn both_ends_words(wording: Wording, byte: u8, text: &str) -> Result<String, AllocError> {
     let letter = letter_text(wording.alloc, byte)?;
     wording.fill(texts::LETTER_AT_BOTH_ENDS, &[letter.as_str(), text])
@@ -121,7 +121,7 @@ fn check_apart(wording: Wording, earlier: &str, text: &str, byte: u8) -> Result<
     )
 }
 
-/// Why the letter `byte`, which the cables `earlier` and `text` have, is refused.
+/// Why the letter `byte` is refused: the cables `earlier` and `text` both have it.
 fn letter_twice_words(
     wording: Wording,
     byte: u8,
@@ -151,7 +151,7 @@ fn check_ends(
     refuse(fault, many_ends_words(wording, text))
 }
 
-/// Why the cable `text`, which has more than two letters, is refused.
+/// Why the cable `text` is refused: it has more than two letters.
 fn many_ends_words(wording: Wording, text: &str) -> Result<String, AllocError> {
     let text_shown = shown(wording, text)?;
     let mut buffer = Buffer::new();

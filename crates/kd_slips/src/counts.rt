@@ -70,7 +70,7 @@ fn push_day(
     push_few(lines, wording, start, days, day, Counted::Groups)
 }
 
-/// Appends the warning about `day`, if another day of the same model in `days` has more pairs or groups.
+/// Appends the warning about `day`, if another day of its model in `days` has more pairs, or more groups.
 ///
 /// `counted` says whether pairs or groups are compared.
 fn push_few(
@@ -90,10 +90,9 @@ fn push_few(
     }
 }
 
-/// The first day in `rest` that satisfies `has_most`: it has more pairs or groups than `day`, and no day in `days` has
-/// more than it.
+/// The first day in `rest` that has more pairs than `day`, and at least as many as each day in `days`.
 ///
-/// Only days of the same model are compared.
+/// If `counted` is `Groups`, groups are compared instead. Only days of the same model are compared.
 fn find_most(
     counted: Counted,
     days: &[DayCounts],
@@ -114,18 +113,18 @@ fn find_most(
     }
 }
 
-/// Whether `other` has more pairs or groups than `day`, and no day in `days` has more than `other`.
+/// Whether `other` has more pairs than `day`, and no day in `days` has more than `other`.
 ///
-/// Only days of the same model are compared. `counted` says whether pairs or groups are compared.
+/// If `counted` is `Groups`, groups are compared instead. Only days of the same model are compared.
 fn has_most(counted: Counted, days: &[DayCounts], day: &DayCounts, other: &DayCounts) -> bool
     ensures { result ≡ has_most counted days.now day.now other.now }
 {
     has_more(counted, day, other) && !is_topped(counted, other, days)
 }
 
-/// Whether one of `days` is for the same model as `day`, and has more pairs or groups.
+/// Whether one of `days` has more pairs than `day`.
 ///
-/// `counted` says whether pairs or groups are compared.
+/// If `counted` is `Groups`, groups are compared instead. Only days of the same model are compared.
 fn is_topped(counted: Counted, day: &DayCounts, days: &[DayCounts]) -> bool
     ensures { result ≡ list_any (has_more counted day.now) days.now }
 {
@@ -135,16 +134,16 @@ fn is_topped(counted: Counted, day: &DayCounts, days: &[DayCounts]) -> bool
     }
 }
 
-/// Whether `other` is for the same model as `day`, and has more pairs or groups.
+/// Whether `other` has more pairs than `day`.
 ///
-/// `counted` says whether pairs or groups are compared.
+/// If `counted` is `Groups`, groups are compared instead. Only days of the same model are compared.
 fn has_more(counted: Counted, day: &DayCounts, other: &DayCounts) -> bool
     ensures { result ≡ has_more counted day.now other.now }
 {
     other.model == day.model && count(counted, day) < count(counted, other)
 }
 
-/// Appends the warning about `day`. `most` is a day of the same model that has the most pairs or groups.
+/// Appends the warning that `day` has fewer pairs, or fewer groups, than `most`, another day of its model.
 #[tactic(auto, using(std::proofs::Common::append_assoc), unfolding(crate::specs::Counts::few_words))]
 fn push_words(
     lines: &mut String,
@@ -200,7 +199,7 @@ fn noun(language: Language, counted: Counted, number: usize) -> &'static str
     }
 }
 
-/// The day's number of pairs or of groups, as `counted` says.
+/// The day's number of pairs or, if `counted` is `Groups`, of groups.
 fn count(counted: Counted, day: &DayCounts) -> usize
     ensures { result ≡ count counted day.now }
 {

@@ -46,7 +46,7 @@ fn are_capitals(bytes: &[u8]) -> bool
     bytes.iter().all(|byte| byte.is_ascii_uppercase())
 }
 
-/// Why `text`, which has another byte than a capital letter, is refused.
+/// Why `text` is refused: it has a byte that isn't a capital letter.
 fn no_capitals_words(wording: Wording, text: &str) -> Result<String, AllocError> {
     let text_shown = shown(wording, text)?;
     if text.len() <= 40 && are_letters(text.as_bytes()) {
@@ -123,7 +123,7 @@ fn check_letters(
     refuse(fault, other_count_words(wording, text, count, purpose))
 }
 
-/// Why `text`, which doesn't have `count` letters, is refused. `purpose` says what the letters stand for.
+/// Why `text` is refused: it doesn't have `count` letters. `purpose` says what the letters stand for.
 fn other_count_words(
     wording: Wording,
     text: &str,
@@ -185,7 +185,7 @@ pub fn check_on_wheel(
     refuse(fault, no_letter_words(wording, wheel, letter))
 }
 
-/// Why `letter`, which isn't on pin wheel `wheel`, is refused.
+/// Why `letter` is refused: it isn't on pin wheel `wheel`.
 fn no_letter_words(wording: Wording, wheel: u8, letter: Letter) -> Result<String, AllocError> {
     let missing = letter_text(wording.alloc, letter.byte())?;
     let letters = wheel_letters(wording.alloc, wheel)?;

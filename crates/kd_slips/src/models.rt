@@ -61,7 +61,7 @@ pub fn check_reflector(wording: Wording, table: &Table, model: Model) -> Result<
     refuse(fault, no_reflector_words(wording, model, name))
 }
 
-/// Why `name`, which names none of the model's reflectors, is refused.
+/// Why `name` is refused: none of the model's reflectors has this name.
 fn no_reflector_words(wording: Wording, model: Model, name: &str) -> Result<String, AllocError> {
     let name_shown = shown(wording, name)?;
     wording.fill(
@@ -100,7 +100,7 @@ fn reflector_words(language: Language, model: Model) -> &'static str {
     })
 }
 
-/// The model's reflector named `name`. Capital and small letters count as equal.
+/// The model's reflector that has the name `name`, if capital and small letters count as equal.
 fn near_reflector(model: Model, name: &str) -> Option<Reflector> {
     for reflector in model.reflectors() {
         if reflector.text().as_str().eq_ignore_ascii_case(name) {
@@ -122,13 +122,13 @@ fn unknown_model(wording: Wording, name: &str) -> Result<Model, Slip>
     refuse(fault, no_model_words(wording, name))
 }
 
-/// Why `name`, which names no model, is refused.
+/// Why `name` is refused: no model has this name.
 fn no_model_words(wording: Wording, name: &str) -> Result<String, AllocError> {
     let name_shown = shown(wording, name)?;
     wording.fill(texts::NO_MODEL, &[name_shown.as_str()])
 }
 
-/// The model named `name`. Capital and small letters count as equal.
+/// The model that has the name `name`, if capital and small letters count as equal.
 fn near_model(name: &str) -> Option<Model> {
     for model in Model::ALL {
         if model.text().as_str().eq_ignore_ascii_case(name) {
@@ -177,7 +177,7 @@ fn unknown_wheel(wording: Wording, name: &str, key: Key, model: Model) -> Result
     refuse(fault, no_wheel_words(wording, name, model))
 }
 
-/// Why `name`, which names no wheel, is refused.
+/// Why `name` is refused: no wheel has this name.
 fn no_wheel_words(wording: Wording, name: &str, model: Model) -> Result<String, AllocError> {
     let name_shown = shown(wording, name)?;
     wording.fill(
@@ -190,7 +190,7 @@ fn no_wheel_words(wording: Wording, name: &str, model: Model) -> Result<String, 
     )
 }
 
-/// The wheel named `name`. Capital and small letters count as equal.
+/// The wheel that has the name `name`, if capital and small letters count as equal.
 fn near_wheel(name: &str) -> Option<Wheel> {
     for wheel in Model::M4.wheels() {
         if wheel.text().as_str().eq_ignore_ascii_case(name) {
@@ -221,7 +221,7 @@ fn check_allowed(wording: Wording, model: Model, slot: u8, wheel: Wheel) -> Resu
     )
 }
 
-/// Why `wheel`, which `model` doesn't allow in slot `slot`, is refused.
+/// Why `wheel` is refused: `model` doesn't allow it in slot `slot`.
 fn not_allowed_words(
     wording: Wording,
     model: Model,
@@ -279,7 +279,7 @@ fn check_first(wording: Wording, items: &[Value], slot: u8, name: &str) -> Resul
     Ok(())
 }
 
-/// Why the wheel `name`, which is in the slots `earlier` and `slot`, is refused.
+/// Why the wheel `name` is refused: it is in the slots `earlier` and `slot`.
 fn wheel_twice_words(
     wording: Wording,
     name: &str,

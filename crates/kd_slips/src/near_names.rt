@@ -2,7 +2,8 @@
 ghost use Rattle.std.specs.Prelude.{◌≡◌, ◌≤◌, length};
 ghost use Rattle.kd_slips.specs.NearNames.{alike_at_end, alike_at_start, in_common, is_near};
 
-/// Whether two names differ only in one stretch of letters, which has at most `slips` letters in each name.
+/// Whether two names differ only in one stretch of letters, which has at most `slips` letters in each name. For
+/// example, `ringe` and `rings` differ in one letter.
 #[tactic(auto, unfolding(crate::specs::NearNames::is_near))]
 pub fn is_near(slips: u8, name: &[u8], known: &[u8]) -> bool
     ensures { result ≡ is_near slips name.now known.now }
@@ -15,7 +16,7 @@ pub fn is_near(slips: u8, name: &[u8], known: &[u8]) -> bool
     most <= in_common(name, known) + usize::from(slips)
 }
 
-/// How many letters two names share at their starts and at their ends, together; at most the shorter name's length.
+/// How many letters two names share at their starts and at their ends, added up; at most the shorter name's length.
 fn in_common(name: &[u8], known: &[u8]) -> usize
     ensures value { result ≡ in_common name.now known.now }
     ensures few { result ≤ length name.now }

@@ -23,7 +23,7 @@ pub fn number_at(wording: Wording, table: &Table, key: Key, last: u8) -> Result<
     )
 }
 
-/// `value` as a whole number from 1 to `last`; for any other value, a slip with the fault `fault`.
+/// `value` as a whole number from 1 to `last`, or a slip with the fault `fault` if it isn't one.
 pub fn number_of(wording: Wording, value: &Value, fault: SheetFault, last: u8) -> Result<u8, Slip>
     ensures value { IfOk result (λ number. number_up_to last (view value.now) ≡ Some number) }
     ensures refused { OnErr result (number_up_to last (view value.now) ≡ None) }
@@ -41,18 +41,18 @@ pub fn number_of(wording: Wording, value: &Value, fault: SheetFault, last: u8) -
     }
 }
 
-/// Why a text in place of a number is refused.
+/// Why `text` is refused: it is a text, and a number is needed.
 fn quoted_words(wording: Wording, text: &str) -> Result<String, AllocError> {
     let text_shown = shown(wording, text)?;
     wording.fill(QUOTED_NUMBER, &[text_shown.as_str()])
 }
 
-/// Why a value of another type in place of a number is refused.
+/// Why `value` is refused: it is neither a text nor a whole number, and a number is needed.
 fn no_number_words(wording: Wording, value: &Value) -> Result<String, AllocError> {
     wording.fill(NUMBER_NEEDED, &[kind_of(wording.language, value)])
 }
 
-/// Why `number`, which isn't from 1 to `last`, is refused.
+/// Why `number` is refused: it isn't from 1 to `last`.
 fn out_of_range_words(wording: Wording, number: i64, last: u8) -> Result<String, AllocError> {
     let mut number_buffer = Buffer::new();
     let mut last_buffer = Buffer::new();

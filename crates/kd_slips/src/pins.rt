@@ -17,7 +17,7 @@ use kd_tables::{Letter, ring1, ring2, ring3, ring4, ring5, ring6};
 use std::alloc::AllocError;
 use toml::{Table, Value};
 
-/// Checks the pins at the key `pins`. A slip's words are about the first wheel whose pins the desk refuses.
+/// Checks the pins at the key `pins`. If the desk refuses the pins of a wheel, the slip is about the first such wheel.
 #[tactic(auto, unfolding(crate::specs::Items::refused_pins))]
 pub fn check_pins(wording: Wording, table: &Table) -> Result<(), Slip>
     ensures read { OnOk result (refused_pins (table_view table.now) ≡ None) }
@@ -28,7 +28,7 @@ pub fn check_pins(wording: Wording, table: &Table) -> Result<(), Slip>
     check_pin_items(wording, items)
 }
 
-/// Checks the standings at the key `bars`. A slip's words are about the first bar that the desk refuses.
+/// Checks the standings at the key `bars`. If the desk refuses a standing, the slip is about the first such standing.
 pub fn check_bars(wording: Wording, table: &Table) -> Result<(), Slip>
     ensures read { OnOk result (IsOk (bars_in (table_view table.now))) }
     ensures row { (number : ℕ) → bars_in (table_view table.now) ≡ Err (BadRow number)
@@ -44,7 +44,7 @@ pub fn check_bars(wording: Wording, table: &Table) -> Result<(), Slip>
     }
 }
 
-/// Checks the rows at the key `rows`. A slip's words are about the first row that the desk refuses.
+/// Checks the rows at the key `rows`. If the desk refuses a row, the slip is about the first such row.
 pub fn check_rows(wording: Wording, table: &Table) -> Result<(), Slip>
     ensures read { OnOk result (IsOk (rows_in (table_view table.now))) }
     ensures row { (number : ℕ) → rows_in (table_view table.now) ≡ Err (BadRow number)
@@ -100,8 +100,8 @@ fn reads_pins(wheel: u8, item: &Value) -> bool
     }
 }
 
-/// Returns the slip in `checked`, with `item` as the number of its item. If `checked` is `Ok`, returns a slip with
-/// general words, because the desk refuses the item in any case.
+/// Returns the slip in `checked`, with the item number `item`. If `checked` is `Ok`, no check says why the desk refuses
+/// the item. Then the slip has general words.
 fn at_item(wording: Wording, checked: Result<(), Slip>, item: usize) -> Result<(), Slip>
     ensures refused { IsErr result }
     ensures slip { IfErr result (IsOfItem (Some item)) }
@@ -117,7 +117,7 @@ fn at_item(wording: Wording, checked: Result<(), Slip>, item: usize) -> Result<(
     }
 }
 
-/// Explains why the desk can't read `item` as the pins of pin wheel `wheel`.
+/// Says why the desk can't read `item` as the pins of pin wheel `wheel`.
 fn refuse_pins(wording: Wording, wheel: u8, item: &Value) -> Result<(), Slip> {
     let number = usize::from(wheel);
     let text = item_text(wording, item, number, SheetFault::BadValue(Key::Pins))?;
@@ -146,14 +146,14 @@ fn check_wheel_pins(wording: Wording, wheel: u8, text: &str) -> Result<(), Slip>
     Ok(())
 }
 
-/// Why a text of pins that has the pin `byte` twice is refused.
+/// Why the pins of a wheel are refused: the pin `byte` is there twice.
 fn pin_twice_words(wording: Wording, byte: u8) -> Result<String, AllocError> {
     let pin = letter_text(wording.alloc, byte)?;
     wording.fill(texts::PIN_TWICE, &[pin.as_str()])
 }
 
-/// Refuses item number `number` of the list at `key`. If the item is a text, the slip has the words `words`, whose
-/// value is this item.
+/// Refuses item number `number` of the list at `key`. If the item is a text, the slip's words are the template `words`,
+/// filled with this text.
 fn refuse_row(
     wording: Wording,
     table: &Table,
@@ -173,7 +173,7 @@ fn refuse_row(
     refuse_item(fault, place, row_words(wording, text, words))
 }
 
-/// The words `words`, whose value is the row `text`.
+/// The template `words`, filled with the row `text`.
 fn row_words(wording: Wording, text: &str, words: Text) -> Result<String, AllocError> {
     let text_shown = shown(wording, text)?;
     wording.fill(words, &[text_shown.as_str()])
@@ -185,7 +185,7 @@ fn numbered_item(table: &Table, key: Key, number: u8) -> Option<&Value> {
     items.as_slice().get(usize::from(number).checked_sub(1)?)
 }
 
-/// Refuses the value at `key`, which isn't a list with an item for each bar.
+/// Refuses the value at `key`: it isn't a list with an item for each bar.
 fn refuse_list(wording: Wording, table: &Table, key: Key) -> Result<(), Slip>
     ensures refused { IsErr result }
     ensures slip { IfErr result IsOfItsRow }

@@ -10,7 +10,7 @@ use kd_sheet::{Key, SheetFault};
 use kd_tables::Model;
 use toml::{Table, Value};
 
-/// Checks the rings of a day: a text of letters or a list of numbers, one for each slot of the model.
+/// Checks the rings of a day: a text with a letter for each slot of the model, or a list with a number for each slot.
 pub fn check_rings(wording: Wording, table: &Table, model: Model) -> Result<(), Slip> {
     let value = value_at(wording, table, Key::Rings)?;
     let slots = usize::from(model.slots());
@@ -25,7 +25,7 @@ pub fn check_rings(wording: Wording, table: &Table, model: Model) -> Result<(), 
     }
 }
 
-/// Checks that a list of ring numbers has a number from 1 to 26 for each of `slots` slots.
+/// Checks that a list of ring numbers has `slots` numbers, each from 1 to 26.
 fn check_ring_numbers(wording: Wording, items: &[Value], slots: usize) -> Result<(), Slip> {
     check_count(wording, Key::Rings, items.len(), slots, SLOT_COUNT)?;
     for item in items {

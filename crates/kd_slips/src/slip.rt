@@ -8,8 +8,8 @@ use std::alloc::AllocError;
 /// The reason why a value is refused.
 #[derive(Drop)]
 pub enum Slip {
-    /// The fault that the desk names, the number of a list item, and words. The words are about this item; if they
-    /// aren't about an item, the number is `None`.
+    /// The fault that the desk names, the number of a list item, and words about this item. If the words aren't about a
+    /// list item, the number is `None`.
     Fault(SheetFault, Option<usize>, String),
     /// Memory ran out.
     NoMemory,

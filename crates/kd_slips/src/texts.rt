@@ -3,7 +3,7 @@
 
 use kd_language::Text;
 
-/// The value is the key's name.
+/// A key is missing. The value is the key's name.
 pub const KEY_MISSING: Text = ("the key `~` is missing", "der Name `~` fehlt");
 
 /// The types of values: this text, and the texts after it up to `A_TABLE`.
@@ -21,7 +21,7 @@ pub const A_LIST: Text = ("a list", "eine Liste");
 
 pub const A_TABLE: Text = ("a table", "eine Tabelle");
 
-/// A value has the wrong type: this text, and the next three texts. The value is the type, in words.
+/// A value has the wrong type: this text, and the next three texts. The sign `~` stands for the type, in words.
 pub const TEXT_NEEDED: Text = (
     "~ stands where a text is needed, in double quotes",
     "~ steht, wo ein Text in doppelten Anführungszeichen stehen muss",
@@ -76,7 +76,7 @@ pub const GROUP_COUNT: Text = (
     "Zahl der Kenngruppen: ~, höchstens ~",
 );
 
-/// A text that isn't shown. The value is its length.
+/// What stands in place of a text that is long, or has control characters. The value is the text's length in bytes.
 pub const LONG_TEXT: Text = ("a text of ~ bytes", "ein Text von ~ Byte");
 
 /// A text has small letters. The values are the text in capital letters, and the text.
@@ -90,7 +90,7 @@ pub const NO_CAPITAL: Text = (
     "~ hat ein Zeichen, das kein Großbuchstabe von A bis Z ist",
 );
 
-/// A text of one letter is too short. The next text is for other texts that are too short or too long. The values are
+/// A text has one letter, and needs more. The next template is for any other wrong number of letters. The values are
 /// the text, its length, the number of letters that are needed, and what these letters stand for.
 pub const ONE_LETTER: Text = (
     "~ has ~ letter, and ~ are needed~",
@@ -102,8 +102,8 @@ pub const OTHER_LETTERS: Text = (
     "~ hat ~ Buchstaben, nötig sind ~~",
 );
 
-/// What the letters of a text stand for: this text, and the texts after it up to `FOR_A_GROUP`. It is empty for list
-/// letters. The value of `FOR_EACH_IN_BOX` is the wheels of the box, in words.
+/// What the letters of a text stand for: this text, and the texts after it up to `FOR_A_GROUP`. This text is for list
+/// letters, and is empty. The value of `FOR_EACH_IN_BOX` is the wheels of the box, in words.
 pub const FOR_THE_LIST: Text = ("", "");
 
 pub const FOR_EACH_SLOT: Text = (", one for each slot", ", einer für jeden Platz");
@@ -155,7 +155,7 @@ pub const REFLECTORS_OF_M4: Text = ("b and c", "b und c");
 
 pub const REFLECTORS_OF_M209: Text = ("none", "keine");
 
-/// The values are the name, the model, and the model's reflectors.
+/// The model has no reflector with this name. The values are the name, the model, and the model's reflectors.
 pub const NO_REFLECTOR: Text = (
     "~ is no reflector of ~, which has ~",
     "~ ist keine passende Umkehrwalze: ~ hat ~",
@@ -166,16 +166,17 @@ pub const NO_MODEL: Text = (
     "~ ist kein Modell: `Enigma I`, `M3`, `M4` oder `M-209` schreiben",
 );
 
-/// The values are the name, the model, and the wheels in the model's box.
+/// No wheel has this name. The values are the name, the model, and the wheels in the model's box.
 pub const NO_WHEEL: Text = ("~ is no wheel; ~ has ~", "~ ist keine Walze; ~ hat ~");
 
-/// The values are the right name, and the name in the file.
+/// A name has a small letter in place of a capital letter, or the reverse. The values are the right name, and the name
+/// in the file.
 pub const OTHER_CASE: Text = (
     "capital and small letters: write `~` for `~`",
     "Groß- und Kleinbuchstaben: `~` statt `~` schreiben",
 );
 
-/// The values are the wheel, the slot, the model, and the wheels that this slot takes.
+/// A wheel doesn't go into a slot. The values are the wheel, the slot, the model, and the wheels that this slot takes.
 pub const NOT_FOR_SLOT: Text = (
     "wheel ~ doesn't go into slot ~ of ~, which takes ~",
     "Walze ~ passt nicht auf Platz ~: ~ hat dort ~",
@@ -188,7 +189,7 @@ pub const NOT_IN_BOX: Text = (
     "Walze ~ ist nicht im Kasten: ~ hat ~",
 );
 
-/// The values are the wheel, and two slots.
+/// A wheel is in two slots. The values are the wheel, and the numbers of the slots.
 pub const WHEEL_TWICE: Text = (
     "wheel ~ is in slot ~ and in slot ~",
     "Walze ~ ist auf Platz ~ und auf Platz ~",
@@ -200,7 +201,7 @@ pub const QUOTED_NUMBER: Text = (
     "~ steht in Anführungszeichen: eine Zahl ohne Anführungszeichen schreiben",
 );
 
-/// The values are the number, and the last number that is allowed.
+/// A number is out of range. The values are the number, and the last number that is allowed.
 pub const OUT_OF_RANGE: Text = ("~ is no number from 1 to ~", "~ ist keine Zahl von 1 bis ~");
 
 pub const NOT_THE_PINS: Text = (
@@ -208,7 +209,7 @@ pub const NOT_THE_PINS: Text = (
     "das sind nicht die Stifte des Rads",
 );
 
-/// The value is the pin's letter.
+/// A pin comes twice. The value is the pin's letter.
 pub const PIN_TWICE: Text = ("the pin ~ stands twice", "der Stift ~ steht zweimal da");
 
 pub const ITEM_MISSING: Text = ("the item is missing", "der Wert fehlt");
@@ -243,20 +244,20 @@ pub const LETTER_TWICE: Text = (
     "der Buchstabe ~ ist in ~ und in ~",
 );
 
-/// The values are the text of a cable, and its length.
+/// A cable has more than two letters. The values are the cable, and its number of letters.
 pub const MANY_ENDS: Text = (
     "~ has ~ letters, and a cable has two ends",
     "~ hat ~ Buchstaben, und eine Schnur hat zwei Enden",
 );
 
 /// A day has fewer pairs, or fewer groups, than another day. The values are the day, its pairs or groups in words, the
-/// other day, and the number of this day's pairs or groups.
+/// other day, and the other day's number of pairs or groups.
 pub const FEW: Text = (
     "day ~ has ~, and day ~ has ~\n",
     "Tag ~ hat ~, und Tag ~ hat ~\n",
 );
 
-/// The word before pairs or groups if there are none.
+/// The word for no pairs or no groups, as in `no pairs`.
 pub const NO: Text = ("no", "keine");
 
 /// The nouns for a number of pairs or groups: this text, and the next three texts. Each begins with a space, as the

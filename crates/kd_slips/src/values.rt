@@ -68,7 +68,7 @@ pub fn text_at(wording: Wording, table: &Table, key: Key) -> Result<&str, Slip>
     }
 }
 
-/// The text of `item`; if `item` isn't a text, a slip with the fault `fault`. `number` is the item's number in its
+/// The text of `item`, or a slip with the fault `fault` if `item` isn't a text. `number` is the item's number in its
 /// list.
 pub fn item_text(
     wording: Wording,
@@ -86,12 +86,12 @@ pub fn item_text(
     }
 }
 
-/// Why `value`, which isn't a text, is refused where a text is needed.
+/// Why `value` is refused: it isn't a text, and a text is needed.
 fn no_text_words(wording: Wording, value: &Value) -> Result<String, AllocError> {
     wording.fill(texts::TEXT_NEEDED, &[kind_of(wording.language, value)])
 }
 
-/// The items of `value`, or a slip if `value` isn't a list. `value` stands at `key`.
+/// The items of the list `value`, or a slip if `value` isn't a list. `value` stands at `key`.
 #[tactic(auto, using(kd_sheet::proofs::ReadBack::Described::KeyValues::Steps::items_found))]
 pub fn items_of(wording: Wording, value: &Value, key: Key) -> Result<&[Value], Slip>
     ensures found { IfOk result (λ items. as_items (view value.now) ≡ Some (map view items.now)) }
@@ -120,7 +120,9 @@ pub fn items_at(wording: Wording, table: &Table, key: Key) -> Result<&[Value], S
     items_of(wording, value_at(wording, table, key)?, key)
 }
 
-/// Checks that a list of `len` items has exactly `count` items. `text` is the text for another number of items.
+/// Checks that `len`, a list's number of items, is `count`.
+///
+/// If it isn't, the template `text` gives the refusal's words.
 pub fn check_count(
     wording: Wording,
     key: Key,
@@ -141,7 +143,9 @@ pub fn check_count(
     )
 }
 
-/// Checks that a list of `len` items has at most `most` items. `text` is the text for more items.
+/// Checks that `len`, a list's number of items, is at most `most`.
+///
+/// If it isn't, the template `text` gives the refusal's words.
 pub fn check_at_most(
     wording: Wording,
     key: Key,
@@ -162,7 +166,8 @@ pub fn check_at_most(
     )
 }
 
-/// Why a list of `len` items is refused. The values of `text` are the list's items in words, and `count`.
+/// Why a list of `len` items is refused: the template `text`, filled with the number of items in words, and with
+/// `count`.
 fn other_len_words(
     wording: Wording,
     len: usize,

@@ -11,8 +11,10 @@ use kd_language::Language;
 /// A fault of an order or a form that shows without a machine.
 #[derive(Clone, Copy)]
 pub struct MessageFault {
-    /// The index of the wrong byte. If no single byte is wrong, the index of the text's first byte, of the
-    /// part's heading, or of the form's end.
+    /// The index of the wrong byte. If no single byte is wrong, it is the index of:
+    /// - the first byte of an order's text, for a fault of this text's letters or parts
+    /// - the heading of a form's part, for a fault of this part
+    /// - the end of the form, if a part is missing there
     pub index: usize,
     pub fault: FormFault,
     pub reason: Reason,

@@ -28,9 +28,10 @@ pub fn form_answer(text: &[u8]) -> Result<FormHeading, MessageFault>
     form_from(text, MOST_PARTS, None, 1, 0)
 }
 
-/// The first heading of the form whose part `number` begins at `index`, or the form's first fault.
+/// Reads the form from part `number` on: the result is the form's first heading, or the first fault.
 ///
-/// `first` is the form's first heading, if there is an earlier part. At most `left` parts may still come.
+/// The part begins at `index`. `first` is the form's first heading. For the first part, `first` is `None`. At most
+/// `left` parts are read.
 #[tactic(auto, using(crate::proofs::Form::part_next, crate::proofs::Form::no_part_left))]
 fn form_from(
     text: &[u8],
@@ -65,7 +66,7 @@ fn form_from(
     Ok(heading)
 }
 
-/// The form's first heading: `first`, or `own` if no heading stands before `own`.
+/// The form's first heading: `first`, or `own` if `first` is `None`.
 fn first_or(own: FormHeading, first: Option<FormHeading>) -> FormHeading
     ensures { result ≡ first_or own first }
 {
@@ -75,9 +76,9 @@ fn first_or(own: FormHeading, first: Option<FormHeading>) -> FormHeading
     }
 }
 
-/// The part that begins at `index`, or its first fault.
+/// Part `number` of the form, which begins at `index`, or the part's first fault.
 ///
-/// `number` is the part's number, and `first` the form's first heading, if there is an earlier part.
+/// `first` is the form's first heading. For the first part, `first` is `None`.
 #[tactic(auto, unfolding(crate::specs::Form::part_at))]
 fn part_at(
     text: &[u8],
@@ -102,9 +103,9 @@ fn part_at(
     Ok(FormPart { heading, end })
 }
 
-/// The heading at `index`, or its first fault.
+/// The heading of part `number`, which begins at `index`, or the heading's first fault.
 ///
-/// `number` is the part's number, and `first` the form's first heading, if there is an earlier part.
+/// `first` is the form's first heading. For the first part, `first` is `None`.
 #[tactic(auto, unfolding(crate::specs::Form::due_heading))]
 fn due_heading(
     text: &[u8],
@@ -141,7 +142,8 @@ fn keys_of(first: Option<FormHeading>) -> Option<KeyLine>
     }
 }
 
-/// Whether `heading` gives part number `number`, and as many parts as the heading `first` gives.
+/// Whether `heading` gives the part number `number`. If it isn't the form's first heading, it must also give the same
+/// number of parts as the first.
 fn has_due_numbers(first: Option<FormHeading>, number: u8, heading: FormHeading) -> bool
     ensures { result ≡ has_due_numbers first number heading }
 {
@@ -152,7 +154,7 @@ fn has_due_numbers(first: Option<FormHeading>, number: u8, heading: FormHeading)
         }
 }
 
-/// The fault of a wrong byte of the heading of part `number`.
+/// The fault for a wrong byte in the heading of part `number`.
 fn heading_fault(number: u8, wrong: WrongByte) -> MessageFault
     ensures { result ≡ heading_fault number wrong }
 {
@@ -163,7 +165,7 @@ fn heading_fault(number: u8, wrong: WrongByte) -> MessageFault
     }
 }
 
-/// What is wrong with a byte of a heading.
+/// What is wrong in a heading. `mark` says what belongs there: for example, the mark `/` means that a slash is missing.
 fn heading_reason(mark: u8) -> Reason
     ensures { result ≡ heading_reason mark }
 {
@@ -191,7 +193,7 @@ fn body_end(text: &[u8], body: usize) -> usize
     }
 }
 
-/// The index of the first LF before a heading line, searched from `first` on.
+/// The index of the first LF that a heading line follows, from index `first` on.
 fn next_heading(text: &[u8], first: usize) -> Option<usize>
     ensures found { result ≡ find (heading_follows text.now)
         (range_with_len first (length text.now - first)) }
@@ -210,7 +212,7 @@ pub fn heading_follows(text: &[u8], index: usize) -> bool
         && matches!(text.get(index + 6), Some(b'0'..=b'9'))
 }
 
-/// Checks the bytes of a body, from `body` to `end`.
+/// Checks that all bytes from `body` to `end` may stand in a body.
 fn body_signs(text: &[u8], body: usize, end: usize) -> Result<(), MessageFault>
     requires within { end ≤ length text.now }
     requires order { body ≤ end }

@@ -15,7 +15,7 @@ pub struct FormHeading {
     pub parts: usize,
     /// The number of letters in the body.
     pub letters: usize,
-    /// Which machine the form is for, as the heading shows.
+    /// How the keys of the form's first heading are written. This shows which machine the form is for.
     pub keys: KeyLine,
     /// The index of the body's first byte.
     pub body: usize,
@@ -28,9 +28,11 @@ pub struct Number {
     pub end: usize,
 }
 
-/// The heading at `index`, or the first byte that is wrong there. A number out of range is wrong at its first byte.
+/// The heading at `index`, or the byte at which it is wrong.
 ///
-/// `first` says which machine the form's first heading is for, if there is an earlier heading.
+/// If the part number or the number of parts is out of range, this is the first byte of the part number. If the number
+/// of letters is out of range, this is its first byte. `first` says how the keys of the form's first heading are
+/// written. For the first heading itself, `first` is `None`.
 #[tactic(auto, unfolding(crate::specs::FormHeading::heading_at))]
 pub fn heading_at(
     text: &[u8],
@@ -72,9 +74,9 @@ pub fn heading_at(
     })
 }
 
-/// The number at `index`, which has at most three digits and doesn't begin with 0.
+/// The number at `index`, of which at most three digits are read.
 ///
-/// If no valid number is there, the wrong byte at `index`, with the mark `#`.
+/// If there is no number, or if it begins with 0, the result is the wrong byte at `index`, with the mark `#`.
 #[tactic(auto, unfolding(crate::specs::FormHeading::number_at))]
 fn number_at(text: &[u8], index: usize) -> Result<Number, WrongByte>
     requires { index ≤ length text.now }
@@ -89,7 +91,7 @@ fn number_at(text: &[u8], index: usize) -> Result<Number, WrongByte>
     Ok(number)
 }
 
-/// A number of at most three digits, and the index after it; 0 if no digit stands at `index`.
+/// The number at `index`, read up to its third digit, and the index after it. If there is no digit, the number is 0.
 #[tactic(auto, unfolding(crate::specs::FormHeading::digits_at))]
 fn digits_at(text: &[u8], index: usize) -> Number
     requires { index ≤ length text.now }
@@ -122,7 +124,7 @@ fn with_digit(text: &[u8], number: Number) -> Number
     }
 }
 
-/// The machine that a heading is for, shown by what follows the number of letters.
+/// The machine that a heading is for, as the bytes after the number of letters show.
 #[tactic(auto, unfolding(crate::specs::FormHeading::heading_keys))]
 fn heading_keys(text: &[u8], index: usize) -> KeyLine
     requires { index ≤ length text.now }
@@ -142,7 +144,7 @@ fn heading_keys(text: &[u8], index: usize) -> KeyLine
     }
 }
 
-/// The keys of the form's first heading, if there is an earlier heading; otherwise `own`.
+/// How the keys of the form's first heading are written: `first`, or `own` if `first` is `None`.
 fn keys_or(own: KeyLine, first: Option<KeyLine>) -> KeyLine
     ensures { result ≡ keys_or own first }
 {
@@ -152,7 +154,7 @@ fn keys_or(own: KeyLine, first: Option<KeyLine>) -> KeyLine
     }
 }
 
-/// The pattern of a heading line after the number of letters.
+/// The pattern of what follows the number of letters in a heading line.
 fn keys_pattern(keys: KeyLine) -> &'static [u8]
     ensures { result.now ≡ keys_pattern keys }
 {
@@ -163,7 +165,8 @@ fn keys_pattern(keys: KeyLine) -> &'static [u8]
     }
 }
 
-/// The index after the line end at `index`. If the form ends at `index`, `index` itself.
+/// The index after the line end at `index`, or the wrong byte there. If the form ends at `index`, no line end is
+/// needed, and the result is `index`.
 #[tactic(auto, unfolding(crate::specs::FormHeading::heading_end))]
 fn heading_end(text: &[u8], index: usize) -> Result<usize, WrongByte>
     requires { index ≤ length text.now }

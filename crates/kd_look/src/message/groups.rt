@@ -1,4 +1,4 @@
-//! Reads the groups of orders and forms. By a part's group, the receiver finds the day.
+//! Reads the groups of orders and forms. From a part's group, the receiver knows the day that the part is for.
 ghost use Rattle.std.specs.Prelude.{◌≡◌, ◌++◌, ◌+◌, ◌<◌, ◌≤◌, ◌^◌, ◌==◌, length, slice_get, IfOk, IfSome, OnOk};
 ghost use Rattle.std.specs.List.{position};
 ghost use Rattle.std.specs.Option.{option_to_list};
@@ -37,7 +37,7 @@ impl Model for Message {
 }
 
 impl Message {
-    /// How the keys are written, which depends on the machine.
+    /// How the keys are written. This depends on the machine.
     pub fn keys(&self) -> KeyLine
         ensures { result ≡ self.now.keys }
     {
@@ -52,7 +52,7 @@ impl Message {
     }
 }
 
-/// The form `text`, made from the answer of reading it. `None` if the form has a fault.
+/// The message in the form `text`. `None` if the form has a fault. `answer` is the result of reading the form.
 pub fn form_message(
     alloc: Global,
     text: &[u8],
@@ -72,7 +72,7 @@ pub fn form_message(
     }
 }
 
-/// The order `text`, made from the answer of reading it. `None` if the order has a fault.
+/// The message in the order `text`. `None` if the order has a fault. `answer` is the result of reading the order.
 pub fn order_message(
     alloc: Global,
     text: &[u8],
@@ -259,7 +259,7 @@ pub fn push_groups(
     }
 }
 
-/// Appends a line about each of `groups`. The first group is that of part `part`.
+/// Appends a line about each of `groups`. The first group belongs to part `part`, the second to part `part + 1`.
 #[tactic(auto, using(std::proofs::Common::append_assoc))]
 fn push_numbered(
     words: &mut String,

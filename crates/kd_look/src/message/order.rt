@@ -12,7 +12,7 @@ use kd_findings::place_after;
 use kd_form::FormFault;
 use kd_tables::{Letter, place_on_wheel};
 
-/// The index of the text of the order `text`, or the order's first fault among those that show without a machine.
+/// The index at which the order's text begins, or the first fault that shows without a machine.
 pub fn order_start(text: &[u8]) -> Result<usize, MessageFault>
     ensures value { result ≡ order_start text.now }
     ensures within { IfOk result (λ start. start ≤ length text.now) }
@@ -20,8 +20,8 @@ pub fn order_start(text: &[u8]) -> Result<usize, MessageFault>
     order_answer(text, key_line_of(text))
 }
 
-/// The index of the text of an order whose lines of keys have the form `form`, or the order's first fault among those
-/// that show without a machine.
+/// The index at which an order's text begins, or the first fault that the order shows without a machine. `form` says
+/// how the order's keys are written.
 #[tactic(auto, unfolding(crate::specs::Order::order_answer))]
 fn order_answer(text: &[u8], form: KeyLine) -> Result<usize, MessageFault>
     ensures value { result ≡ order_answer text.now form }
@@ -34,7 +34,7 @@ fn order_answer(text: &[u8], form: KeyLine) -> Result<usize, MessageFault>
     Ok(start)
 }
 
-/// The index of the order's text, or the fault of the order's head.
+/// The index at which the order's text begins, or the fault of the order's head.
 fn text_start(text: &[u8], form: KeyLine) -> Result<usize, MessageFault>
     ensures value { result ≡ text_start text.now form }
     ensures within { IfOk result (λ start. start ≤ length text.now) }
@@ -45,7 +45,7 @@ fn text_start(text: &[u8], form: KeyLine) -> Result<usize, MessageFault>
     }
 }
 
-/// The fault of a wrong byte of the head.
+/// The fault for a wrong byte in the order's head.
 fn head_fault(text: &[u8], form: KeyLine, wrong: WrongByte) -> MessageFault
     requires { wrong.index ≤ length text.now }
     ensures { result ≡ head_fault text.now form wrong }
@@ -57,7 +57,7 @@ fn head_fault(text: &[u8], form: KeyLine, wrong: WrongByte) -> MessageFault
     }
 }
 
-/// What is wrong with a byte of the head.
+/// What is wrong at a byte of the head: the order ends too soon, or another byte belongs there.
 fn reason_for(text: &[u8], form: KeyLine, wrong: WrongByte) -> Reason
     ensures { result ≡ reason_for text.now form wrong }
 {
@@ -182,7 +182,7 @@ pub fn letter_count(text: &[u8], form: KeyLine, start: usize) -> usize
         .count()
 }
 
-/// Whether a byte of the text gives a letter: a capital letter does and, on the Converter, a space.
+/// Whether a byte of the text counts as a letter: a capital letter does and, on the Converter, a space.
 fn gives_letter(form: KeyLine, byte: u8) -> bool
     ensures { result ≡ gives_letter form byte }
 {
@@ -193,7 +193,7 @@ fn gives_letter(form: KeyLine, byte: u8) -> bool
     }
 }
 
-/// The greatest number of letters of text that a part can have.
+/// How many letters of the order's text a part can have at most.
 fn part_letters(form: KeyLine) -> usize
     ensures { result ≡ part_letters form }
 {
@@ -203,7 +203,7 @@ fn part_letters(form: KeyLine) -> usize
     }
 }
 
-/// The number of lines of keys: the lines before `start`, but for the line `TEXT`.
+/// How many lines of keys stand before `start`: all lines there, except the line `TEXT`.
 pub fn keys_given(text: &[u8], start: usize) -> usize
     requires { start ≤ length text.now }
     ensures { result ≡ keys_given text.now start }

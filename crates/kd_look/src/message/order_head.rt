@@ -32,9 +32,10 @@ pub fn key_line_of(text: &[u8]) -> KeyLine
     }
 }
 
-/// Finds the end of an order's head, whose next line begins at `index`; or the first wrong byte.
+/// Reads an order's head from the line at `index` on.
 ///
-/// At most `left` lines of keys may still come, and then the line `TEXT`.
+/// The result is the index at which the order's text begins, or the first wrong byte. At most `left` lines of keys may
+/// still come, and then the line `TEXT`.
 #[tactic(auto, using(crate::proofs::OrderHead::keys_next, crate::proofs::OrderHead::text_next, crate::proofs::OrderHead::none_left))]
 pub fn head_end(text: &[u8], form: KeyLine, left: u8, index: usize) -> Result<usize, WrongByte>
     requires { index ≤ length text.now }

@@ -15,7 +15,7 @@ pub struct WrongByte {
     pub mark: u8,
 }
 
-/// The place of the first byte that isn't allowed in a text, counted from 0.
+/// The index of the first byte that isn't allowed in a text or a body.
 pub fn wrong_sign(bytes: &[u8]) -> Option<usize>
     ensures place { result ≡ wrong_sign bytes.now }
     ensures within { IfSome result (λ place. place < length bytes.now) }
@@ -23,8 +23,9 @@ pub fn wrong_sign(bytes: &[u8]) -> Option<usize>
     bytes.iter().position(|byte| !is_text_byte(*byte))
 }
 
-/// The index after the line that begins at `index`, or the first byte that doesn't fit the line's
-/// pattern `marks`.
+/// Compares the line that begins at `index` with the pattern `marks`.
+///
+/// The result is the index after the line's end, or the first byte that doesn't fit.
 pub fn line_end(text: &[u8], marks: &[u8], index: usize) -> Result<usize, WrongByte>
     requires { index ≤ length text.now }
     ensures value { result ≡ line_end text.now marks.now index }
@@ -35,7 +36,9 @@ pub fn line_end(text: &[u8], marks: &[u8], index: usize) -> Result<usize, WrongB
     end_of_line(text, end)
 }
 
-/// The index after the bytes that fit the pattern `marks` from `index` on, or the first byte that doesn't fit.
+/// Compares the bytes from `index` on with the pattern `marks`.
+///
+/// The result is the index after these bytes, or the first byte that doesn't fit.
 pub fn marks_end(text: &[u8], marks: &[u8], index: usize) -> Result<usize, WrongByte>
     requires { index ≤ length text.now }
     ensures value { result ≡ marks_end text.now marks.now index }

@@ -33,7 +33,7 @@ pub fn is_form(text: &[u8]) -> bool
     }
 }
 
-/// The lines about the form `text` in the file `name`. `answer` is the answer of reading the form.
+/// The lines about the form `text` in the file `name`. `answer` is the result of reading the form.
 pub fn form_words(
     wording: Wording,
     name: &str,
@@ -51,7 +51,7 @@ pub fn form_words(
     Ok(words)
 }
 
-/// The lines about the order `text` in the file `name`. `answer` is the answer of reading the order.
+/// The lines about the order `text` in the file `name`. `answer` is the result of reading the order.
 pub fn order_words(
     wording: Wording,
     name: &str,
@@ -70,7 +70,7 @@ pub fn order_words(
     Ok(words)
 }
 
-/// Appends the lines about an order in which no fault was found. The text begins at `start`.
+/// Appends the lines about an order without a fault. The order's text begins at `start`.
 #[tactic(auto, using(std::proofs::Common::append_assoc), unfolding(crate::specs::MessageWords::order_lines))]
 fn push_order(
     words: &mut String,
@@ -94,7 +94,7 @@ fn push_order(
     )
 }
 
-/// Appends the lines about a form in which no fault was found. `first` is the form's first heading.
+/// Appends the lines about a form without a fault. `first` is the form's first heading.
 #[tactic(auto, using(std::proofs::Common::append_assoc), unfolding(crate::specs::MessageWords::form_lines))]
 fn push_form(
     words: &mut String,
@@ -125,7 +125,7 @@ fn push_kind(
     push_filled(words, template, &[name, machine])
 }
 
-/// Appends a line with a title and a number.
+/// Appends a line with a title and a number, such as `parts: 2`.
 #[tactic(auto, using(std::proofs::Common::append_assoc), unfolding(crate::specs::MessageWords::number_line))]
 fn push_number_line(words: &mut String, title: &str, number: usize) -> Result<(), AllocError>
     ensures { OnOk result (string_bytes words.new
@@ -135,7 +135,7 @@ fn push_number_line(words: &mut String, title: &str, number: usize) -> Result<()
     words.push_str("\n")
 }
 
-/// The machines that an order or a form is for, after the word `for`.
+/// The machine that a message is for, or both machines that it may be for, as named after the word `for`.
 #[tactic(auto, unfolding(crate::specs::MessageWords::machine_name))]
 fn machine_name(language: Language, form: KeyLine) -> &'static str
     ensures { result.now ≡ machine_name language form }
