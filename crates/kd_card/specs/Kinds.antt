@@ -23,8 +23,8 @@ letters_text (letter ∷ letters) = tables.letters_text (letter ∷ letters)
 abbrev pub kind_line : List ℕ → List ℕ → ℕ → ℤ → List (List ℕ)
 kind_line word key count price = word ∷ key ∷ decimal count ∷ signed_decimal price ∷ []
 
--- The two ends of a cable have letters in alphabetical order, or only the first end has a letter, or neither end has
--- one.
+-- The letters at a cable's two ends are in the form of a card: two letters in alphabetical order, or one letter at the
+-- first end, or no letter.
 abbrev pub AreEnds : Option ℕ → Option ℕ → Type 0
 AreEnds None None = Unit {0}
 AreEnds None (Some other) = ⊥
@@ -140,12 +140,12 @@ pub record IsGroup {K X : Type 0} (format : KindFormat K X) (number : ℕ) (kind
   pub in_order : AreKinds format None kinds
   pub count : total_count format kinds ≡ number
 
--- each kind's key with its price, repeated as often as the kind's count says
+-- the keys and prices of all kinds: a kind with the count 3, for example, gives its key with its price three times
 abbrev pub expansion : {X : Type 0} → List (KindOf X) → List (X × ℤ)
 expansion kinds = flat_map (λ kind. replicate kind.count (kind.key, kind.price)) kinds
 
--- `keys` and `prices` are the keys and prices of `kinds`, in some order. Each kind's key and price are repeated as
--- often as the kind's count says.
+-- Each of `keys` has the price at the same place of `prices`. In some order, these are the keys and prices of `kinds`:
+-- a kind with the count 3 stands for three equal keys with its price.
 -- Code: `kinds_of` sorts keys with their prices, and counts equal neighbours. For each key, `prices_of` takes the price
 -- of the key's kind, and lowers the kind's count.
 pub record AreKindsOf {K X : Type 0} (format : KindFormat K X) (keys : List X) (prices : List ℤ) (kinds : List K)
@@ -171,6 +171,6 @@ pub record HasKindWords {K X : Type 0} (format : KindFormat K X) (words : List (
   pub good : IsKind format kind
   pub written : kind_words format kind ≡ words
 
--- each kind's price, repeated as often as the kind's count says
+-- the prices of all kinds: a kind with the count 3, for example, gives its price three times
 abbrev pub prices_of_kinds : {K X : Type 0} → KindFormat K X → List K → List ℤ
 prices_of_kinds format kinds = flat_map (λ k. replicate (format.kind k).count (format.kind k).price) kinds

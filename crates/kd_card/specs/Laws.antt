@@ -26,8 +26,9 @@ FittingPricesBoundLists =
     → PricesFit (cost_table machine day) prices → LeadsToTheDay machine day settings
     → (pos (loose_count machine day) +ℤ price_sum prices) ≤ℤ pos (length settings)
 
--- A setting is unpriced if it changes no cable and no bar. Suppose that a list reaches the day, with at most as many
--- unpriced settings as loose things. Then each unpriced setting lowers the number of loose things by one.
+-- Suppose that a list reaches the day, and has at most as many unpriced settings as the machine has loose things. Then
+-- each unpriced setting lowers the number of loose things by one. A setting is unpriced if it changes no cable and no
+-- bar.
 abbrev pub AsFewAreNeeded : Type 0
 AsFewAreNeeded =
     (machine : Parts) (day : Day) (settings : List Setting) → IsLegalDay day → model_of machine ≡ day_model day
@@ -49,7 +50,7 @@ ProvingCardsAreShortest =
     → ArePrices prices → Proves machine day settings prices
     → IsShortest machine day settings
 
--- Suppose that prices by kind fit. Suppose that a list has as many settings as the prices' sum plus the number of loose
+-- Suppose that prices by kind fit, and that a list has as many settings as the prices' sum plus the number of loose
 -- things. Then no shorter list reaches the day.
 abbrev pub ShownListsAreShortest : Type 0
 ShownListsAreShortest =
@@ -95,7 +96,7 @@ CardsHaveNoFault =
     (bytes : List ℕ) (day : ℕ) (xs : List Setting) (prices : PriceParts) (fault : CardFault)
     → IsCard bytes day xs prices → ¬ (IsCardFault bytes fault)
 
--- Bytes have at most one first fault if they are read as a card.
+-- Bytes that are read as a card have at most one first fault.
 abbrev pub OneCardFault : Type 0
 OneCardFault =
     (bytes : List ℕ) (fault other : CardFault) → IsCardFault bytes fault → IsCardFault bytes other → fault ≡ other

@@ -12,7 +12,7 @@ use Rattle.std.specs.Prelude.{ℕ, nat_eq, Bool, false, not, List, [], ◌∷◌
 use Rattle.std.specs.Prelude.{if◌then◌else◌}
 use Rattle.std.specs.Option.{option_map_or}
 
--- a list with only the setting `x`; the empty list if `already` is true, that is, if the machine is already as `x` says
+-- a list of the setting `x` alone, or the empty list if the machine is `already` as `x` would set it
 abbrev pub setting_unless : Bool → Setting → List Setting
 setting_unless already x = if already then [] else x ∷ []
 

@@ -15,16 +15,14 @@ version_of (CableKinds cables columns) = ByKind
 version_of (BarKinds bars rows) = ByKind
 version_of _ = ByNumber
 
--- the prices of all cables or all bars; with prices by kind, a kind's price is repeated as often as the kind's count
--- says
+-- the prices of all cables or all bars; with prices by kind, a kind with the count 3 gives its price three times
 abbrev pub machine_prices : PriceParts → List ℤ
 machine_prices (Cables cables columns) = cables
 machine_prices (Bars bars rows) = bars
 machine_prices (CableKinds cables columns) = flat_map (λ k. replicate k.count k.price) cables.items
 machine_prices (BarKinds bars rows) = flat_map (λ k. replicate k.count k.price) bars.items
 
--- the prices of the day's columns or rows; with prices by kind, a kind's price is repeated as often as the kind's count
--- says
+-- the prices of the day's columns or rows; with prices by kind, a kind with the count 3 gives its price three times
 abbrev pub day_prices : PriceParts → List ℤ
 day_prices (Cables cables columns) = columns
 day_prices (Bars bars rows) = rows

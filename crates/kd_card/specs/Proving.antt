@@ -42,9 +42,8 @@ AreSettingsNeeded machine day (setting ∷ rest) = (after : Parts) × Carries ma
 
 -- ---- prices by kind mean prices by number
 
--- The first prices are by kind. The keys and counts of the kinds agree with the machine's cables and the day's columns,
--- or with the machine's bars and the day's rows. The second prices are by number: each cable, column, bar or row has
--- the price of its kind.
+-- The first prices are by kind: for the machine's cables and the day's columns, or for the machine's bars and the day's
+-- rows. The second prices are by number: each cable, column, bar or row has the price of its kind.
 abbrev pub AreExpanded : Parts → Day → PriceParts → PriceParts → Type 0
 AreExpanded (Rotor machine) (Rotor day) (CableKinds cable_kinds column_kinds) (Cables cables columns) =
     AreKindsOf cable_format machine.cables cables cable_kinds.items
@@ -53,9 +52,9 @@ AreExpanded (Pin machine) (Pin day) (BarKinds bar_kinds row_kinds) (Bars bars ro
     AreKindsOf bar_format machine.bars bars bar_kinds.items × AreKindsOf row_format day.rows rows row_kinds.items
 AreExpanded _ _ _ _ = ⊥
 
--- `numbered` has the card's prices `prices`, turned into prices by number. If `prices` are by number already,
--- `numbered` equals `prices`. If `prices` are by kind, `numbered` gives each cable, column, bar or row the price of its
--- kind. In this case, `prices` and `numbered` are valid.
+-- `numbered` are the card's prices `prices` as prices by number. If `prices` are by number, they are unchanged. If
+-- `prices` are by kind, each cable, column, bar or row has the price of its kind in `numbered`. In this case, `prices`
+-- and `numbered` are valid.
 pub data Expands (machine : Parts) (day : Day) (prices numbered : PriceParts) : Type 0 where
   Same : version_of prices ≡ ByNumber → prices ≡ numbered → Expands machine day prices numbered
   Expanded : ArePrices prices → ArePrices numbered → AreExpanded machine day prices numbered
@@ -73,7 +72,8 @@ pub record ProvesByNumber (machine : Parts) (day : Day) (settings : List Setting
   pub sum : price_sum prices ≡ pos (priced_count settings)
   pub needed : AreSettingsNeeded machine day settings
 
--- A card proves itself. `numbered` are its prices by number: for each cable and each column, or each bar and each row.
+-- A card proves itself. If its prices are by kind, they are first turned into prices by number, `numbered`: one price
+-- for each cable and each column, or for each bar and each row.
 pub record Proves (machine : Parts) (day : Day) (settings : List Setting) (prices : PriceParts) : Type 0 where
   pub numbered : PriceParts
   pub expands : Expands machine day prices numbered

@@ -16,9 +16,9 @@ abbrev pub IsShortest : Parts → Day → List Setting → Type 0
 IsShortest machine day settings =
     (others : List Setting) → LeadsToTheDay machine day others → length settings ≤ length others
 
--- The prices are by kind, and fit. The keys and counts of the kinds agree with the machine's cables and the day's
--- columns, or with the machine's bars and the day's rows. The prices of a cable and a column, or of a bar and a row,
--- add up to at most the cost in their cell of the table of costs.
+-- The prices are by kind: for the machine's cables and the day's columns, or for the machine's bars and the day's rows.
+-- They fit: the prices of a cable and a column, or of a bar and a row, add up to at most the cost in their cell of the
+-- table of costs.
 abbrev pub KindPricesFit : Parts → Day → PriceParts → Type 0
 KindPricesFit (Rotor machine) (Rotor day) (CableKinds cables columns) =
     IsPermutation machine.cables (flat_map (λ k. replicate k.count k.ends) cables.items)
