@@ -32,7 +32,7 @@ cable_of m number = unwrap_or (machine_cable m number) (None, None)
 abbrev pub has_plug : Parts → ℕ → ℕ → Bool
 has_plug m number letter = has_letter (cable_letters (cable_of m number)) letter
 
--- whether a cable's end has a plug that moves: on machine `n`, cable `number` has no plug at the end's letter
+-- whether the plug at a cable's end moves: the end has a letter, and cable `number` of machine `n` has no plug there
 abbrev pub end_moves : Parts → ℕ → Option ℕ → Bool
 end_moves n number end = option_map_or (λ letter. not (has_plug n number letter)) end false
 
@@ -68,7 +68,7 @@ all_cables l m = if has_cables m CABLES then cables_after [] m CABLES else text_
 
 -- ---- The lines of the cables.
 
--- the height at which cable `number` runs, measured from the top
+-- the lane of cable `number`: the height, measured from the top, at which the cable's line runs level
 abbrev pub lane : ℕ → ℕ
 lane number = 139 + 9 * number
 
@@ -92,7 +92,8 @@ right_half lane letter = filled texts.RIGHT_HALF.now (
 abbrev pub open_end : ℕ → List ℕ
 open_end letter = filled texts.OPEN_END.now (decimal (line_x letter + 20) ∷ [])
 
--- the line of a cable between two sockets: down to its lane, along the lane, and up
+-- the line of a cable between two sockets: from the left socket to the cable's lane, along the lane, to the right
+-- socket
 abbrev pub line_between : Class → ℕ → ℕ → ℕ → List ℕ
 line_between class lane left right = left_half class lane left ++ right_half lane right
 
@@ -110,8 +111,8 @@ abbrev pub moving_class : Plugs → Class
 moving_class Out = classes.Out
 moving_class In = classes.In
 
--- the class of the line of cable `number`, plugged at the letters `cable`; the line is thick if
--- machine `n` lacks one of these plugs
+-- The CSS class of the line of cable `number`, whose plugs are at the letters `cable`. The line is thick if machine `n`
+-- lacks one of these plugs.
 abbrev pub line_class : Plugs → Parts → ℕ → Option ℕ × Option ℕ → Class
 line_class plugs n number cable =
     if end_moves n number cable.0 || end_moves n number cable.1 then moving_class plugs else classes.Plain

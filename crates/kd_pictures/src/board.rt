@@ -193,7 +193,7 @@ fn draw_line<W: Sink>(
     draw_cable_line(sink, language, class, lane, cable_of(machine, number));
 }
 
-/// The class of the line of cable `number`, plugged at the letters `cable`.
+/// The CSS class of the line of cable `number`, whose plugs are at the letters `cable`.
 /// The line is thick if machine `other` lacks one of these plugs.
 fn line_class(plugs: Plugs, other: &Machine, number: u8, cable: Cable) -> Class
     ensures { result ≡ line_class plugs other.now number cable }

@@ -13,7 +13,7 @@ pub enum Results {
 }
 
 impl Results {
-    /// Whether the results are left open.
+    /// Whether the page leaves the results open, that is, has worksheets.
     pub fn are_open(self) -> bool
         ensures { result ≡ are_open self }
     {
