@@ -24,8 +24,10 @@ pub(crate) fn inward(plugs: Plugs, seated: SheetWheel, letter: Letter) -> [Lette
     row
 }
 
-/// The path of the current around `core`: in through `wheels`, through `core`, and back. The first of the wheels is
-/// next to `core`.
+/// The path of the current around `core`: in through `wheels`, through `core`, and back through `wheels`.
+///
+/// Item `i` of the result is the place at which current that enters at place `i` comes back out. The first of the
+/// wheels is next to `core`.
 pub(crate) fn around_all(
     core: [Letter; 26],
     wheels: &[SheetWheel],
@@ -42,8 +44,10 @@ pub(crate) fn around_all(
     }
 }
 
-/// The current's path: in through a wheel, through `core`, and back through the wheel. The wheel's window shows
-/// `letter`.
+/// The path of the current: in through a wheel, through `core`, and back through the wheel.
+///
+/// Item `i` of the result is the place at which current that enters at place `i` comes back out. The wheel's window
+/// shows `letter`.
 fn around_one(core: &[Letter; 26], seated: SheetWheel, letter: Letter) -> [Letter; 26]
     ensures { result ≡ around_one core.now seated letter }
 {
