@@ -1,5 +1,5 @@
--- The checkboxes of a day's page. Each checkbox has the words for one setting and, except for pins, the setting's line.
--- Spare wheels and reflectors are in the machine's box.
+-- The checkboxes of a day's page. Except for pins, the checkbox of a setting has the setting's line. A wheel is called
+-- spare if it is in the machine's box.
 use Rattle.std.specs.Prelude.{decimal, ℕ, ◌-◌, ◌==◌, Bool, if◌then◌else◌, List, [], ◌∷◌, ◌++◌, flat_map}
 use Rattle.std.specs.Prelude.{Option, Some, None}
 use Rattle.kd_tables.specs.declared.lug.Lug.{Lug}
@@ -47,7 +47,7 @@ abbrev pub box_ring_text : Language → Option ℕ → List ℕ
 box_ring_text l None = []
 box_ring_text l (Some ring) = filled (text_in l BOX_RING) (letter_text ring ∷ ordinal_text ring ∷ [])
 
--- the checkbox to put a spare wheel into a slot, with the letter on which its ring has to stand
+-- the checkbox to put a spare wheel into a slot, with the letter on which the wheel's ring has to stand
 abbrev pub from_box_text : Page → Setting → ℕ → Wheel → List ℕ
 from_box_text page x slot wheel =
     filled (text_in page.language SEAT) (
@@ -87,7 +87,8 @@ pin_mark effective = if effective then Effective else Ineffective
 abbrev pub pin_word : Bool → Word
 pin_word effective = if effective then On else Off
 
--- the checkbox of a setting on a page
+-- The checkbox of a setting on a page. For the setting TURN, only the setting's line, which stands within the checkbox
+-- of a window or of a pin wheel's letter.
 abbrev pub box_text : Page → Setting → List ℕ
 box_text page (settings.Pull cable letter) =
     filled PLUG.now (letter_text letter ∷ setting_line (settings.Pull cable letter) ∷ [])

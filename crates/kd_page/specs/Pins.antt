@@ -25,8 +25,8 @@ use Rattle.kd_pictures.specs.Words.{mark_text}
 abbrev pub pin_spot : ℕ → ℕ → Spot
 pin_spot wheel letter = record { step = Pins; row = Some wheel; cell = Some letter }
 
--- whether the settings leave a pin unchanged; `effective` says whether the pin is effective after the settings, and
--- `was` whether the pin was effective before the settings
+-- Whether a pin is the same before and after the settings. `was` says whether it is effective before them, and
+-- `effective` whether it is effective after them.
 abbrev pub is_same_pin : Bool → Option Bool → Bool
 is_same_pin effective was = option_map_or (λ old. if old then effective else not effective) was false
 

@@ -1,5 +1,4 @@
-//! The checkboxes of a day's page. Each checkbox has the words for one setting and, except for pins, the setting's
-//! line.
+//! The checkboxes of a day's page. Except for pins, the checkbox of a setting has the setting's line.
 ghost use Rattle.std.specs.Prelude.{◌≡◌, flat_map};
 ghost use Rattle.kd_state.specs.declared.setting.Setting.TheVariants.{LugTo, Seat};
 ghost use Rattle.kd_state.specs.Machine.{machine_standing};
