@@ -19,7 +19,7 @@ use kd_sheet::Sheet;
 use kd_state::{Entry, RotorEntry, SheetDay, SheetWheel};
 use kd_tables::{Letter, Model, Sink};
 
-/// Writes the table of the sheet's days of `model`. If the sheet has no such day, writes nothing.
+/// Writes the table of the sheet's days for `model`. If the sheet has no day for `model`, writes nothing.
 #[tactic(auto, unfolding(crate::specs::MonthTable::month_table))]
 pub(crate) fn draw_month<W: Sink>(sink: &mut W, language: Language, model: Model, sheet: &Sheet)
     ensures { Draws W.taken W.has_failed sink.old sink.new (month_table language model sheet.now) }
