@@ -28,7 +28,7 @@ use Rattle.kd_pictures.specs.Words.{class_text, word_text}
 abbrev pub cable_of : Parts → ℕ → Option ℕ × Option ℕ
 cable_of m number = unwrap_or (machine_cable m number) (None, None)
 
--- whether the cable has a plug at the letter
+-- whether cable `number` of machine `m` has a plug at `letter`
 abbrev pub has_plug : Parts → ℕ → ℕ → Bool
 has_plug m number letter = has_letter (cable_letters (cable_of m number)) letter
 
@@ -44,16 +44,16 @@ cable_words number (Some one, Some other) =
 cable_words number (Some one, None) = filled texts.LOOSE_WORDS.now (decimal number ∷ letter_text one ∷ [])
 cable_words number (None, other) = []
 
--- whether the cable has a plug
+-- whether cable `number` of machine `m` has a plug
 abbrev pub is_plugged : Parts → ℕ → Bool
 is_plugged m number = is_some (cable_of m number).0
 
--- a separator, then the words for a plugged cable
+-- `separator`, and then the words for a cable that has a plug
 abbrev pub cable_after : List ℕ → Parts → ℕ → List ℕ
 cable_after separator m number = separator ++ cable_words number (cable_of m number)
 
--- The words for the plugged cables in the list. `separator` stands before the first cable, and a comma before each
--- later cable.
+-- The words for those cables in the list that have a plug. `separator` stands before the first of them, and a comma
+-- before each later one.
 abbrev pub cables_after : List ℕ → Parts → List ℕ → List ℕ
 cables_after separator m [] = []
 cables_after separator m (number ∷ numbers) =
@@ -72,23 +72,23 @@ all_cables l m = if has_cables m CABLES then cables_after [] m CABLES else text_
 abbrev pub lane : ℕ → ℕ
 lane number = 139 + 9 * number
 
--- the height at which a cable's line begins to bend, between a socket at height `y` and the lane at height `lane`
+-- the height at which a cable's line begins to bend on its way from a socket at height `y` to the lane at height `lane`
 abbrev pub bend : ℕ → ℕ → ℕ
 bend y lane = if nat_lt y lane then lane - 5 else lane + 5
 
--- the piece of a cable's line that leads from a socket into the cable's lane
+-- the first piece of a cable's line: from a socket into the cable's lane, where the line runs level
 abbrev pub left_half : Class → ℕ → ℕ → List ℕ
 left_half class lane letter = filled texts.LEFT_HALF.now (
     class_text class ∷ decimal (line_x letter) ∷ decimal (socket_y letter) ∷ decimal (bend (socket_y letter) lane)
     ∷ decimal (line_x letter) ∷ decimal lane ∷ decimal (line_x letter + 5) ∷ decimal lane ∷ [])
 
--- the piece of a cable's line that leads along the cable's lane to a socket
+-- the last piece of a cable's line: along the cable's lane, where the line runs level, and to a socket
 abbrev pub right_half : ℕ → ℕ → List ℕ
 right_half lane letter = filled texts.RIGHT_HALF.now (
     decimal (line_x letter - 5) ∷ decimal (line_x letter) ∷ decimal lane
     ∷ decimal (line_x letter) ∷ decimal (bend (socket_y letter) lane) ∷ decimal (socket_y letter) ∷ [])
 
--- the piece of a cable's line that leads along the cable's lane to an open end
+-- the last piece of the line of a cable with one plug: along the cable's lane to an open end
 abbrev pub open_end : ℕ → List ℕ
 open_end letter = filled texts.OPEN_END.now (decimal (line_x letter + 20) ∷ [])
 
@@ -123,7 +123,7 @@ line_text plugs m n number =
 
 -- ---- The sockets.
 
--- the number of the cable with a plug at the letter; `None` if no cable has one
+-- the number of the cable with a plug at `letter`; `None` if no cable has a plug there
 abbrev pub cable_holding : Parts → ℕ → List ℕ → Option ℕ
 cable_holding m letter [] = None
 cable_holding m letter (number ∷ numbers) =

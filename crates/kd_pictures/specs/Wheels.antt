@@ -30,7 +30,7 @@ abbrev pub reflector_words : Language → Option Reflector → List ℕ
 reflector_words l None = []
 reflector_words l (Some reflector) = filled (text_in l texts.REFLECTOR_WORDS) (reflector_text reflector ∷ [])
 
--- the template, filled with the letter; empty if there is no letter
+-- `template`, filled with the letter; empty if there is no letter
 abbrev pub letter_words : List ℕ → Option ℕ → List ℕ
 letter_words template None = []
 letter_words template (Some letter) = filled template (letter_text letter ∷ [])
@@ -115,7 +115,7 @@ unfoldable pub band_head : Language → ℕ → Word → List ℕ
 band_head l y name = filled (text_in l texts.BAND) (
     decimal (y + 16) ∷ word_text l name ∷ decimal (y + 54) ∷ decimal (y + 84) ∷ decimal (y + 125) ∷ decimal (y + 16) ∷ [])
 
--- the band of machine `m` at height `y`, with marks where `m` differs from machine `n`
+-- the picture's band for machine `m`, at height `y`; what differs from machine `n` is marked
 unfoldable pub band_text : Language → ℕ → Word → Parts → Parts → List ℕ
 band_text l y name m n =
     band_head l y name ++ reflector_shown y (machine_reflector m) (machine_reflector n)

@@ -481,8 +481,10 @@ pub const NO_CABLES: Text = ("none", "keine");
 
 pub const BOARD_END: &str = "</svg>\n<figcaption>";
 
-/// The line of a cable, in pieces. The first piece leads from a socket into the lane. The other two pieces lead along
-/// the lane: one to a socket, the other to an open end.
+/// The line of a cable, in pieces. In its lane, the line runs level.
+/// - `LEFT_HALF`: leads from a socket into the lane.
+/// - `RIGHT_HALF`: leads along the lane to a socket.
+/// - `OPEN_END`: leads along the lane to an open end.
 pub const LEFT_HALF: &str = "<path~ d=\"M~ ~V~Q~ ~ ~ ~";
 
 pub const RIGHT_HALF: &str = "H~Q~ ~ ~ ~V~\"/>\n";
