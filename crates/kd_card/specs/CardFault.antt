@@ -92,7 +92,7 @@ first_text ByNumber Bars = codes "BARS"
 first_text ByKind Cables = cable_format.word
 first_text ByKind Bars = bar_format.word
 
--- The result of reading the first price line's first word: the table of costs that the word names, or a fault.
+-- Which table of costs the prices are for, or a fault. The first word of the first price line names the table.
 abbrev pub IsTableAnswer : Version → ℕ → List ℕ → AnswerRule CardFault CostTable
 IsTableAnswer version line bytes = do
   found ← IsLineAnswer line bytes

@@ -31,7 +31,7 @@ AreEnds None (Some other) = ⊥
 AreEnds (Some one) None = one < 26
 AreEnds (Some one) (Some other) = (one < other) × (other < 26)
 
--- The column is empty, or the letters of its pair are in alphabetical order.
+-- A column of the table of costs is empty, or the letters of its pair are in alphabetical order.
 abbrev pub IsPairInOrder : Option (ℕ × ℕ) → Type 0
 IsPairInOrder None = Unit {0}
 IsPairInOrder (Some pair) = (pair.0 < pair.1) × (pair.1 < 26)

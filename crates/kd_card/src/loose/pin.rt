@@ -39,7 +39,8 @@ fn push_pins(settings: &mut Settings, present: &PinSet, wanted: &PinSet)
     push_wheel(settings, 6, ring6(), &present.w6, &wanted.w6);
 }
 
-/// Appends the setting PIN for each pin of wheel `wheel` that differs from the day's. `ring` has the wheel's letters.
+/// Appends the setting PIN for each pin of wheel `wheel` that differs from the day's pin. `ring` has the wheel's
+/// letters.
 fn push_wheel<const N: usize>(
     settings: &mut Settings,
     wheel: u8,
