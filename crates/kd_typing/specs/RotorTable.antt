@@ -26,7 +26,7 @@ pub record RotorTable : Type 0 where
 
 -- ---- Typing on a table.
 
--- the items of all slots except the rightmost slot
+-- the items for all slots except the right slot; an item is, for example, a slot's wheel or ring
 abbrev pub core_slots : {X : Type 0} → List X → List X
 core_slots slots = take (length slots - 1) slots
 
