@@ -109,6 +109,6 @@ box_text page (settings.LugTo bar lug place) =
 abbrev pub box_at : Page → Spot → Setting → List ℕ
 box_at page spot x = if is_at spot x then box_text page x else []
 
--- the checkboxes at a spot of the page, in the order of the page's settings
+-- the checkboxes at one spot of the page (a step, a row or a cell), in the order of the page's settings
 abbrev pub boxes_at : Page → Spot → List ℕ
 boxes_at page spot = flat_map (box_at page spot) page.settings
