@@ -367,7 +367,7 @@ CommandLinesMeanOneCommand =
 
 -- ---- What a command line is that is no command.
 
--- whether an error of this kind shows help or the version
+-- whether `clap` gives an error of this kind to show help or the version
 abbrev pub is_help : ErrorKind → Bool
 is_help DisplayHelp = true
 is_help DisplayVersion = true
