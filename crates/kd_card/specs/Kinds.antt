@@ -155,7 +155,7 @@ pub record AreKindsOf {K X : Type 0} (format : KindFormat K X) (keys : List X) (
 
 -- ---- lines
 
--- the words of the line of kind `k`
+-- the words of the line for the kind `k`
 abbrev pub kind_words : {K X : Type 0} → KindFormat K X → K → List (List ℕ)
 kind_words format k =
     kind_line format.word (format.text (format.kind k).key) (format.kind k).count (format.kind k).price

@@ -52,9 +52,9 @@ AreExpanded (Pin machine) (Pin day) (BarKinds bar_kinds row_kinds) (Bars bars ro
     AreKindsOf bar_format machine.bars bars bar_kinds.items × AreKindsOf row_format day.rows rows row_kinds.items
 AreExpanded _ _ _ _ = ⊥
 
--- `numbered` are the card's prices `prices` as prices by number. If `prices` are by number, they are unchanged. If
--- `prices` are by kind, each cable, column, bar or row has the price of its kind in `numbered`. In this case, `prices`
--- and `numbered` are valid.
+-- `numbered` are the prices `prices`, turned into prices by number. Prices by number stay as they are. If `prices` are
+-- by kind, `numbered` gives each cable, column, bar or row the price of its kind. In this case, `prices` and `numbered`
+-- are valid.
 pub data Expands (machine : Parts) (day : Day) (prices numbered : PriceParts) : Type 0 where
   Same : version_of prices ≡ ByNumber → prices ≡ numbered → Expands machine day prices numbered
   Expanded : ArePrices prices → ArePrices numbered → AreExpanded machine day prices numbered

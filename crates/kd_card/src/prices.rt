@@ -126,8 +126,10 @@ impl Prices {
 
     /// Makes prices by kind: one for each kind of bars, and one for each kind of the sheet's rows.
     ///
-    /// `None` if `bars` or `rows` aren't strictly ascending, or the counts of one list don't add up to 27. Also `None`
-    /// if a kind has the count 0, or a price below -9999 or above 9999.
+    /// Returns `None` in these cases:
+    ///
+    /// - `bars` or `rows` aren't strictly ascending, or the counts of one list don't add up to 27.
+    /// - A kind has the count 0, or a price below -9999 or above 9999.
     pub fn bar_kinds(bars: &[BarKind], rows: &[RowKind]) -> Option<Self>
         ensures { let parts =
             PriceParts.BarKinds (record { items = bars.now }) (record { items = rows.now }) in
