@@ -37,7 +37,8 @@ right_slot slots = drop (length slots - 1) slots
 abbrev pub letter_in : List ℕ → ℕ → ℕ
 letter_in window from_right = slice_index window (length window - (from_right + 1))
 
--- the number of the row in `core` for these window letters: they are its digits in base 26, so BB gives 27
+-- The number of the row in `core` that belongs to these window letters. The letters are the number's digits in base 26:
+-- BB, for example, is 27.
 abbrev pub row_number : List ℕ → ℕ
 row_number [] = 0
 row_number (letter ∷ letters) = letter * 26 ^ length letters + row_number letters

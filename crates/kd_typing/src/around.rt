@@ -26,8 +26,7 @@ pub(crate) fn inward(plugs: Plugs, seated: SheetWheel, letter: Letter) -> [Lette
 
 /// The path of the current around `core`: in through `wheels`, through `core`, and back through `wheels`.
 ///
-/// Item `i` of the result is the place at which current that enters at place `i` comes back out. The first of the
-/// wheels is next to `core`.
+/// Current that enters at place `i` comes back out at place `result[i]`. The first of the wheels is next to `core`.
 pub(crate) fn around_all(
     core: [Letter; 26],
     wheels: &[SheetWheel],
@@ -46,8 +45,7 @@ pub(crate) fn around_all(
 
 /// The path of the current: in through a wheel, through `core`, and back through the wheel.
 ///
-/// Item `i` of the result is the place at which current that enters at place `i` comes back out. The wheel's window
-/// shows `letter`.
+/// Current that enters at place `i` comes back out at place `result[i]`. The wheel's window shows `letter`.
 fn around_one(core: &[Letter; 26], seated: SheetWheel, letter: Letter) -> [Letter; 26]
     ensures { result ≡ around_one core.now seated letter }
 {
