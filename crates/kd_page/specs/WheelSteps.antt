@@ -22,7 +22,7 @@ use Rattle.kd_page.specs.Page.{Page}
 use Rattle.kd_page.specs.Spots.{count_at, step_spot}
 use Rattle.kd_page.specs.Steps.{idle_text, list_text, step_text}
 
--- `wheel`, or `None` if some slot holds this wheel; the second argument is this slot, or `None`
+-- `wheel` if no slot holds it, otherwise `None`; the second argument is the slot that holds it, or `None`
 abbrev pub unless_held : Wheel → Option ℕ → Option Wheel
 unless_held wheel None = Some wheel
 unless_held wheel (Some slot) = None

@@ -48,7 +48,7 @@ pub(crate) fn pin_mark(effective: bool) -> Mark
     }
 }
 
-/// Writes the checkboxes of those of `settings` whose checkboxes are at `spot`.
+/// Writes the checkboxes that `settings` have at `spot`.
 fn draw_boxes_of<W: Sink>(sink: &mut W, page: &Page<'_>, spot: &Spot, settings: &[Setting])
     ensures { Draws W.taken W.has_failed sink.old sink.new
         (flat_map (box_at page.now spot.now) settings.now) }
