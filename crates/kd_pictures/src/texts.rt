@@ -294,9 +294,9 @@ pub const BOXED_REFLECTOR: Text = (" reflector <b>~</b>", " Umkehrwalze <b>~</b>
 
 pub const BOXED_END: &str = "</p>\n";
 
-/// The list of wheels in the box and their rings.
-/// - `BOX_BEFORE`: the words before the list, if it has the rings before the settings.
-/// - `BOX_AFTER`: the words before the list, if it has the rings after the step that sets rings.
+/// A list of wheels in the box, with their rings.
+/// - `BOX_BEFORE`: the words before the list of the rings as they are before the settings.
+/// - `BOX_AFTER`: the words before the list of the rings as they are after the step that sets rings.
 /// - `BOX_WHEEL`: an item of the list, for one wheel.
 pub const BOX_BEFORE: Text = (
     "<p>Compare these rings in the box, too:",
