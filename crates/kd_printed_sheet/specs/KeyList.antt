@@ -41,7 +41,7 @@ abbrev pub pin_cell : PinSet → ℕ → ℕ → List ℕ
 pin_cell pins place wheel =
     pin_shown (slice_get (ring_of wheel) place) (is_effective (pins_on (pins_of pins) wheel) place)
 
--- the cells of the pins at place `place` of all six wheels
+-- for each of the six wheels, the cell of its pin at place `place`
 unfoldable pub pin_cells : PinSet → ℕ → List ℕ
 pin_cells pins place = flat_map (pin_cell pins place) pin_wheels
 
