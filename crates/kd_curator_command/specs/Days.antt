@@ -53,8 +53,8 @@ pub record AreDays (word : List ℕ) (days : List ℕ) : Type 0 where
   pub few : length days ≤ 31
   pub once : has_twice days ≡ false
 
--- The list `new` has the days of `old`, then the added days `more`. The result is `None` if `more` is `None`, or if
--- `new` would have more than 31 days.
+-- The list `new` has the days of `old`, and then the days `more`. Adding fails (`None`) if `more` is `None`, or if
+-- there would be more than 31 days.
 abbrev pub AddsDays : Option (List ℕ) → List ℕ → List ℕ → Option (Unit {0}) → Type 0
 AddsDays more old new (Some done) = (option_map (λ days. old ++ days) more ≡ Some new) × (length new ≤ 31)
 AddsDays more old new None = IfSome more (λ days. 31 < length (old ++ days))

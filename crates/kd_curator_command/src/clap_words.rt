@@ -109,7 +109,8 @@ fn push_sentences(german: &mut String, text: &str) -> Result<(), AllocError> {
     german.push_str(rest)
 }
 
-/// Looks for the English text of `sentence` in `text`, and appends `text` up to its end, with this sentence in German.
+/// Appends `text` up to the end of `sentence`, which stands in `text` in English, and translates the sentence into
+/// German.
 /// Returns the text after the sentence. If `text` lacks the sentence's beginning, appends nothing, and returns `text`.
 fn push_sentence<'t>(
     german: &mut String,

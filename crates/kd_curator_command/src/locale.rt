@@ -32,10 +32,10 @@ pub fn language_of_code(code: &str) -> Option<Language>
     }
 }
 
-/// The language of all that is written without a command: help, errors of the command line, and a refusal.
+/// The language of what is written before a command is known: help, errors of the command line, and a refusal.
 ///
-/// If the first option `--in` in `words` has a language's code as its value, it is this language, otherwise `language`.
-/// Words that mean no command may use `--in` too, so `clap` isn't asked.
+/// If the first option `--in` in `words` has a language's code as its value, the result is this language. Otherwise,
+/// the result is `language`. Words that mean no command may use `--in` too, so `clap` isn't asked.
 #[tactic(auto, unfolding(crate::specs::Locale::language_without_command))]
 pub fn language_without_command<S: AsStr>(language: Language, words: &[S]) -> Language
     ensures { result ≡ language_without_command language (map S.text words.now) }
