@@ -70,8 +70,7 @@ pub record BeginsWithHead (bytes : List ℕ) (version : Version) (day : ℕ) (re
   pub text : bytes ≡ line_then (head_words version day) rest
   pub of_month : IsDayNumber day
 
--- The result of reading a card's first line. It is the fault `BadHead`, or the version, the day, and the bytes after
--- the line.
+-- The result of reading a card's first line: the version, the day and the bytes after the line, or the fault `BadHead`.
 abbrev pub IsHeadAnswer : List ℕ → AnswerRule CardFault (Version × ℕ × List ℕ)
 IsHeadAnswer bytes = Finds (λ (head : Version × ℕ × List ℕ). BeginsWithHead bytes head.0 head.1 head.2) BadHead
 
@@ -165,8 +164,8 @@ pub record BeginsWithKinds {K X : Type 0} (format : KindFormat K X) (last : Opti
   pub none_more : HasNoNext format (last_of last kinds) rest
 
 -- The result of reading a group of kinds: the kinds and the bytes after them, or a fault.
--- - `BadLine`: after the kinds comes a line that has no LF, or a line that begins with the group's word, but isn't the
---   line of a valid next kind.
+-- - `BadLine`: the line after the kinds has no LF, or has the group's first word but isn't the line of a valid next
+--   kind.
 -- - `PriceMissing`: the kinds' counts don't add up to `number`.
 -- Code: the reader keeps at most `number` kinds, and stops adding counts at `number + 1`.
 abbrev pub IsGroupAnswer : {K X : Type 0} → KindFormat K X → ℕ → ℕ → List ℕ → AnswerRule CardFault (List K × List ℕ)

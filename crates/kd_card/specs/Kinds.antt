@@ -1,5 +1,5 @@
--- A kind is a set of equal cables, equal columns, equal bars or equal rows. It has a count, and the price of a single
--- member.
+-- A kind is a set of equal cables, equal columns, equal bars or equal rows. A kind has a count, and the price of a
+-- single member.
 use Rattle.kd_card.specs.{declared.kinds.CableKind.CableKind, declared.kinds.PairKind.PairKind}
 use Rattle.kd_card.specs.{declared.kinds.BarKind.BarKind, declared.kinds.RowKind.RowKind, declared.kinds.KindOf.KindOf}
 use Rattle.kd_state.specs.{Costs.{column_letters, one_unless}, Machine.cable_letters}
@@ -23,8 +23,8 @@ letters_text (letter ∷ letters) = tables.letters_text (letter ∷ letters)
 abbrev pub kind_line : List ℕ → List ℕ → ℕ → ℤ → List (List ℕ)
 kind_line word key count price = word ∷ key ∷ decimal count ∷ signed_decimal price ∷ []
 
--- The letters at a cable's two ends are in the form of a card: two letters in alphabetical order, or one letter at the
--- first end, or no letter.
+-- The letters at a cable's two ends are in the form of a card. Two letters are in alphabetical order, and a single
+-- letter is at the first end.
 abbrev pub AreEnds : Option ℕ → Option ℕ → Type 0
 AreEnds None None = Unit {0}
 AreEnds None (Some other) = ⊥
@@ -117,7 +117,7 @@ abbrev pub ComesAfter : {K X : Type 0} → KindFormat K X → Option K → K →
 ComesAfter format None next = Unit {0}
 ComesAfter format (Some last) next = KeyComesBefore format (format.kind last).key (format.kind next).key
 
--- The kind is valid: its key may be on a card, its count is from 1 to 255, and its price is from -9999 to 9999.
+-- The kind is valid. Its key may be on a card, its count is from 1 to 255, and its price is from -9999 to 9999.
 pub record IsKind {K X : Type 0} (format : KindFormat K X) (kind : K) : Type 0 where
   pub form : format.InForm (format.kind kind).key
   pub some : 1 ≤ (format.kind kind).count

@@ -1,7 +1,7 @@
--- The prices of a card, and when they fit a table of costs. A rotor machine's table has a row for each cable. Its 13
--- columns are the day's pairs, and then empty columns. A Converter's table has a row for each bar, and a column for
--- each row of the sheet. Rows and columns are counted from 0. With prices *by number*, each row and each column has its
--- own price. With prices *by kind*, equal rows share one price, and so do equal columns.
+-- The prices of a card, and when they fit a table of costs. A rotor machine's table has a row for each cable, and 13
+-- columns: the day's pairs, and then empty columns. A Converter's table has a row for each bar, and a column for each
+-- row of the sheet. Rows and columns are counted from 0. With prices *by number*, each row and each column has its own
+-- price. With prices *by kind*, equal rows share one price, and so do equal columns.
 use Rattle.kd_card.specs.Kinds.{cable_format, pair_format, bar_format, row_format, IsGroup}
 use Rattle.kd_card.specs.declared.prices.PriceParts.TheVariants.{Cables, Bars, CableKinds, BarKinds}
 use Rattle.kd_card.specs.{declared.prices.Version.TheVariants.{ByNumber, ByKind}, declared.prices.PriceParts.PriceParts}

@@ -42,8 +42,9 @@ AreSettingsNeeded machine day (setting ∷ rest) = (after : Parts) × Carries ma
 
 -- ---- prices by kind mean prices by number
 
--- The first prices are by kind: for the machine's cables and the day's columns, or for the machine's bars and the day's
--- rows. The second prices are by number: each cable, column, bar or row has the price of its kind.
+-- The first prices are by kind. The kinds, each as often as its count says, are the machine's cables and the day's
+-- columns, or the machine's bars and the day's rows. The second prices are by number: each cable, column, bar or row
+-- has the price of its kind.
 abbrev pub AreExpanded : Parts → Day → PriceParts → PriceParts → Type 0
 AreExpanded (Rotor machine) (Rotor day) (CableKinds cable_kinds column_kinds) (Cables cables columns) =
     AreKindsOf cable_format machine.cables cables cable_kinds.items
@@ -62,8 +63,9 @@ pub data Expands (machine : Parts) (day : Day) (prices numbered : PriceParts) : 
 
 -- ---- the card proves itself
 
--- A card with prices by number proves itself. Its settings lead the machine to the day, and each of them is needed. Its
--- prices fit the table of costs. The sum of the prices is the number of settings that change a cable or a bar.
+-- A card with prices by number proves itself. The card's settings lead the machine to the day, and each setting is
+-- needed. The card's prices fit the table of costs. The sum of the prices is the number of settings that change a cable
+-- or a bar.
 pub record ProvesByNumber (machine : Parts) (day : Day) (settings : List Setting) (prices : PriceParts) : Type 0 where
   pub model : model_of machine ≡ day_model day
   pub kind : AreModelPrices machine prices
@@ -72,8 +74,8 @@ pub record ProvesByNumber (machine : Parts) (day : Day) (settings : List Setting
   pub sum : price_sum prices ≡ pos (priced_count settings)
   pub needed : AreSettingsNeeded machine day settings
 
--- A card proves itself. If its prices are by kind, they are first turned into prices by number, `numbered`: one price
--- for each cable and each column, or for each bar and each row.
+-- A card proves itself. `numbered` are the card's prices, turned into prices by number. With these prices, the card
+-- proves itself as in `ProvesByNumber`.
 pub record Proves (machine : Parts) (day : Day) (settings : List Setting) (prices : PriceParts) : Type 0 where
   pub numbered : PriceParts
   pub expands : Expands machine day prices numbered

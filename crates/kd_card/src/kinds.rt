@@ -1,5 +1,5 @@
-//! A kind is a set of equal cables, equal columns, equal bars or equal rows. It has a count, and the price of a single
-//! member.
+//! A kind is a set of equal cables, equal columns, equal bars or equal rows. A kind has a count, and the price of a
+//! single member.
 ghost use Rattle.std.specs.Prelude.{◌≡◌, ◌≢◌, ◌↔◌, ℕ, ◌+◌, ◌<◌, ◌≤◌, [], ◌∷◌, ◌++◌, length, replicate, None};
 ghost use Rattle.std.specs.Prelude.{IsTrue, MatchOption};
 ghost use Rattle.arrayvec.specs.ArrayVec.{array_vec_len};
