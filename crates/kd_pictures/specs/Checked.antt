@@ -43,7 +43,7 @@ TemplatesTakeTheirValues =
 abbrev pub Reads : Word → List ℕ → List ℕ → Type 0
 Reads word english german = (word_text English word ≡ english) × (word_text German word ≡ german)
 
--- In both languages, the words that tell an operator what to do are right: for example, `ON` for a pin, `left lug` for
+-- In both languages, the words that tell an operator what to do are right. Examples are `ON` for a pin, `left lug` for
 -- a lug, and `middle` for a slot.
 abbrev pub WordsTellWhatToDo : Type 0
 WordsTellWhatToDo =

@@ -78,8 +78,8 @@ wheel_shown l x y slot is_old wheel =
 abbrev pub is_same_letter : ℕ → Option ℕ → Bool
 is_same_letter letter other = option_map_or (nat_eq letter) other false
 
--- A ring's letter, if there is one. It is framed as new, unless `other` is the same letter. `other` is the letter of
--- the same wheel's ring on the other machine.
+-- A ring's letter, if there is one. The letter is framed as new, unless `other` is the same letter. On the other
+-- machine, the same wheel's ring has the letter `other`.
 abbrev pub ring_shown : ℕ → ℕ → Option ℕ → Option ℕ → List ℕ
 ring_shown x y None other = []
 ring_shown x y (Some letter) other =

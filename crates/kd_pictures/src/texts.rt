@@ -281,8 +281,8 @@ pub const LIST: &str = "<ul>\n";
 
 pub const LIST_END: &str = "</ul>\n</section>\n";
 
-/// The paragraph that lists the wheels and the reflector to take out. They go into the box before others go into the
-/// machine.
+/// The paragraph that lists the wheels and the reflector to take out. These parts go into the box before other parts go
+/// into the machine.
 pub const BOXED: Text = (
     "<p>Take out, into the box:",
     "<p>Herausnehmen, in den Kasten:",
@@ -581,8 +581,8 @@ pub const BOXES: &str = "\n";
 
 pub const DRUM_END: &str = "</table>\n</section>\n";
 
-/// The test of the machine after the settings: the keys to press, the letters that light up or are printed, the letters
-/// to set again, and the number of settings.
+/// The test of the machine after the settings: the keys to press, and the letters that light up or are printed. Then
+/// come the letters to set again, and the number of settings.
 pub const TEST_ROTOR: Text = (
     "<p>Type the alphabet. The lamps have to give the second line:</p>\n<pre>",
     "<p>Das Alphabet eintippen. Die Lampen müssen die zweite Zeile ergeben:</p>\n<pre>",
@@ -667,7 +667,7 @@ pub const MIDDLE: Text = ("middle", "Mitte");
 pub const RIGHT: Text = ("right", "rechts");
 
 /// The names of the two pictures: of the machine before the settings, and after them. The next three texts are the CSS
-/// classes of a cable's line: for a cable with a plug to take out, with a plug to put in, and with no plug to move.
+/// classes of a cable's line: the cable has a plug to take out, a plug to put in, or no plug to move.
 pub const BEFORE: Text = ("before", "vorher");
 
 pub const AFTER: Text = ("after", "nachher");
