@@ -13,8 +13,8 @@ use Rattle.kd_drum.specs.Converter.{PinKey, shown_place}
 -- The table of a Converter.
 -- - `pins` has a list for each wheel. For each letter, in the wheel's order, the list says whether the acting pin is
 --   effective while the wheel shows this letter.
--- - `rows` has a row for each set of wheels: the letters that are printed for A to Z if exactly these wheels have an
---   effective acting pin.
+-- - `rows` has a row for each set of wheels. The row has the letters that are printed for A to Z if exactly these
+--   wheels have an effective acting pin.
 -- - The number of a row has six binary digits, for wheels 1 to 6; 1 means that the set has the wheel.
 pub record PinTable : Type 0 where
   pub rows : List (List ℕ)

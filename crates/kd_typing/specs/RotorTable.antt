@@ -14,11 +14,11 @@ use Rattle.kd_enigma.specs.Cipher.{RotorKey, IsPlugboard, path, product, rotors}
 
 -- The table of a rotor machine.
 -- - `into` has a row for each letter in the right window. The row says which place each key's current reaches through
--- the plugboard and the right wheel.
--- - `core` has a row for each combination of letters in the other windows: the places at which the current comes out of
--- the core.
+--   the plugboard and the right wheel.
+-- - `core` has a row for each combination of letters in the other windows. The row says at which place the current
+--   comes out of the core, for each place at which it enters.
 -- - `steps` has a number for each pair of letters in the middle and the right window. The number says how many wheels
--- move at the next key press.
+--   move at the next key press.
 pub record RotorTable : Type 0 where
   pub into : List (List ℕ)
   pub core : List (List ℕ)
