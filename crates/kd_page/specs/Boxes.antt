@@ -66,14 +66,13 @@ abbrev pub lug_word : Lug → Word
 lug_word lugs.Left = LeftLug
 lug_word lugs.Right = RightLug
 
--- The words for the place that a lug has before the settings are carried out. Empty if the machine doesn't have the
--- lug's bar.
+-- The words for a lug's place before the settings. Empty if the machine doesn't have the lug's bar.
 abbrev pub lug_from_text : Language → Lug → Option (Place × Place) → List ℕ
 lug_from_text l lug None = []
 lug_from_text l lugs.Left (Some bar) = filled (text_in l LUG_FROM) (place_text bar.0 ∷ [])
 lug_from_text l lugs.Right (Some bar) = filled (text_in l LUG_FROM) (place_text bar.1 ∷ [])
 
--- the checkbox to move a lug to a place of its bar, with the place that the lug has before the settings are carried out
+-- the checkbox to move a lug to a place of its bar, with the lug's place before the settings
 abbrev pub lug_text : Language → Setting → Lug → Option (Place × Place) → Place → List ℕ
 lug_text l x lug bar place =
     filled LUG.now (word_text l (lug_word lug) ∷ []) ++ lug_from_text l lug bar

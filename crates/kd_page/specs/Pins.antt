@@ -57,8 +57,7 @@ abbrev pub pin_cells : Page → ℕ → List ℕ → List ℕ
 pin_cells page wheel letters =
     flat_map (λ letter. pin_cell page wheel letter (machine_pin page.after wheel letter)) letters
 
--- the first words of the lines that set the pins of `wheel`, such as `PIN 3`; empty if `count`, the number of pins to
--- set, is 0
+-- the first words of the lines that set the pins of `wheel`, such as `PIN 3`; empty if there are no pins to set
 abbrev pub pin_lines : ℕ → ℕ → List ℕ
 pin_lines wheel count = if count == 0 then [] else filled texts.PIN_LINES.now (decimal wheel ∷ [])
 

@@ -1,5 +1,5 @@
--- The step of the rings, and the step of the wheels and the reflector. They have a checkbox for each of their settings,
--- and say which parts come from the box or go into the box.
+-- The step of the rings, and the step of the wheels and the reflector. Both steps have a checkbox for each of their
+-- settings, and say which parts come from the box or go into the box.
 use Rattle.std.specs.Prelude.{ℕ, ◌||◌, ◌==◌, Bool, false, if◌then◌else◌, List, [], ◌∷◌, ◌++◌, flat_map}
 use Rattle.std.specs.Prelude.{Option, Some, None, is_some, option_and_then, option_map}
 use Rattle.std.specs.Option.{option_map_or}

@@ -193,8 +193,7 @@ fn pin_word(effective: bool) -> Word
     if effective { Word::On } else { Word::Off }
 }
 
-/// Writes the checkbox to move a lug to a place of its bar. The checkbox also has the place that the lug has before the
-/// settings are carried out.
+/// Writes the checkbox to move a lug to a place of its bar. The checkbox also has the lug's place before the settings.
 fn draw_lug<W: Sink>(sink: &mut W, page: &Page<'_>, bar: u8, lug: Lug, place: Place)
     ensures { Draws W.taken W.has_failed sink.old sink.new
         (lug_text page.now.language (LugTo bar lug place) lug
@@ -216,8 +215,8 @@ fn lug_word(lug: Lug) -> Word
     }
 }
 
-/// Writes the place that `lug` has before the settings are carried out. Writes nothing if `bar` is `None`, because the
-/// machine doesn't have the lug's bar.
+/// Writes the place of `lug` before the settings. Writes nothing if `bar` is `None`, because the machine doesn't have
+/// the lug's bar.
 fn draw_lug_from<W: Sink>(sink: &mut W, language: Language, lug: Lug, bar: Option<Standing>)
     ensures { Draws W.taken W.has_failed sink.old sink.new (lug_from_text language lug bar) }
 {
