@@ -208,7 +208,7 @@ abbrev pub HasForm : List Row → TableForm → Type 0
 HasForm rows forms.Csv = IsUsed (codes "csv") rows
 HasForm rows forms.Page = ¬ (IsUsed (codes "csv") rows)
 
--- The arguments say whether the page shows the results. With the option `--blank`, the results are left open.
+-- The arguments in `rows` say whether the page shows the results: with the option `--blank`, the results are left open.
 abbrev pub HasResults : List Row → Results → Type 0
 HasResults rows LeftOpen = IsUsed (codes "blank") rows
 HasResults rows Shown = ¬ (IsUsed (codes "blank") rows)
@@ -379,7 +379,7 @@ AsksForHelp words = (kind : ErrorKind) × (fault_of curator_grammar words ≡ ki
 
 -- Why there is no command:
 -- - `Asked`: a word asks for help or for the version.
--- - `Usage`: the words don't mean a command, and don't ask for help or for the version.
+-- - `Usage`: the words don't mean a command, and don't ask only for help or for the version.
 -- - `NoMemory`: memory ran out.
 abbrev pub HasNoCommand : List (List ℕ) → NoCommand → Type 0
 HasNoCommand words (Asked text) =
