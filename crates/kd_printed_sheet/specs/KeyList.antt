@@ -21,7 +21,7 @@ use Rattle.kd_pictures.specs.Words.{model_name}
 use Rattle.kd_printed_sheet.specs.declared.texts.TheConstants as texts
 use Rattle.kd_printed_sheet.specs.Words.{words_text}
 
--- ---- The lines of the bars. Line `n` has bar `n`, and the `n`th pin of each wheel; lines are counted from 0.
+-- ---- The lines of the bars. Line `n` has bar `n`, and the `n`th pin of each wheel. All are counted from 1.
 
 -- the bar's number, in two digits, and the numbers of the wheels at its two lugs
 abbrev pub bar_head : ℕ → ℕ × ℕ → List ℕ
