@@ -365,7 +365,7 @@ CommandLinesMeanOneCommand =
     (words : List (List ℕ)) (one other : NamedCommand) → IsCommandLineOf words one → IsCommandLineOf words other
     → one ≡ other
 
--- ---- What a command line is that is no command.
+-- ---- Command lines that mean no command.
 
 -- whether `clap` gives an error of this kind to show help or the version
 abbrev pub is_help : ErrorKind → Bool
@@ -387,7 +387,7 @@ HasNoCommand words (Asked text) =
 HasNoCommand words (Usage text) = IsNoCommandLine words × ¬ (AsksForHelp words)
 HasNoCommand words NoMemory = Unit {0}
 
--- ---- What inner functions make of grammars and errors. No public contract cites these definitions.
+-- ---- Grammars and errors in the contracts of private functions. No public contract cites these definitions.
 
 -- the rule for an argument that has the name `name` and the given sort
 abbrev pub rule_of_sort : List ℕ → ArgumentSort → Rule
