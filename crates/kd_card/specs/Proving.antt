@@ -40,7 +40,7 @@ AreSettingsNeeded machine day [] = Unit {0}
 AreSettingsNeeded machine day (setting ∷ rest) = (after : Parts) × Carries machine setting after
     × IsSettingNeeded machine day setting × AreSettingsNeeded after day rest
 
--- ---- prices by kind mean prices by number
+-- ---- prices by kind, turned into prices by number
 
 -- The first prices are by kind. The kinds, each as often as its count says, are the machine's cables and the day's
 -- columns, or the machine's bars and the day's rows. The second prices are by number: each cable, column, bar or row
