@@ -121,7 +121,7 @@ band_text l y name m n =
     band_head l y name ++ reflector_shown y (machine_reflector m) (machine_reflector n)
     ++ flat_map (λ slot. slot_shown l (slot_x slot) y m n slot (machine_slot m slot)) SLOTS
 
--- ---- The picture: the machine before, without marks, and the machine after; or the machine after alone.
+-- ---- The picture: the machine before the settings, without marks, and after them; or only after them.
 
 unfoldable pub both_bands : Language → Parts → Parts → List ℕ
 both_bands l m n =
