@@ -53,7 +53,7 @@ pin_table_in text =
     let lines = lines_of text in
     record { pins = map (map (λ byte. byte == 49)) (take 6 lines); rows = map letters_of (drop 6 lines) }
 
--- ---- Lines in parts. No public contract cites these definitions.
+-- ---- Single lines of a table. No public contract cites these definitions.
 
 -- A digit for each letter that a wheel can show: 1 if the acting pin is effective while this letter shows, otherwise 0.
 -- The wheel has the pins `pins`. The acting pin is `offset` places after the shown letter's pin.
