@@ -14,7 +14,7 @@ use Rattle.std.specs.declared.cmp.Ordering.{Ordering, TheVariants.Less}
 
 -- ---- keys: a cable's letters, a column's pair, a bar's standing, a row's reading
 
--- the letters of a cable or a column in the line of its kind, or `-` if there are no letters
+-- how a card writes the letters of a cable or a column: for example `AB` or `A`, and `-` for no letters
 abbrev pub letters_text : List ℕ → List ℕ
 letters_text [] = codes "-"
 letters_text (letter ∷ letters) = tables.letters_text (letter ∷ letters)

@@ -18,7 +18,7 @@ LooseThingsAreCounted =
     → length (loose_lines machine day) ≡ loose_count machine day
 
 -- Suppose that prices fit. Then no list that reaches the day is shorter than the prices' sum plus the number of loose
--- things.
+-- things. A thing is loose if it isn't as the day says. Cables and bars are never loose.
 abbrev pub FittingPricesBoundLists : Type 0
 FittingPricesBoundLists =
     (machine : Parts) (day : Day) (prices : PriceParts) (settings : List Setting) → IsMachine machine → IsLegalDay day
@@ -51,7 +51,8 @@ ProvingCardsAreShortest =
     → IsShortest machine day settings
 
 -- Suppose that prices by kind fit, and that a list has as many settings as the prices' sum plus the number of loose
--- things. Then no shorter list reaches the day.
+-- things. Then no shorter list reaches the day. A thing is loose if it isn't as the day says. Cables and bars are never
+-- loose.
 abbrev pub ShownListsAreShortest : Type 0
 ShownListsAreShortest =
     (machine : Parts) (day : Day) (settings : List Setting) (prices : PriceParts) → IsMachine machine → IsLegalDay day

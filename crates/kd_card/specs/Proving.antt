@@ -29,7 +29,8 @@ is_priced_setting _ = false
 abbrev pub priced_count : List Setting → ℕ
 priced_count settings = count_by is_priced_setting settings
 
--- The setting is needed: it changes a cable or a bar, or it lowers the number of loose things by one.
+-- The setting is needed. It changes a cable or a bar, or it lowers by one the number of things that aren't as the day
+-- says. Cables and bars don't count among these things.
 abbrev pub IsSettingNeeded : Parts → Day → Setting → Type 0
 IsSettingNeeded machine day setting = IsFalse (is_priced_setting setting)
     → (after : Parts) × Carries machine setting after × (loose_count machine day ≡ loose_count after day + 1)

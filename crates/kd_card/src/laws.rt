@@ -26,7 +26,8 @@ pub fn loose_things_are_counted()
 
 /// Prices that fit give a lower bound for the length of each list of settings that reaches the day.
 ///
-/// This bound is the sum of the prices plus the number of loose things.
+/// This bound is the sum of the prices plus the number of loose things. A thing is loose if it isn't as the day says.
+/// Cables and bars are never loose.
 #[tactic(auto, using(crate::proofs::Months::fitting_prices_bound_lists))]
 pub fn fitting_prices_bound_lists()
     ensures { FittingPricesBoundLists }
