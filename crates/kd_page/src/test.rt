@@ -58,7 +58,7 @@ fn draw_test_words<W: Sink>(sink: &mut W, language: Language, model: Model)
     }
 }
 
-/// Writes the keys, and the letters that light up or are printed for them.
+/// Writes the keys, the letters that light up or are printed for them, and the words of `draw_test_end`.
 fn draw_test<W: Sink>(sink: &mut W, language: Language, machine: &Machine)
     requires { IsReady machine.now }
     ensures { Draws W.taken W.has_failed sink.old sink.new (test_text language machine.now) }
