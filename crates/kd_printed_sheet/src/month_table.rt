@@ -1,4 +1,4 @@
-//! The table of a month's days for a rotor machine's model. Each day has a row, and the last day comes first.
+//! A month's table for a model of rotor machine. Each day has a row, and the last day comes first.
 ghost use Rattle.std.specs.Prelude.{◌≡◌, flat_map, option_copied, Some};
 ghost use Rattle.kd_pictures.specs.Drawing.{Draws};
 ghost use Rattle.kd_sheet.specs.Sheet.{day_of};
