@@ -89,7 +89,7 @@ fn has_twice(days: &[u8]) -> bool
     }
 }
 
-/// Adds the days of `text`, which is a list of ranges with commas between them.
+/// Adds the days of a text such as `1,4-6`, which is a list of ranges with commas between them.
 fn add_ranges(days: &mut Days, text: &str) -> Option<()>
     ensures { AddsDays (days_named text.now) days.old days.new result }
 {
