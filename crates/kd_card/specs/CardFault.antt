@@ -37,8 +37,8 @@ IsNumeral true text =
 
 -- ---- lines
 
--- The first line of `bytes` ends with LF. The list `words` is this line, split at each space. The
--- bytes after the LF are `rest`.
+-- The first line of `bytes` ends with LF. The list `words` is this line, split at each space. The bytes after the LF
+-- are `rest`.
 pub record HasLineWords (bytes : List ℕ) (words : List (List ℕ)) (rest : List ℕ) : Type 0 where
   pub line : List ℕ
   pub first : IsFirstPart 10 bytes line rest
