@@ -81,8 +81,8 @@ pub(crate) fn german_text(alloc: Global, text: &str) -> Result<String, AllocErro
     Ok(german)
 }
 
-/// Appends, in German, the sentence with which the error `message` begins. Returns the text after this sentence.
-/// If `message` begins with none of `ERRORS`, appends nothing, and returns `message`.
+/// Appends, in German, the sentence with which the error `message` begins. Returns the text after this sentence. If
+/// `message` begins with none of `ERRORS`, appends nothing, and returns `message`.
 fn push_error<'t>(german: &mut String, message: &'t str) -> Result<&'t str, AllocError> {
     for error in &ERRORS {
         if begins_as(message, *error) {
@@ -110,8 +110,8 @@ fn push_sentences(german: &mut String, text: &str) -> Result<(), AllocError> {
 }
 
 /// Appends `text` up to the end of `sentence`, which stands in `text` in English, and translates the sentence into
-/// German.
-/// Returns the text after the sentence. If `text` lacks the sentence's beginning, appends nothing, and returns `text`.
+/// German. Returns the text after the sentence. If `text` lacks the sentence's beginning, appends nothing, and returns
+/// `text`.
 fn push_sentence<'t>(
     german: &mut String,
     text: &'t str,

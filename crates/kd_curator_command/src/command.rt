@@ -518,8 +518,8 @@ fn push_file<'a>(files: &mut ArrayVec<&'a str, 3>, words: &ArgMatches<'a>, name:
     }
 }
 
-/// The command `sheet` with the arguments in `words`. `None` if `--empty` is used with a wrong
-/// model, a wrong number of days, or an option that fills blank cells.
+/// The command `sheet` with the arguments in `words`. `None` if `--empty` is used with a wrong model, a wrong number of
+/// days, or an option that fills blank cells.
 fn sheet_of<'a>(words: &ArgMatches<'a>) -> Option<NamedCommand<'a>>
     ensures said { IfSome result (λ command.
         IsCommandOf (codes "sheet", rows_of (found_of words.now)) (unborrowed_command command)) }
