@@ -159,8 +159,8 @@ fn draw_again_at<W: Sink>(
     }
 }
 
-/// Writes `letter`, one of the letters to set again after the test.
-/// If `has_number` is true, the letter's number stands beside it.
+/// Writes `letter`, one of the letters to set again after the test. If `has_number` is true, the letter's number stands
+/// beside it.
 fn draw_again<W: Sink>(sink: &mut W, language: Language, has_number: bool, letter: Letter)
     ensures { Draws W.taken W.has_failed sink.old sink.new (again_text has_number letter) }
 {
