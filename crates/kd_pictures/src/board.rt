@@ -96,8 +96,8 @@ fn is_plugged(machine: &Machine, number: u8) -> bool
     one.is_some()
 }
 
-/// Writes in words those of the cables `numbers` that have a plug.
-/// `separator` stands before the first of them, and a comma before each later one.
+/// Writes in words those of the cables `numbers` that have a plug. `separator` stands before the first of them, and a
+/// comma before each later one.
 fn draw_cables_after<W: Sink>(
     sink: &mut W,
     language: Language,
@@ -194,8 +194,8 @@ fn draw_line<W: Sink>(
     draw_cable_line(sink, language, class, lane, cable_of(machine, number));
 }
 
-/// The CSS class of the line of cable `number`, whose plugs are at the letters `cable`.
-/// The line is thick if machine `other` lacks one of these plugs.
+/// The CSS class of the line of cable `number`, whose plugs are at the letters `cable`. The line is thick if machine
+/// `other` lacks one of these plugs.
 fn line_class(plugs: Plugs, other: &Machine, number: u8, cable: Cable) -> Class
     ensures { result ≡ line_class plugs other.now number cable }
 {
