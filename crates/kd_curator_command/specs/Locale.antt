@@ -30,9 +30,8 @@ language_value (word ∷ words) =
     else if starts_with nat_eq word (codes "--in=") then Some (drop 5 word)
     else language_value words
 
--- The language of what is written before a command is known: help, errors of the command line, and a refusal. If the
--- first option `--in` in `words` has a language's code as its value, the result is this language. Otherwise, the result
--- is `language`.
+-- The language of what is written before a command is known: help, errors or a refusal. If the first option `--in` in
+-- `words` has a language's code as its value, the result is this language. Otherwise, the result is `language`.
 unfoldable pub language_without_command : Language → List (List ℕ) → Language
 language_without_command language words =
     unwrap_or (option_and_then language_with_code (language_value words)) language

@@ -32,7 +32,7 @@ pub fn language_of_code(code: &str) -> Option<Language>
     }
 }
 
-/// The language of what is written before a command is known: help, errors of the command line, and a refusal.
+/// The language of what is written before a command is known: help, errors or a refusal.
 ///
 /// If the first option `--in` in `words` has a language's code as its value, the result is this language. Otherwise,
 /// the result is `language`. Words that mean no command may use `--in` too, so `clap` isn't asked.
