@@ -24,7 +24,7 @@ pub(crate) fn inward(plugs: Plugs, seated: SheetWheel, letter: Letter) -> [Lette
     row
 }
 
-/// The path of the current around `core`: in through `wheels`, through `core`, and back through `wheels`.
+/// The path of the current: in through `wheels`, through `core`, and back through `wheels`.
 ///
 /// Current that enters at place `i` comes back out at place `result[i]`. The first of the wheels is next to `core`.
 pub(crate) fn around_all(
