@@ -208,7 +208,8 @@ abbrev pub HasForm : List Row → TableForm → Type 0
 HasForm rows forms.Csv = IsUsed (codes "csv") rows
 HasForm rows forms.Page = ¬ (IsUsed (codes "csv") rows)
 
--- The arguments in `rows` say whether the page shows the results: with the option `--blank`, the results are left open.
+-- The arguments in `rows` say whether the page shows the results. With the option `--blank`, the page has worksheets
+-- instead.
 abbrev pub HasResults : List Row → Results → Type 0
 HasResults rows LeftOpen = IsUsed (codes "blank") rows
 HasResults rows Shown = ¬ (IsUsed (codes "blank") rows)
@@ -379,7 +380,7 @@ AsksForHelp words = (kind : ErrorKind) × (fault_of curator_grammar words ≡ ki
 
 -- Why there is no command:
 -- - `Asked`: a word asks for help or for the version.
--- - `Usage`: the words don't mean a command, and don't ask only for help or for the version.
+-- - `Usage`: the words neither mean a command nor only ask for help or for the version.
 -- - `NoMemory`: memory ran out.
 abbrev pub HasNoCommand : List (List ℕ) → NoCommand → Type 0
 HasNoCommand words (Asked text) =
@@ -414,8 +415,10 @@ pub record IsMadeOf (grammar : Grammar) (shape : Shape) : Type 0 where
   pub made : app_of grammar ≡ record { top = shape; subs = [] }
   pub local : (out-Command grammar).has_globals ≡ false
 
--- What the program may return if `clap` gives an error of the kind `kind`: `Asked` for help and for the version,
--- `Usage` for all other kinds except `OutOfMemory`, and `NoMemory` for any kind.
+-- What the program may return if `clap` gives an error of the kind `kind`:
+-- - `Asked`: for help and for the version.
+-- - `Usage`: for all other kinds except `OutOfMemory`.
+-- - `NoMemory`: for any kind.
 abbrev pub IsToldAs : ErrorKind → NoCommand → Type 0
 IsToldAs kind (Asked text) = IsTrue (is_help kind)
 IsToldAs kind (Usage text) = (is_help kind ≡ false) × (kind ≢ OutOfMemory)

@@ -113,7 +113,7 @@ pub struct MessageTask {
     pub direction: Direction,
     /// The number of the day whose key is used.
     pub day: u8,
-    /// Whether the page shows the results; with the option `--blank`, they are left open.
+    /// Whether the page shows the results. With the option `--blank`, the page has worksheets instead.
     pub results: Results,
 }
 
@@ -428,7 +428,7 @@ fn message_task(words: &ArgMatches<'_>, direction: Direction) -> Option<MessageT
     })
 }
 
-/// Whether the page shows the results: with the option `--blank`, they are left open.
+/// Whether the page shows the results. With the option `--blank`, the page has worksheets instead.
 fn results_asked(words: &ArgMatches<'_>) -> Results
     ensures { HasResults (rows_of (found_of words.now)) result }
 {
