@@ -1,4 +1,5 @@
-//! The test of the real machine. For given keys, it says which lamps light up, or which letters are printed.
+//! The test of the real machine. For the keys to press, the test says which lamps light up, or which letters are
+//! printed.
 ghost use Rattle.std.specs.Prelude.{◌≡◌, ◌++◌, flat_map, length};
 ghost use Rattle.kd_state.specs.Machine.{model_of};
 ghost use Rattle.kd_state.specs.TwoCiphers.{IsReady, physical_cipher};
