@@ -318,7 +318,7 @@ pub const RING: Text = (
 
 /// A checkbox to put in a wheel from the box, in three pieces.
 /// - `SEAT`: the slot, the slot's name, and the wheel.
-/// - `BOX_RING`: the letter to which the wheel's ring has to be set, and this letter's number.
+/// - `BOX_RING`: the letter on which the wheel's ring has to stand, and this letter's number.
 /// - `SEAT_END`: the setting's line.
 pub const SEAT: Text = (
     "<li><label><input type=checkbox> slot ~, ~: put in wheel <b>~</b>, from the box",
@@ -426,8 +426,8 @@ pub const RING_WORDS: Text = (", ring ~", ", Ring ~");
 
 pub const WINDOW_WORDS: Text = (", window ~", ", Fenster ~");
 
-/// The name of a band of the picture, and the labels at its left. `REFLECTOR_SHOWN` draws an old reflector, and
-/// `NEW_REFLECTOR` a new one.
+/// The name and the labels of a band of the picture. `REFLECTOR_SHOWN` draws an old reflector, and `NEW_REFLECTOR` a
+/// new one.
 pub const BAND: Text = (
     "<text class=\"label bold\" x=\"2\" y=\"~\" font-size=\"20\">~</text>\n<text class=\"label\" x=\"2\" y=\"~\" font-size=\"18\">wheel</text>\n<text class=\"label\" x=\"2\" y=\"~\" font-size=\"18\">ring</text>\n<text class=\"label\" x=\"2\" y=\"~\" font-size=\"18\">window</text>\n<text x=\"134\" y=\"~\" font-size=\"18\">reflector</text>\n",
     "<text class=\"label bold\" x=\"2\" y=\"~\" font-size=\"20\">~</text>\n<text class=\"label\" x=\"2\" y=\"~\" font-size=\"18\">Walze</text>\n<text class=\"label\" x=\"2\" y=\"~\" font-size=\"18\">Ring</text>\n<text class=\"label\" x=\"2\" y=\"~\" font-size=\"18\">Fenster</text>\n<text x=\"134\" y=\"~\" font-size=\"18\">UKW</text>\n",
