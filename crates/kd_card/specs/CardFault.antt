@@ -37,16 +37,16 @@ IsNumeral true text =
 
 -- ---- lines
 
--- The first line of `bytes` ends with LF. The list `words` is this line, split at each space. The
--- bytes after the LF are `rest`.
+-- The first line of `bytes` ends with LF. The list `words` is this line, split at each space. The bytes after the LF
+-- are `rest`.
 pub record HasLineWords (bytes : List ℕ) (words : List (List ℕ)) (rest : List ℕ) : Type 0 where
   pub line : List ℕ
   pub first : IsFirstPart 10 bytes line rest
   pub parts : words_of line ≡ words
 
--- The result of reading a line such as `SUM 12`: the bytes after the line, or a fault. The line must be the text
--- `prefix`, the number `due` and LF. For another number, the fault is `CountWrong`. For any other line, the fault is
--- `BadLine`.
+-- The result of reading a line such as `SUM 12`: the bytes after the line, or a fault. In this example, `prefix` is
+-- `SUM ` and `due` is `12`. If another number follows the prefix, the fault is `CountWrong`. If the line has another
+-- form or no LF, the fault is `BadLine`.
 abbrev pub IsValueAnswer : Bool → List ℕ → List ℕ → ℕ → List ℕ → AnswerRule CardFault (List ℕ)
 IsValueAnswer signed prefix due line bytes = do
   found ← Finds
@@ -64,13 +64,13 @@ IsLineAnswer line bytes = do
 
 -- ---- the head and the settings
 
--- `bytes` are a card's first line with `version` and `day`, such as `CARD 2 DAY 31`, and then `rest`.
+-- `bytes` begin with a card's first line, such as `CARD 2 DAY 31` for the day 31 and prices by kind. `rest` follows
+-- this line.
 pub record BeginsWithHead (bytes : List ℕ) (version : Version) (day : ℕ) (rest : List ℕ) : Type 0 where
   pub text : bytes ≡ line_then (head_words version day) rest
   pub of_month : IsDayNumber day
 
--- The result of reading a card's first line. It is the fault `BadHead`, or the version, the day, and the bytes after
--- the line.
+-- The result of reading a card's first line: the version, the day and the bytes after the line, or the fault `BadHead`.
 abbrev pub IsHeadAnswer : List ℕ → AnswerRule CardFault (Version × ℕ × List ℕ)
 IsHeadAnswer bytes = Finds (λ (head : Version × ℕ × List ℕ). BeginsWithHead bytes head.0 head.1 head.2) BadHead
 
@@ -91,7 +91,7 @@ first_text ByNumber Bars = codes "BARS"
 first_text ByKind Cables = cable_format.word
 first_text ByKind Bars = bar_format.word
 
--- The result of reading the first price line's first word: the table of costs that the word names, or a fault.
+-- Which table of costs the prices are for, or a fault. The first word of the first price line names the table.
 abbrev pub IsTableAnswer : Version → ℕ → List ℕ → AnswerRule CardFault CostTable
 IsTableAnswer version line bytes = do
   found ← IsLineAnswer line bytes
@@ -131,14 +131,14 @@ pub record BeginsWithWord (word bytes : List ℕ) : Type 0 where
   pub rest : List ℕ
   pub has : HasLineWords bytes (word ∷ behind) rest
 
--- A group of lines that begin with `word` ends before `bytes`: `bytes` are empty, or their first line ends with LF and
--- has another first word.
+-- The lines with the first word `word` are a group. This group ends before `bytes`: `bytes` are empty, or their first
+-- line ends with LF and has another first word.
 pub data EndsGroup (word bytes : List ℕ) : Type 0 where
   AtNothing : bytes ≡ [] → EndsGroup word bytes
   AtOther : (other : List ℕ) → BeginsWithWord other bytes → other ≢ word → EndsGroup word bytes
 
--- `bytes` are the line of the valid kind `kind`, and then `rest`. If there is a kind `last`, `kind` comes after it in
--- the order of a card's lines.
+-- The first line of `bytes` is the line of `kind`, and `rest` follows this line. The kind is valid. If there is a kind
+-- `last`, `kind` comes after `last` in the order of a card's lines.
 pub record IsNextKind {K X : Type 0} (format : KindFormat K X) (last : Option K) (bytes : List ℕ) (kind : K)
     (rest : List ℕ) : Type 0 where
   pub good : IsKind format kind
@@ -154,17 +154,19 @@ abbrev pub last_of : {K : Type 0} → Option K → List K → Option K
 last_of last [] = last
 last_of last (kind ∷ kinds) = last_of (Some kind) kinds
 
--- `bytes` are the lines of `kinds`, and then `rest`. The kinds are valid and strictly ascending, after the kind `last`
--- if there is one. `rest` doesn't begin with the line of a kind that may follow these kinds.
+-- `bytes` begin with the lines of `kinds`, and `rest` follows these lines. The kinds are valid and strictly ascending.
+-- If there is a kind `last`, all of them come after `last`. No further kind can be read: `rest` doesn't begin with the
+-- line of a valid kind that comes after all of them.
 pub record BeginsWithKinds {K X : Type 0} (format : KindFormat K X) (last : Option K) (bytes : List ℕ) (kinds : List K)
     (rest : List ℕ) : Type 0 where
   pub lines : bytes ≡ kinds_text format kinds ++ rest
   pub in_order : AreKinds format last kinds
   pub none_more : HasNoNext format (last_of last kinds) rest
 
--- The result of reading a group of kinds: the kinds and the bytes after them, or a fault. The fault is `BadLine` if a
--- line has no LF. The fault is also `BadLine` if a line begins with the group's word, but isn't the line of a valid
--- next kind. The fault is `PriceMissing` if the kinds' counts don't add up to `number`.
+-- The result of reading a group of kinds: the kinds and the bytes after them, or a fault.
+-- - `BadLine`: the line after the kinds has no LF, or has the group's first word but isn't the line of a valid next
+--   kind.
+-- - `PriceMissing`: the kinds' counts don't add up to `number`.
 -- Code: the reader keeps at most `number` kinds, and stops adding counts at `number + 1`.
 abbrev pub IsGroupAnswer : {K X : Type 0} → KindFormat K X → ℕ → ℕ → List ℕ → AnswerRule CardFault (List K × List ℕ)
 IsGroupAnswer {K} format number line bytes = do
@@ -205,8 +207,8 @@ IsAllPricesAnswer version line bytes = do
   table ← IsTableAnswer version line bytes
   IsTablePricesAnswer version table line bytes
 
--- The result of reading the rest of a card, from the line `SETTINGS` on: the whole card, or a fault. The earlier lines
--- gave `day` and `settings`.
+-- The result of reading a card from the line `SETTINGS` on: the card's day, settings and prices, or a fault. The day
+-- and the settings come from the lines above `SETTINGS`.
 abbrev pub IsRestAnswer : Version → ℕ → List Setting → ℕ → List ℕ → AnswerRule CardFault (ℕ × List Setting × PriceParts)
 IsRestAnswer version day settings number bytes = do
   rest ← IsValueAnswer false (codes "SETTINGS ") (decimal number) (number + 2) bytes

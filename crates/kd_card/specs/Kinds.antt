@@ -1,5 +1,5 @@
--- A kind is a set of equal cables, equal columns, equal bars or equal rows. It has a count, and the price of a single
--- member.
+-- A kind is a set of equal cables, equal columns, equal bars or equal rows. A kind has a count, and the price of a
+-- single member.
 use Rattle.kd_card.specs.{declared.kinds.CableKind.CableKind, declared.kinds.PairKind.PairKind}
 use Rattle.kd_card.specs.{declared.kinds.BarKind.BarKind, declared.kinds.RowKind.RowKind, declared.kinds.KindOf.KindOf}
 use Rattle.kd_state.specs.{Costs.{column_letters, one_unless}, Machine.cable_letters}
@@ -14,7 +14,7 @@ use Rattle.std.specs.declared.cmp.Ordering.{Ordering, TheVariants.Less}
 
 -- ---- keys: a cable's letters, a column's pair, a bar's standing, a row's reading
 
--- the letters of a cable or a column in the line of its kind, or `-` if there are no letters
+-- how a card writes the letters of a cable or a column: for example `AB` or `A`, and `-` for no letters
 abbrev pub letters_text : List ℕ → List ℕ
 letters_text [] = codes "-"
 letters_text (letter ∷ letters) = tables.letters_text (letter ∷ letters)
@@ -23,15 +23,15 @@ letters_text (letter ∷ letters) = tables.letters_text (letter ∷ letters)
 abbrev pub kind_line : List ℕ → List ℕ → ℕ → ℤ → List (List ℕ)
 kind_line word key count price = word ∷ key ∷ decimal count ∷ signed_decimal price ∷ []
 
--- The two ends of a cable have letters in alphabetical order, or only the first end has a letter, or neither end has
--- one.
+-- The letters at a cable's two ends are in the form of a card. Two letters are in alphabetical order, and a single
+-- letter is at the first end.
 abbrev pub AreEnds : Option ℕ → Option ℕ → Type 0
 AreEnds None None = Unit {0}
 AreEnds None (Some other) = ⊥
 AreEnds (Some one) None = one < 26
 AreEnds (Some one) (Some other) = (one < other) × (other < 26)
 
--- The column is empty, or the letters of its pair are in alphabetical order.
+-- A column of the table of costs is empty, or the letters of its pair are in alphabetical order.
 abbrev pub IsPairInOrder : Option (ℕ × ℕ) → Type 0
 IsPairInOrder None = Unit {0}
 IsPairInOrder (Some pair) = (pair.0 < pair.1) × (pair.1 < 26)
@@ -117,7 +117,7 @@ abbrev pub ComesAfter : {K X : Type 0} → KindFormat K X → Option K → K →
 ComesAfter format None next = Unit {0}
 ComesAfter format (Some last) next = KeyComesBefore format (format.kind last).key (format.kind next).key
 
--- The kind is valid: its key may be on a card, its count is from 1 to 255, and its price is from -9999 to 9999.
+-- The kind is valid. Its key may be on a card, its count is from 1 to 255, and its price is from -9999 to 9999.
 pub record IsKind {K X : Type 0} (format : KindFormat K X) (kind : K) : Type 0 where
   pub form : format.InForm (format.kind kind).key
   pub some : 1 ≤ (format.kind kind).count
@@ -140,12 +140,12 @@ pub record IsGroup {K X : Type 0} (format : KindFormat K X) (number : ℕ) (kind
   pub in_order : AreKinds format None kinds
   pub count : total_count format kinds ≡ number
 
--- each kind's key with its price, repeated as often as the kind's count says
+-- the keys and prices of all kinds: a kind with the count 3, for example, gives its key with its price three times
 abbrev pub expansion : {X : Type 0} → List (KindOf X) → List (X × ℤ)
 expansion kinds = flat_map (λ kind. replicate kind.count (kind.key, kind.price)) kinds
 
--- `keys` and `prices` are the keys and prices of `kinds`, in some order. Each kind's key and price are repeated as
--- often as the kind's count says.
+-- Each of `keys` has the price at the same place of `prices`. In some order, these are the keys and prices of `kinds`:
+-- a kind with the count 3 stands for three equal keys with its price.
 -- Code: `kinds_of` sorts keys with their prices, and counts equal neighbours. For each key, `prices_of` takes the price
 -- of the key's kind, and lowers the kind's count.
 pub record AreKindsOf {K X : Type 0} (format : KindFormat K X) (keys : List X) (prices : List ℤ) (kinds : List K)
@@ -155,7 +155,7 @@ pub record AreKindsOf {K X : Type 0} (format : KindFormat K X) (keys : List X) (
 
 -- ---- lines
 
--- the words of the line of kind `k`
+-- the words of the line for the kind `k`
 abbrev pub kind_words : {K X : Type 0} → KindFormat K X → K → List (List ℕ)
 kind_words format k =
     kind_line format.word (format.text (format.kind k).key) (format.kind k).count (format.kind k).price
@@ -171,6 +171,6 @@ pub record HasKindWords {K X : Type 0} (format : KindFormat K X) (words : List (
   pub good : IsKind format kind
   pub written : kind_words format kind ≡ words
 
--- each kind's price, repeated as often as the kind's count says
+-- the prices of all kinds: a kind with the count 3, for example, gives its price three times
 abbrev pub prices_of_kinds : {K X : Type 0} → KindFormat K X → List K → List ℤ
 prices_of_kinds format kinds = flat_map (λ k. replicate (format.kind k).count (format.kind k).price) kinds

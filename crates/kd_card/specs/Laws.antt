@@ -18,7 +18,7 @@ LooseThingsAreCounted =
     → length (loose_lines machine day) ≡ loose_count machine day
 
 -- Suppose that prices fit. Then no list that reaches the day is shorter than the prices' sum plus the number of loose
--- things.
+-- things. A thing is loose if it isn't as the day says. Cables and bars are never loose.
 abbrev pub FittingPricesBoundLists : Type 0
 FittingPricesBoundLists =
     (machine : Parts) (day : Day) (prices : PriceParts) (settings : List Setting) → IsMachine machine → IsLegalDay day
@@ -26,8 +26,9 @@ FittingPricesBoundLists =
     → PricesFit (cost_table machine day) prices → LeadsToTheDay machine day settings
     → (pos (loose_count machine day) +ℤ price_sum prices) ≤ℤ pos (length settings)
 
--- A setting is unpriced if it changes no cable and no bar. Suppose that a list reaches the day, with at most as many
--- unpriced settings as loose things. Then each unpriced setting lowers the number of loose things by one.
+-- Suppose that a list reaches the day, and has at most as many unpriced settings as the machine has loose things. Then
+-- each unpriced setting lowers the number of loose things by one. A setting is unpriced if it changes no cable and no
+-- bar.
 abbrev pub AsFewAreNeeded : Type 0
 AsFewAreNeeded =
     (machine : Parts) (day : Day) (settings : List Setting) → IsLegalDay day → model_of machine ≡ day_model day
@@ -49,8 +50,9 @@ ProvingCardsAreShortest =
     → ArePrices prices → Proves machine day settings prices
     → IsShortest machine day settings
 
--- Suppose that prices by kind fit. Suppose that a list has as many settings as the prices' sum plus the number of loose
--- things. Then no shorter list reaches the day.
+-- Suppose that prices by kind fit, and that a list has as many settings as the prices' sum plus the number of loose
+-- things. Then no shorter list reaches the day. A thing is loose if it isn't as the day says. Cables and bars are never
+-- loose.
 abbrev pub ShownListsAreShortest : Type 0
 ShownListsAreShortest =
     (machine : Parts) (day : Day) (settings : List Setting) (prices : PriceParts) → IsMachine machine → IsLegalDay day
@@ -95,7 +97,7 @@ CardsHaveNoFault =
     (bytes : List ℕ) (day : ℕ) (xs : List Setting) (prices : PriceParts) (fault : CardFault)
     → IsCard bytes day xs prices → ¬ (IsCardFault bytes fault)
 
--- Bytes have at most one first fault if they are read as a card.
+-- Bytes that are read as a card have at most one first fault.
 abbrev pub OneCardFault : Type 0
 OneCardFault =
     (bytes : List ℕ) (fault other : CardFault) → IsCardFault bytes fault → IsCardFault bytes other → fault ≡ other

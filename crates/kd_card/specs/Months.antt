@@ -17,9 +17,9 @@ pub record IsProvedCard (machine : Parts) (day : Day) (settings : List Setting) 
   pub are_prices : ArePrices prices
   pub proves : Proves machine day settings prices
 
--- Each day has one list of settings. The statement `Sets` holds for each day, its list, and the machines before and
--- after the list. The first list is carried out on `machine`. Each later list is carried out on the machine that the
--- previous list has reached.
+-- Each of `days` has one list of settings. The first list is carried out on `machine`, and each later list on the
+-- machine that the previous list has reached. For each list, `Sets` holds of the machine before it, the day, the list,
+-- and the machine after it. For example, `Sets` is `ReachesDay`.
 abbrev pub DayAfterDay : (Parts → Day → List Setting → Parts → Type 0) → Parts → List Day → List (List Setting) → Type 0
 DayAfterDay Sets machine [] [] = Unit {0}
 DayAfterDay Sets machine (day ∷ days) (settings ∷ lists) =

@@ -1,7 +1,7 @@
--- The prices of a card, and when they fit a table of costs. A rotor machine's table has a row for each cable. Its 13
--- columns are the day's pairs, and then empty columns. A Converter's table has a row for each bar, and a column for
--- each row of the sheet. Rows and columns are counted from 0. With prices *by number*, each row and each column has its
--- own price. With prices *by kind*, equal rows share one price, and so do equal columns.
+-- The prices of a card, and when they fit a table of costs. A rotor machine's table has a row for each cable, and 13
+-- columns: the day's pairs, and then empty columns. A Converter's table has a row for each bar, and a column for each
+-- row of the sheet. Rows and columns are counted from 0. With prices *by number*, each row and each column has its own
+-- price. With prices *by kind*, equal rows share one price, and so do equal columns.
 use Rattle.kd_card.specs.Kinds.{cable_format, pair_format, bar_format, row_format, IsGroup}
 use Rattle.kd_card.specs.declared.prices.PriceParts.TheVariants.{Cables, Bars, CableKinds, BarKinds}
 use Rattle.kd_card.specs.{declared.prices.Version.TheVariants.{ByNumber, ByKind}, declared.prices.PriceParts.PriceParts}
@@ -15,16 +15,14 @@ version_of (CableKinds cables columns) = ByKind
 version_of (BarKinds bars rows) = ByKind
 version_of _ = ByNumber
 
--- the prices of all cables or all bars; with prices by kind, a kind's price is repeated as often as the kind's count
--- says
+-- the prices of all cables or all bars; with prices by kind, a kind with the count 3 gives its price three times
 abbrev pub machine_prices : PriceParts → List ℤ
 machine_prices (Cables cables columns) = cables
 machine_prices (Bars bars rows) = bars
 machine_prices (CableKinds cables columns) = flat_map (λ k. replicate k.count k.price) cables.items
 machine_prices (BarKinds bars rows) = flat_map (λ k. replicate k.count k.price) bars.items
 
--- the prices of the day's columns or rows; with prices by kind, a kind's price is repeated as often as the kind's count
--- says
+-- the prices of the day's columns or rows; with prices by kind, a kind with the count 3 gives its price three times
 abbrev pub day_prices : PriceParts → List ℤ
 day_prices (Cables cables columns) = columns
 day_prices (Bars bars rows) = rows
@@ -71,7 +69,7 @@ PricesFitAt costs prices i j =
 abbrev pub PricesFit : List (List ℕ) → PriceParts → Type 0
 PricesFit costs prices = (i j : ℕ) → i < table_size prices → j < table_size prices → PricesFitAt costs prices i j
 
--- the sum of all prices of the machine and of the day
+-- the sum of all prices: of the machine's cables or bars, and of the day's columns or rows
 abbrev pub price_sum : PriceParts → ℤ
 price_sum prices = fold (λ sum price. sum +ℤ price) (pos 0) (machine_prices prices ++ day_prices prices)
 

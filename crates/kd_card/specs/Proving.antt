@@ -29,7 +29,8 @@ is_priced_setting _ = false
 abbrev pub priced_count : List Setting → ℕ
 priced_count settings = count_by is_priced_setting settings
 
--- The setting is needed: it changes a cable or a bar, or it lowers the number of loose things by one.
+-- The setting is needed. It changes a cable or a bar, or it lowers by one the number of things that aren't as the day
+-- says. Cables and bars don't count among these things.
 abbrev pub IsSettingNeeded : Parts → Day → Setting → Type 0
 IsSettingNeeded machine day setting = IsFalse (is_priced_setting setting)
     → (after : Parts) × Carries machine setting after × (loose_count machine day ≡ loose_count after day + 1)
@@ -40,11 +41,11 @@ AreSettingsNeeded machine day [] = Unit {0}
 AreSettingsNeeded machine day (setting ∷ rest) = (after : Parts) × Carries machine setting after
     × IsSettingNeeded machine day setting × AreSettingsNeeded after day rest
 
--- ---- prices by kind mean prices by number
+-- ---- prices by kind, turned into prices by number
 
--- The first prices are by kind. The keys and counts of the kinds agree with the machine's cables and the day's columns,
--- or with the machine's bars and the day's rows. The second prices are by number: each cable, column, bar or row has
--- the price of its kind.
+-- The first prices are by kind. The kinds, each as often as its count says, are the machine's cables and the day's
+-- columns, or the machine's bars and the day's rows. The second prices are by number: each cable, column, bar or row
+-- has the price of its kind.
 abbrev pub AreExpanded : Parts → Day → PriceParts → PriceParts → Type 0
 AreExpanded (Rotor machine) (Rotor day) (CableKinds cable_kinds column_kinds) (Cables cables columns) =
     AreKindsOf cable_format machine.cables cables cable_kinds.items
@@ -53,9 +54,9 @@ AreExpanded (Pin machine) (Pin day) (BarKinds bar_kinds row_kinds) (Bars bars ro
     AreKindsOf bar_format machine.bars bars bar_kinds.items × AreKindsOf row_format day.rows rows row_kinds.items
 AreExpanded _ _ _ _ = ⊥
 
--- `numbered` has the card's prices `prices`, turned into prices by number. If `prices` are by number already,
--- `numbered` equals `prices`. If `prices` are by kind, `numbered` gives each cable, column, bar or row the price of its
--- kind. In this case, `prices` and `numbered` are valid.
+-- `numbered` are the prices `prices`, turned into prices by number. Prices by number stay as they are. If `prices` are
+-- by kind, `numbered` gives each cable, column, bar or row the price of its kind. In this case, `prices` and `numbered`
+-- are valid.
 pub data Expands (machine : Parts) (day : Day) (prices numbered : PriceParts) : Type 0 where
   Same : version_of prices ≡ ByNumber → prices ≡ numbered → Expands machine day prices numbered
   Expanded : ArePrices prices → ArePrices numbered → AreExpanded machine day prices numbered
@@ -63,8 +64,9 @@ pub data Expands (machine : Parts) (day : Day) (prices numbered : PriceParts) : 
 
 -- ---- the card proves itself
 
--- A card with prices by number proves itself. Its settings lead the machine to the day, and each of them is needed. Its
--- prices fit the table of costs. The sum of the prices is the number of settings that change a cable or a bar.
+-- A card with prices by number proves itself. The card's settings lead the machine to the day, and each setting is
+-- needed. The card's prices fit the table of costs. The sum of the prices is the number of settings that change a cable
+-- or a bar.
 pub record ProvesByNumber (machine : Parts) (day : Day) (settings : List Setting) (prices : PriceParts) : Type 0 where
   pub model : model_of machine ≡ day_model day
   pub kind : AreModelPrices machine prices
@@ -73,7 +75,8 @@ pub record ProvesByNumber (machine : Parts) (day : Day) (settings : List Setting
   pub sum : price_sum prices ≡ pos (priced_count settings)
   pub needed : AreSettingsNeeded machine day settings
 
--- A card proves itself. `numbered` are its prices by number: for each cable and each column, or each bar and each row.
+-- A card proves itself. `numbered` are the card's prices, turned into prices by number. With these prices, the card
+-- proves itself as in `ProvesByNumber`.
 pub record Proves (machine : Parts) (day : Day) (settings : List Setting) (prices : PriceParts) : Type 0 where
   pub numbered : PriceParts
   pub expands : Expands machine day prices numbered

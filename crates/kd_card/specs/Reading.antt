@@ -22,7 +22,8 @@ abbrev pub head_prefix : Version → List ℕ
 head_prefix ByNumber = codes "CARD 1 DAY "
 head_prefix ByKind = codes "CARD 2 DAY "
 
--- `bytes` begin at line `line` of a card. Reading this line as `word` and one or more prices gives the fault `fault`.
+-- The first line of `bytes`, which is line `line` of the card, isn't a price line with the first word `word`. The fault
+-- is `fault`, whatever number of prices the line should have.
 abbrev pub IsNoPriceLine : List ℕ → ℕ → List ℕ → CardFault → Type 0
 IsNoPriceLine word line bytes fault =
     (number : ℕ) → 0 < number → IsPriceLineAnswer word number line bytes (Err fault)
@@ -38,7 +39,7 @@ pub record IsBadKindAt {K X : Type 0} (format : KindFormat K X) (last : Option K
   pub goes_on : ¬ (EndsGroup format.word bytes)
   pub none_more : HasNoNext format last bytes
 
--- `words` are the words of the line of `kind`. Lines of kinds with another key have other words.
+-- `kind` is valid, and its line has the words `words`. No valid kind with another key has the same words in its line.
 pub record IsKindOfWords {K X : Type 0} (format : KindFormat K X) (words : List (List ℕ)) (kind : K) : Type 0 where
   pub has : HasKindWords format words kind
   pub only : (other : K) → HasKindWords format words other → (format.kind other).key ≡ (format.kind kind).key

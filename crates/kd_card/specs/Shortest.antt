@@ -16,8 +16,8 @@ abbrev pub IsShortest : Parts → Day → List Setting → Type 0
 IsShortest machine day settings =
     (others : List Setting) → LeadsToTheDay machine day others → length settings ≤ length others
 
--- The prices are by kind, and fit. The keys and counts of the kinds agree with the machine's cables and the day's
--- columns, or with the machine's bars and the day's rows. The prices of a cable and a column, or of a bar and a row,
+-- The prices are by kind. The kinds, each as often as its count says, are the machine's cables and the day's columns,
+-- or the machine's bars and the day's rows. The prices fit: the prices of a cable and a column, or of a bar and a row,
 -- add up to at most the cost in their cell of the table of costs.
 abbrev pub KindPricesFit : Parts → Day → PriceParts → Type 0
 KindPricesFit (Rotor machine) (Rotor day) (CableKinds cables columns) =
@@ -30,8 +30,8 @@ KindPricesFit (Pin machine) (Pin day) (BarKinds bars rows) =
     × All (λ k. All (λ r. (k.price +ℤ r.price) ≤ℤ pos (bar_cost k.standing r.reading)) rows.items) bars.items
 KindPricesFit _ _ _ = ⊥
 
--- The prices fit. The number of settings is the sum of the prices plus the number of loose things: things that aren't
--- as the day says, except cables and bars. So no shorter list reaches the day.
+-- The prices fit, and the number of settings is the sum of the prices plus the number of loose things. So no shorter
+-- list reaches the day. A loose thing isn't as the day says, and is neither a cable nor a bar.
 pub record ShowShortest (machine : Parts) (day : Day) (settings : List Setting) (prices : PriceParts) : Type 0 where
   pub fit : KindPricesFit machine day prices
   pub as_many : pos (length settings) ≡ (pos (loose_count machine day) +ℤ price_sum prices)

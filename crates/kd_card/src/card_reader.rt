@@ -76,10 +76,9 @@ fn read_day(text: &[u8], version: Version) -> Option<(u8, &[u8])>
     Some((day_of_text(day)?, rest))
 }
 
-/// Checks the first line of `text`, which is line `line` of the card.
+/// Checks the first line of `text`, which is line `line` of the card. Returns the text after this line.
 ///
-/// The line has to be `prefix` and then the number `due`, which may be negative if `signed`. Returns the text after the
-/// line.
+/// In the line `SUM 12`, `prefix` is `SUM ` and `due` is `12`. If `signed`, the number may be negative.
 fn read_value<'a>(
     text: &'a [u8],
     prefix: &str,

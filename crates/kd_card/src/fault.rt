@@ -9,7 +9,7 @@ use thiserror::Error;
 /// Why bytes are not the text of a card. Lines are counted from 1.
 #[derive(Clone, Copy, Debug, PartialEq, Eq, Error)]
 pub enum CardFault {
-    /// The first line has no LF, or isn't like `CARD 2 DAY 31`. The version is 1 or 2, and the day is from 1 to 31.
+    /// The first line has no LF, or isn't like `CARD 2 DAY 31`. A version is 1 or 2, and a day is from 1 to 31.
     BadHead,
     /// The line with this number is missing, has no LF, has a wrong form, or is out of order.
     BadLine(usize),

@@ -47,9 +47,9 @@ fn kind_of_parts<K: Kind>(key: &[u8], count: &[u8], price: &[u8]) -> Option<K>
 
 /// Reads the next kind of a group from the first line of `text`. Returns this kind, and the text after the line.
 ///
-/// `None` if the group ends: `text` is empty, or its first line has an LF and begins with a word other than
-/// `K::word()`. The fault is `BadLine(line)` if the line has no LF, or isn't the line of a valid kind that comes after
-/// `last`.
+/// - `None`: the group ends. `text` is empty, or its first line ends with LF and has another first word than
+///   `K::word()`.
+/// - `BadLine(line)`: the line has no LF, or begins with `K::word()` but isn't the line of a valid kind after `last`.
 fn next_kind<K: Kind>(
     text: &[u8],
     last: Option<K>,

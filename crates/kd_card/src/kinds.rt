@@ -1,5 +1,5 @@
-//! A kind is a set of equal cables, equal columns, equal bars or equal rows. It has a count, and the price of a single
-//! member.
+//! A kind is a set of equal cables, equal columns, equal bars or equal rows. A kind has a count, and the price of a
+//! single member.
 ghost use Rattle.std.specs.Prelude.{◌≡◌, ◌≢◌, ◌↔◌, ℕ, ◌+◌, ◌<◌, ◌≤◌, [], ◌∷◌, ◌++◌, length, replicate, None};
 ghost use Rattle.std.specs.Prelude.{IsTrue, MatchOption};
 ghost use Rattle.arrayvec.specs.ArrayVec.{array_vec_len};
@@ -17,7 +17,7 @@ use std::cmp::Ordering;
 pub struct CableKind {
     /// The letters of each cable of this kind.
     ///
-    /// In a valid kind, two letters are in alphabetical order, and a single letter has the first place.
+    /// In a valid kind, two letters are in alphabetical order, and a single letter is at the first end.
     pub ends: (Option<Letter>, Option<Letter>),
     /// The number of cables of this kind; in a valid kind, at least 1.
     pub count: u8,
@@ -81,11 +81,11 @@ pub trait Kind: Copy + Default {
         ensures value { result.now ≡ format.word }
         ensures few { length result.now ≤ 5 };
 
-    /// Converts a `KindOf` to this type.
+    /// Makes a kind of this type from a key, a count and a price.
     fn of(kind: KindOf<Self::Key>) -> Self
         ensures { format.kind result ≡ kind };
 
-    /// Converts this kind to a `KindOf`.
+    /// The key, the count and the price of this kind.
     fn parts(&self) -> KindOf<Self::Key>
         ensures { result ≡ format.kind self.now };
 

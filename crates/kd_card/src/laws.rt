@@ -26,17 +26,18 @@ pub fn loose_things_are_counted()
 
 /// Prices that fit give a lower bound for the length of each list of settings that reaches the day.
 ///
-/// This bound is the sum of the prices plus the number of loose things.
+/// This bound is the sum of the prices plus the number of loose things. A thing is loose if it isn't as the day says.
+/// Cables and bars are never loose.
 #[tactic(auto, using(crate::proofs::Months::fitting_prices_bound_lists))]
 pub fn fitting_prices_bound_lists()
     ensures { FittingPricesBoundLists }
 {}
 
-/// Suppose that a list reaches the day, and the number of its unpriced settings is at most the number of loose things.
-/// Then each setting of the list is needed.
+/// If a list reaches the day and has few enough unpriced settings, each setting of the list is needed.
 ///
-/// A setting is priced if it changes a cable or a bar, and priced settings always count as needed. An unpriced setting
-/// is needed if it lowers the number of loose things by one.
+/// A setting is *unpriced* if it changes no cable and no bar. *Few enough* means at most as many as there are loose
+/// things. An unpriced setting is needed if it lowers the number of loose things by one. A priced setting always counts
+/// as needed.
 #[tactic(auto, using(crate::proofs::Months::as_few_are_needed))]
 pub fn as_few_are_needed()
     ensures { AsFewAreNeeded }

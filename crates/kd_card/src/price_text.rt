@@ -47,10 +47,10 @@ pub(crate) fn price_of_text(text: &[u8]) -> Option<i16>
     (price.unsigned_abs() <= 9999 && is_written_so).then_some(price)
 }
 
-/// Splits `text` into three pieces: the first word, the rest of the first line, and the next lines.
+/// Splits `text` into three pieces: the first word, the other words of the first line, and the next lines.
 ///
-/// The rest of the first line is `None` if this line has no space. If `text` is empty, the fault is `PriceMissing`. If
-/// the first line, which is line `line` of the card, has no LF, the fault is `BadLine`.
+/// The second piece is `None` if the first line has no space. The fault is `PriceMissing` if `text` is empty, and
+/// `BadLine(line)` if the first line has no LF.
 pub(crate) fn split_first_word(
     text: &[u8],
     line: usize,

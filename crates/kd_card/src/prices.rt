@@ -110,9 +110,11 @@ impl Prices {
 
     /// Makes prices by kind: one for each kind of cables, and one for each kind of columns.
     ///
-    /// `None` if `cables` or `pairs` aren't strictly ascending, or the counts of one list don't add up to 13. Also
-    /// `None` if a kind has letters that are equal or out of order, or a letter only at the second end. Also `None` if
-    /// a kind has the count 0, or a price below -9999 or above 9999.
+    /// Returns `None` in these cases:
+    ///
+    /// - `cables` or `pairs` aren't strictly ascending, or the counts of one list don't add up to 13.
+    /// - A kind has two letters that are equal or out of order, or a letter only at the second end.
+    /// - A kind has the count 0, or a price below -9999 or above 9999.
     pub fn cable_kinds(cables: &[CableKind], pairs: &[PairKind]) -> Option<Self>
         ensures { let parts =
             PriceParts.CableKinds (record { items = cables.now }) (record { items = pairs.now }) in
@@ -124,8 +126,10 @@ impl Prices {
 
     /// Makes prices by kind: one for each kind of bars, and one for each kind of the sheet's rows.
     ///
-    /// `None` if `bars` or `rows` aren't strictly ascending, or the counts of one list don't add up to 27. Also `None`
-    /// if a kind has the count 0, or a price below -9999 or above 9999.
+    /// Returns `None` in these cases:
+    ///
+    /// - `bars` or `rows` aren't strictly ascending, or the counts of one list don't add up to 27.
+    /// - A kind has the count 0, or a price below -9999 or above 9999.
     pub fn bar_kinds(bars: &[BarKind], rows: &[RowKind]) -> Option<Self>
         ensures { let parts =
             PriceParts.BarKinds (record { items = bars.now }) (record { items = rows.now }) in
@@ -223,7 +227,7 @@ fn if_in_range<const N: usize>(prices: [i16; N]) -> Option<[i16; N]>
     are_in_range.then_some(prices)
 }
 
-/// The sum of `sum` and all of `prices`.
+/// Adds all of `prices` to `sum`.
 fn sum_onto(sum: i32, prices: &[i16]) -> i32
     requires in_range { ArePricesInRange prices.now }
     requires few { length prices.now ≤ 27 }

@@ -187,40 +187,40 @@ abbrev pub HasArguments : List Row → Task → Type 0
 HasArguments rows (tasks.Page days) = HasDays rows days
 HasArguments rows (tasks.List day) = HasDay rows day
 
--- The command name and the argument values in `said` ask for the task `task`.
+-- `said`, a command's name with its arguments, asks for the task `task`: for pages, or for a list.
 pub record IsTaskOf (said : List ℕ × List Row) (task : Task) : Type 0 where
   pub name : said.0 ≡ task_name task
   pub arguments : HasArguments said.1 task
 
--- The command name and the argument values in `said` ask for the task `its_task`, with the files `machine_file` and
+-- `said`, a command's name with its arguments, asks for the task `its_task`. The files are `machine_file` and
 -- `key_sheet`.
 pub record IsTaskWith (said : List ℕ × List Row) (machine_file key_sheet : List ℕ) (its_task : Task) : Type 0 where
   pub machine : first_of (codes "MACHINE") said.1 ≡ Some machine_file
   pub sheet : first_of (codes "SHEET") said.1 ≡ Some key_sheet
   pub task : IsTaskOf said its_task
 
--- The option `name` is used. On the command line, this option has no value; `clap` gives it the value `true`.
+-- The option `name`, which takes no value, is used. `clap` then gives it the value `true`.
 abbrev pub IsUsed : List ℕ → List Row → Type 0
 IsUsed name rows = first_of name rows ≡ Some (codes "true")
 
--- The arguments in `rows` ask for tables in one of two forms: with the option `--csv` as CSV, without the option as a
--- page.
+-- The arguments in `rows` ask for a CSV table if they have the option `--csv`, otherwise for a page.
 abbrev pub HasForm : List Row → TableForm → Type 0
 HasForm rows forms.Csv = IsUsed (codes "csv") rows
 HasForm rows forms.Page = ¬ (IsUsed (codes "csv") rows)
 
--- The arguments say whether the page shows the results. With the option `--blank`, the results are left open.
+-- The arguments in `rows` say whether the page shows the results. With the option `--blank`, the page has worksheets
+-- instead.
 abbrev pub HasResults : List Row → Results → Type 0
 HasResults rows LeftOpen = IsUsed (codes "blank") rows
 HasResults rows Shown = ¬ (IsUsed (codes "blank") rows)
 
--- The arguments in `rows` name this one message: an order to send, or a form to receive.
+-- The arguments in `rows` name exactly one message: an order to send, or a form to receive.
 abbrev pub HasMessage : List Row → Direction → List ℕ → Type 0
 HasMessage rows Send order = all_of (codes "ORDER") rows ≡ Some (order ∷ [])
 HasMessage rows Receive form = first_of (codes "FORM") rows ≡ Some form
 
--- The command's name and arguments in `said` mean the command `send` or `receive`, with the task `its_task` and the
--- files `machine_file`, `key_sheet` and `its_message`.
+-- `said`, a command's name with its arguments, is `send` with one order, or `receive` with a form. The task is
+-- `its_task`. The files are `machine_file`, `key_sheet` and `its_message`.
 pub record IsMessageOf (said : List ℕ × List Row) (machine_file key_sheet its_message : List ℕ) (its_task : MessageTask)
     : Type 0 where
   pub name : said.0 ≡ direction_name its_task.direction
@@ -230,14 +230,15 @@ pub record IsMessageOf (said : List ℕ × List Row) (machine_file key_sheet its
   pub day : HasDay said.1 its_task.day
   pub results : HasResults said.1 its_task.results
 
--- The arguments in `rows` ask for this task, for a message in this direction.
+-- The arguments in `rows` ask for `task`: they give its day, and say whether the page shows the results. The task's
+-- direction is `direction`.
 pub record IsMessageTask (rows : List Row) (direction : Direction) (task : MessageTask) : Type 0 where
   pub same : task.direction ≡ direction
   pub day : HasDay rows task.day
   pub results : HasResults rows task.results
 
--- The command's name and arguments in `said` mean the command `send` for 2 to 32 orders, with the files `machine_file`,
--- `key_sheet` and `its_orders`.
+-- `said`, a command's name with its arguments, is `send` with 2 to 32 orders. The task is `its_task`. The files are
+-- `machine_file`, `key_sheet` and `its_orders`.
 pub record IsOrdersOf (said : List ℕ × List Row) (machine_file key_sheet : List ℕ) (its_orders : List (List ℕ))
     (its_task : MessageTask) : Type 0 where
   pub name : said.0 ≡ codes "send"
@@ -248,12 +249,13 @@ pub record IsOrdersOf (said : List ℕ × List Row) (machine_file key_sheet : Li
   pub few : length its_orders ≤ 32
   pub task : IsMessageTask said.1 Send its_task
 
--- The command's name and arguments in `said` mean the command `type`, with `machine_file`.
+-- `said`, a command's name with its arguments, is `type` with the machine file `machine_file`.
 pub record IsTypingPageOf (said : List ℕ × List Row) (machine_file : List ℕ) : Type 0 where
   pub name : said.0 ≡ codes "type"
   pub machine : first_of (codes "MACHINE") said.1 ≡ Some machine_file
 
--- The command's name and arguments in `said` mean the command `table`, with `key_sheet` and `its_form`.
+-- `said`, a command's name with its arguments, is `table` with the key sheet `key_sheet`. The tables have the form
+-- `its_form`.
 pub record IsTableOf (said : List ℕ × List Row) (key_sheet : List ℕ) (its_form : TableForm) : Type 0 where
   pub name : said.0 ≡ codes "table"
   pub sheet : first_of (codes "SHEET") said.1 ≡ Some key_sheet
@@ -276,8 +278,8 @@ abbrev pub are_blank : OptionTexts → Bool
 are_blank options =
     (length options.model == 0) && (length options.reflector == 0) && (length options.window == 0)
 
--- The command's name and arguments in `said` mean the command `sheet` without `--empty`, with the table `its_table` and
--- the options `its_options`.
+-- `said`, a command's name with its arguments, is `sheet` without `--empty`. The table is `its_table`, and the options
+-- are `its_options`.
 pub record IsSheetOf (said : List ℕ × List Row) (its_table : List ℕ) (its_options : OptionTexts) : Type 0 where
   pub name : said.0 ≡ codes "sheet"
   pub filled : first_of (codes "empty") said.1 ≡ None
@@ -290,7 +292,7 @@ pub record IsMonthNamed (model_word days_word : List ℕ) (model : Model) (days 
   pub numbered : decimal days ≡ days_word
   pub within : IsDayNumber days
 
--- The command's name and arguments in `said` mean `sheet --empty`, for `model` and a month of `days` days. The options
+-- `said`, a command's name with its arguments, is `sheet --empty` for `model` and a month of `days` days. The options
 -- `--model`, `--reflector` and `--window` aren't used, or are empty.
 pub record IsEmptySheetOf (said : List ℕ × List Row) (model : Model) (days : ℕ) : Type 0 where
   pub name : said.0 ≡ codes "sheet"
@@ -305,13 +307,13 @@ pub record IsEmptySheetOf (said : List ℕ × List Row) (model : Model) (days : 
 abbrev pub files_said : List Row → List (List ℕ)
 files_said rows = filter_map (λ name. first_of name rows) (codes "FILE" ∷ codes "FILE2" ∷ codes "FILE3" ∷ [])
 
--- The command's name and arguments in `said` mean the command `look`, with these files. The argument FILE is given.
+-- `said`, a command's name with its arguments, is `look` with the files `its_files`. The argument FILE is given.
 pub record IsLookOf (said : List ℕ × List Row) (its_files : List (List ℕ)) : Type 0 where
   pub name : said.0 ≡ codes "look"
   pub first : IsSome (first_of (codes "FILE") said.1)
   pub files : its_files ≡ files_said said.1
 
--- The name and the arguments in `said` mean the command.
+-- `said`, a command's name with its arguments, means the command.
 abbrev pub IsCommandOf : List ℕ × List Row → NamedCommand → Type 0
 IsCommandOf said (commands.OnMachine machine sheet task) = IsTaskWith said machine sheet task
 IsCommandOf said (commands.Message machine sheet message task) = IsMessageOf said machine sheet message task
@@ -322,7 +324,7 @@ IsCommandOf said (commands.Sheet table options) = IsSheetOf said table options
 IsCommandOf said (commands.Look files) = IsLookOf said files.items
 IsCommandOf said (commands.EmptySheet model days) = IsEmptySheetOf said model days
 
--- `said` has the name of a command. This name and its arguments mean `command`.
+-- `said` isn't `None`: it has a command's name with its arguments, and they mean `command`.
 abbrev pub IsMeant : Option (List ℕ × List Row) → NamedCommand → Type 0
 IsMeant said command = IsSomeAnd said (λ x. IsCommandOf x command)
 
@@ -364,9 +366,9 @@ CommandLinesMeanOneCommand =
     (words : List (List ℕ)) (one other : NamedCommand) → IsCommandLineOf words one → IsCommandLineOf words other
     → one ≡ other
 
--- ---- What a command line is that is no command.
+-- ---- Command lines that mean no command.
 
--- whether an error of this kind shows help or the version
+-- whether `clap` gives an error of this kind to show help or the version
 abbrev pub is_help : ErrorKind → Bool
 is_help DisplayHelp = true
 is_help DisplayVersion = true
@@ -376,15 +378,17 @@ is_help _ = false
 abbrev pub AsksForHelp : List (List ℕ) → Type 0
 AsksForHelp words = (kind : ErrorKind) × (fault_of curator_grammar words ≡ kind ∷ []) × IsTrue (is_help kind)
 
--- Why there is no command. `Asked`: a word asks for help or for the version. `Usage`: the words don't mean a command.
--- `NoMemory`: memory ran out.
+-- Why there is no command:
+-- - `Asked`: a word asks for help or for the version.
+-- - `Usage`: the words neither mean a command nor only ask for help or for the version.
+-- - `NoMemory`: memory ran out.
 abbrev pub HasNoCommand : List (List ℕ) → NoCommand → Type 0
 HasNoCommand words (Asked text) =
     (kind : ErrorKind) × IsAmong kind (fault_of curator_grammar words) × IsTrue (is_help kind)
 HasNoCommand words (Usage text) = IsNoCommandLine words × ¬ (AsksForHelp words)
 HasNoCommand words NoMemory = Unit {0}
 
--- ---- What inner functions make of grammars and errors. No public contract cites these definitions.
+-- ---- Grammars and errors in the contracts of private functions. No public contract cites these definitions.
 
 -- the rule for an argument that has the name `name` and the given sort
 abbrev pub rule_of_sort : List ℕ → ArgumentSort → Rule
@@ -411,8 +415,10 @@ pub record IsMadeOf (grammar : Grammar) (shape : Shape) : Type 0 where
   pub made : app_of grammar ≡ record { top = shape; subs = [] }
   pub local : (out-Command grammar).has_globals ≡ false
 
--- For an error of the kind `kind` from `clap`, the program may give this `NoCommand` as the reason why there is no
--- command.
+-- What the program may return if `clap` gives an error of the kind `kind`:
+-- - `Asked`: for help and for the version.
+-- - `Usage`: for all other kinds except `OutOfMemory`.
+-- - `NoMemory`: for any kind.
 abbrev pub IsToldAs : ErrorKind → NoCommand → Type 0
 IsToldAs kind (Asked text) = IsTrue (is_help kind)
 IsToldAs kind (Usage text) = (is_help kind ≡ false) × (kind ≢ OutOfMemory)

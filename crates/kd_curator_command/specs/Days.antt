@@ -23,7 +23,7 @@ abbrev pub days_between : Option ℕ → Option ℕ → Option (List ℕ)
 days_between (Some first) (Some last) = if nat_le first last then Some (days_from first last) else None
 days_between _ _ = None
 
--- The days of a range. `3` is one day; `3-7` are all days from 3 to 7.
+-- The days of a range: `3` gives one day, and `3-7` gives all days from 3 to 7.
 unfoldable pub range_named : List ℕ → Option (List ℕ)
 range_named text =
     if nat_lt (position_or_len is_hyphen text) (length text)
@@ -38,7 +38,7 @@ abbrev pub ranges_named : List (List ℕ) → Option (List ℕ)
 ranges_named [] = Some []
 ranges_named (range ∷ ranges) = both (range_named range) (ranges_named ranges)
 
--- the days of a word, which is a list of ranges with commas between them
+-- the days of a word such as `1,4-6`, which is a list of ranges with commas between them
 unfoldable pub days_named : List ℕ → Option (List ℕ)
 days_named word = ranges_named (slice_split is_comma word)
 
@@ -53,8 +53,8 @@ pub record AreDays (word : List ℕ) (days : List ℕ) : Type 0 where
   pub few : length days ≤ 31
   pub once : has_twice days ≡ false
 
--- The list `new` has the days of `old`, then the added days `more`. The result is `None` if `more` is `None`, or if
--- `new` would have more than 31 days.
+-- The list `new` has the days of `old`, and then the days `more`. Adding fails (`None`) if `more` is `None`, or if
+-- there would be more than 31 days.
 abbrev pub AddsDays : Option (List ℕ) → List ℕ → List ℕ → Option (Unit {0}) → Type 0
 AddsDays more old new (Some done) = (option_map (λ days. old ++ days) more ≡ Some new) × (length new ≤ 31)
 AddsDays more old new None = IfSome more (λ days. 31 < length (old ++ days))

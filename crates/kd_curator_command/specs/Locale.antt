@@ -1,4 +1,4 @@
--- Languages: of a locale, and of the option `--in`.
+-- The language of the program's words: from a locale, or from the option `--in`.
 -- Test: tests/page-refusals
 use Rattle.std.specs.Prelude.{bytes_eq, codes, drop, find, ℕ, nat_eq, List, [], ◌∷◌, Option, None, Some, if◌then◌else◌}
 use Rattle.std.specs.Prelude.{option_and_then, slice_get, unwrap_or}
@@ -20,8 +20,8 @@ language_code German = codes "de"
 unfoldable pub language_with_code : List ℕ → Option Language
 language_with_code code = find (λ language. bytes_eq (language_code language) code) (English ∷ German ∷ [])
 
--- The value of the first option `--in` in `words`: the word after `--in`, or the rest of a word that begins with
--- `--in=`. After a word `--`, no word is an option. `None` if there is no such value.
+-- The value of the first option `--in` in `words`: both `--in de` and `--in=de` have the value `de`. After a word `--`,
+-- no word is an option. `None` if there is no value.
 abbrev pub language_value : List (List ℕ) → Option (List ℕ)
 language_value [] = None
 language_value (word ∷ words) =
@@ -30,8 +30,8 @@ language_value (word ∷ words) =
     else if starts_with nat_eq word (codes "--in=") then Some (drop 5 word)
     else language_value words
 
--- The language where no command is known: of help, of errors of the command line, and of a refusal. If the first option
--- `--in` in `words` has a language's code as its value, it is this language, otherwise `language`.
+-- The language of what is written before a command is known: help, errors or a refusal. If the first option `--in` in
+-- `words` has a language's code as its value, the result is this language. Otherwise, the result is `language`.
 unfoldable pub language_without_command : Language → List (List ℕ) → Language
 language_without_command language words =
     unwrap_or (option_and_then language_with_code (language_value words)) language

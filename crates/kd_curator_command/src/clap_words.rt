@@ -67,7 +67,7 @@ const SENTENCES: [Text; 15] = [
     ),
 ];
 
-/// The text `text` of `clap`, with its sentences in German.
+/// Translates the sentences of `text`, which `clap` wrote, into German.
 pub(crate) fn german_text(alloc: Global, text: &str) -> Result<String, AllocError> {
     let mut german = String::new(alloc);
     match text.strip_prefix("error: ") {
@@ -81,8 +81,8 @@ pub(crate) fn german_text(alloc: Global, text: &str) -> Result<String, AllocErro
     Ok(german)
 }
 
-/// Appends the sentence with which the error `message` begins, in German. The result is the rest of `message`. If
-/// `message` begins with no sentence of `clap`, appends nothing.
+/// Appends, in German, the sentence with which the error `message` begins. Returns the text after this sentence. If
+/// `message` begins with none of `ERRORS`, appends nothing, and returns `message`.
 fn push_error<'t>(german: &mut String, message: &'t str) -> Result<&'t str, AllocError> {
     for error in &ERRORS {
         if begins_as(message, *error) {
@@ -92,7 +92,7 @@ fn push_error<'t>(german: &mut String, message: &'t str) -> Result<&'t str, Allo
     Ok(message)
 }
 
-/// Whether `message` begins as the English half of `sentence` does, up to the first sign `~`.
+/// Whether `message` begins with the English text of `sentence`, up to the first sign `~`.
 fn begins_as(message: &str, sentence: Text) -> bool {
     match sentence.0.split_once('~') {
         Some((start, _)) => message.starts_with(start),
@@ -109,8 +109,9 @@ fn push_sentences(german: &mut String, text: &str) -> Result<(), AllocError> {
     german.push_str(rest)
 }
 
-/// Appends `text` up to the end of the English half of `sentence`, with the German half in its place. The result is the
-/// rest of `text`. If `text` doesn't have the sentence, appends nothing.
+/// Appends `text` up to the end of `sentence`, which stands in `text` in English, and translates the sentence into
+/// German. Returns the text after the sentence. If `text` lacks the sentence's beginning, appends nothing, and returns
+/// `text`.
 fn push_sentence<'t>(
     german: &mut String,
     text: &'t str,

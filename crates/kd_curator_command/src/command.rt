@@ -49,7 +49,7 @@ pub enum Command<T> {
         sheet: T,
         /// The order or the form.
         message: T,
-        /// The task: what to do with the message. It also has the message's day.
+        /// What to do with the message, and the day whose key is used.
         task: MessageTask,
     },
     /// Writes how to encipher several orders by hand, in one file.
@@ -60,7 +60,7 @@ pub enum Command<T> {
         sheet: T,
         /// The orders: at least two.
         orders: ArrayVec<T, 32>,
-        /// The direction `Send`, and the day.
+        /// The direction `Send`, the day, and whether the page shows the results.
         task: MessageTask,
     },
     /// Writes a page for typing on a machine.
@@ -113,7 +113,7 @@ pub struct MessageTask {
     pub direction: Direction,
     /// The number of the day whose key is used.
     pub day: u8,
-    /// Whether the page shows the results; with the option `--blank`, they are left open.
+    /// Whether the page shows the results. With the option `--blank`, the page has worksheets instead.
     pub results: Results,
 }
 
@@ -152,8 +152,9 @@ impl From<AllocError> for NoCommand {
     }
 }
 
-/// Parses the command line `words`, which begins with the program's own name. Help and errors are in the language that
-/// `language_without_command` gives; no clause says so.
+/// Parses the command line `words`, which begins with the program's own name.
+///
+/// Help and errors are in the language that `language_without_command` gives. The contract doesn't say so.
 pub fn parse_words<'a, S: AsStr>(
     alloc: Global,
     language: Language,
@@ -245,7 +246,7 @@ fn language_said(matches: &ArgMatches<'_>) -> Result<Option<Language>, WrongValu
     }
 }
 
-/// Why words don't mean a command, though `clap` accepts them. The answer is the text of an error.
+/// Says, as the text of an error, why words don't mean a command, though `clap` accepts them.
 fn why_not(matches: &ArgMatches<'_>) -> Text {
     if language_said(matches).is_err() {
         return NO_LANGUAGE;
@@ -427,7 +428,7 @@ fn message_task(words: &ArgMatches<'_>, direction: Direction) -> Option<MessageT
     })
 }
 
-/// Whether the page shows the results: with the option `--blank`, they are left open.
+/// Whether the page shows the results. With the option `--blank`, the page has worksheets instead.
 fn results_asked(words: &ArgMatches<'_>) -> Results
     ensures { HasResults (rows_of (found_of words.now)) result }
 {
@@ -517,8 +518,8 @@ fn push_file<'a>(files: &mut ArrayVec<&'a str, 3>, words: &ArgMatches<'a>, name:
     }
 }
 
-/// The command `sheet` with the arguments in `words`. `None` if `--empty` is used with a wrong
-/// model, a wrong number of days, or an option that fills blank cells.
+/// The command `sheet` with the arguments in `words`. `None` if `--empty` is used with a wrong model, a wrong number of
+/// days, or an option that fills blank cells.
 fn sheet_of<'a>(words: &ArgMatches<'a>) -> Option<NamedCommand<'a>>
     ensures said { IfSome result (λ command.
         IsCommandOf (codes "sheet", rows_of (found_of words.now)) (unborrowed_command command)) }

@@ -89,7 +89,7 @@ fn has_twice(days: &[u8]) -> bool
     }
 }
 
-/// Adds the days of `text`, which is a list of ranges with commas between them.
+/// Adds the days of a text such as `1,4-6`, which is a list of ranges with commas between them.
 fn add_ranges(days: &mut Days, text: &str) -> Option<()>
     ensures { AddsDays (days_named text.now) days.old days.new result }
 {
@@ -102,7 +102,7 @@ fn add_ranges(days: &mut Days, text: &str) -> Option<()>
     }
 }
 
-/// Adds the days of a range. `3` is one day; `3-7` are all days from 3 to 7.
+/// Adds the days of a range: `3` gives one day, and `3-7` gives all days from 3 to 7.
 #[tactic(auto, using(std::proofs::lemmas::Str::Pattern::split_once_first), unfolding(crate::specs::Days::range_named))]
 fn add_range(days: &mut Days, text: &str) -> Option<()>
     ensures { AddsDays (range_named text.now) days.old days.new result }

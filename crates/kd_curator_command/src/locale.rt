@@ -1,4 +1,4 @@
-//! The language of the program's words: the language that is set on a computer, and the language that words ask for.
+//! The language of the program's words: as it is set on a computer, or as the option `--in` asks.
 ghost use Rattle.std.specs.Prelude.{◌≡◌, None, Some, codes, drop, if◌then◌else◌, map, nat_eq, option_map};
 ghost use Rattle.std.specs.List.{starts_with};
 ghost use Rattle.kd_curator_command.specs.Locale.{language_of, language_value, language_with_code};
@@ -32,10 +32,10 @@ pub fn language_of_code(code: &str) -> Option<Language>
     }
 }
 
-/// The language where no command is known: of help, of errors of the command line, and of a refusal. If the first
-/// option `--in` in `words` has a language's code as its value, it is this language, otherwise `language`.
+/// The language of what is written before a command is known: help, errors or a refusal.
 ///
-/// Words that mean no command may use `--in` too, so `clap` isn't asked.
+/// If the first option `--in` in `words` has a language's code as its value, the result is this language. Otherwise,
+/// the result is `language`. Words that mean no command may use `--in` too, so `clap` isn't asked.
 #[tactic(auto, unfolding(crate::specs::Locale::language_without_command))]
 pub fn language_without_command<S: AsStr>(language: Language, words: &[S]) -> Language
     ensures { result ≡ language_without_command language (map S.text words.now) }

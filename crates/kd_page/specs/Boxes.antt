@@ -1,5 +1,5 @@
--- The checkboxes of a day's page. Each checkbox has the words for one setting and, except for pins, the setting's line.
--- Spare wheels and reflectors are in the machine's box.
+-- The checkboxes of a day's page. Except for pins, the checkbox of a setting has the setting's line. A wheel is called
+-- spare if it is in the machine's box.
 use Rattle.std.specs.Prelude.{decimal, ℕ, ◌-◌, ◌==◌, Bool, if◌then◌else◌, List, [], ◌∷◌, ◌++◌, flat_map}
 use Rattle.std.specs.Prelude.{Option, Some, None}
 use Rattle.kd_tables.specs.declared.lug.Lug.{Lug}
@@ -47,7 +47,7 @@ abbrev pub box_ring_text : Language → Option ℕ → List ℕ
 box_ring_text l None = []
 box_ring_text l (Some ring) = filled (text_in l BOX_RING) (letter_text ring ∷ ordinal_text ring ∷ [])
 
--- the checkbox to put a spare wheel into a slot, with the letter on which its ring has to stand
+-- the checkbox to put a spare wheel into a slot, with the letter on which the wheel's ring has to stand
 abbrev pub from_box_text : Page → Setting → ℕ → Wheel → List ℕ
 from_box_text page x slot wheel =
     filled (text_in page.language SEAT) (
@@ -66,14 +66,13 @@ abbrev pub lug_word : Lug → Word
 lug_word lugs.Left = LeftLug
 lug_word lugs.Right = RightLug
 
--- The words for the place that a lug has before the settings are carried out. Empty if the machine doesn't have the
--- lug's bar.
+-- The words for a lug's place before the settings. Empty if the machine doesn't have the lug's bar.
 abbrev pub lug_from_text : Language → Lug → Option (Place × Place) → List ℕ
 lug_from_text l lug None = []
 lug_from_text l lugs.Left (Some bar) = filled (text_in l LUG_FROM) (place_text bar.0 ∷ [])
 lug_from_text l lugs.Right (Some bar) = filled (text_in l LUG_FROM) (place_text bar.1 ∷ [])
 
--- the checkbox to move a lug to a place of its bar, with the place that the lug has before the settings are carried out
+-- the checkbox to move a lug to a place of its bar, with the lug's place before the settings
 abbrev pub lug_text : Language → Setting → Lug → Option (Place × Place) → Place → List ℕ
 lug_text l x lug bar place =
     filled LUG.now (word_text l (lug_word lug) ∷ []) ++ lug_from_text l lug bar
@@ -87,7 +86,8 @@ pin_mark effective = if effective then Effective else Ineffective
 abbrev pub pin_word : Bool → Word
 pin_word effective = if effective then On else Off
 
--- the checkbox of a setting on a page
+-- The checkbox of a setting on a page. For the setting TURN, only the setting's line, which stands within the checkbox
+-- of a window or of a pin wheel's letter.
 abbrev pub box_text : Page → Setting → List ℕ
 box_text page (settings.Pull cable letter) =
     filled PLUG.now (letter_text letter ∷ setting_line (settings.Pull cable letter) ∷ [])
@@ -108,6 +108,6 @@ box_text page (settings.LugTo bar lug place) =
 abbrev pub box_at : Page → Spot → Setting → List ℕ
 box_at page spot x = if is_at spot x then box_text page x else []
 
--- the checkboxes at a spot of the page, in the order of the page's settings
+-- the checkboxes at one spot of the page (a step, a row or a cell), in the order of the page's settings
 abbrev pub boxes_at : Page → Spot → List ℕ
 boxes_at page spot = flat_map (box_at page spot) page.settings

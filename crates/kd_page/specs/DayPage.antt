@@ -37,8 +37,8 @@ rotor_text page =
     wheels_text page ++ rings_in_box page (text_in page.language texts.BOX_BEFORE) page.before
     ++ rings_step page ++ seats_step page ++ out_step page ++ in_step page ++ windows_step page
 
--- The words that say what to compare on a Converter before the first step. They have two marks: the mark of a lug that
--- stays, and the mark of a lug that leaves.
+-- The words that say what to compare on a Converter before the first step. The words have two marks: the mark of a lug
+-- that stays, and the mark of a lug that leaves.
 unfoldable pub compare_pins : Language → List ℕ
 compare_pins l = filled (text_in l texts.COMPARE_PIN) (mark_text LugStays ∷ mark_text LugLeaves ∷ [])
 

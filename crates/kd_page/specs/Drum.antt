@@ -25,8 +25,8 @@ use Rattle.kd_pictures.specs.Words.{mark_text}
 abbrev pub has_lug : Place × Place → Place → Bool
 has_lug bar place = is_same_place bar.0 place || is_same_place bar.1 place
 
--- The mark of a place of a bar. The first argument says whether the place has a lug before the settings. The second
--- argument says whether the place has a lug after the settings.
+-- The mark of a place on a bar: a lug stays there, leaves, or comes. No mark if the place has no lug. The arguments say
+-- whether the place has a lug before the settings, and whether it has one after them.
 abbrev pub cell_mark : Bool → Bool → Option Mark
 cell_mark true true = Some LugStays
 cell_mark true false = Some LugLeaves
@@ -48,7 +48,7 @@ abbrev pub bar_head : ℕ → Place × Place → Place × Place → List ℕ
 bar_head bar was is =
     filled (if is_same_standing was is then texts.BAR.now else texts.SET_BAR.now) (decimal bar ∷ [])
 
--- The empty cells at the end of a bar's row with `count` checkboxes. Each row has two cells for checkboxes.
+-- The end of a bar's row after `count` checkboxes: empty cells, so that each row has two cells for checkboxes.
 abbrev pub bar_end : ℕ → List ℕ
 bar_end count = if count == 0 then texts.NO_BOXES.now else if count == 1 then texts.ONE_BOX.now else texts.BOXES.now
 

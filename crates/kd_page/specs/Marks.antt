@@ -12,7 +12,7 @@ use Rattle.kd_state.specs.Setting.{Leads}
 use Rattle.kd_pictures.specs.Board.{has_plug}
 use Rattle.kd_pictures.specs.Wheels.{is_seated}
 
--- ---- Whether a setting is the setting of a thing.
+-- ---- Whether a setting sets a thing.
 
 abbrev pub sets_ring : Wheel → Setting → Bool
 sets_ring wheel (settings.RingTo other letter) = same_wheel wheel other

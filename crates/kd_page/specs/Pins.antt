@@ -25,8 +25,8 @@ use Rattle.kd_pictures.specs.Words.{mark_text}
 abbrev pub pin_spot : ℕ → ℕ → Spot
 pin_spot wheel letter = record { step = Pins; row = Some wheel; cell = Some letter }
 
--- whether the settings leave a pin unchanged; `effective` says whether the pin is effective after the settings, and
--- `was` whether the pin was effective before the settings
+-- Whether a pin is the same before and after the settings. `was` says whether it is effective before them, and
+-- `effective` whether it is effective after them.
 abbrev pub is_same_pin : Bool → Option Bool → Bool
 is_same_pin effective was = option_map_or (λ old. if old then effective else not effective) was false
 
@@ -57,8 +57,7 @@ abbrev pub pin_cells : Page → ℕ → List ℕ → List ℕ
 pin_cells page wheel letters =
     flat_map (λ letter. pin_cell page wheel letter (machine_pin page.after wheel letter)) letters
 
--- the first words of the lines that set the pins of `wheel`, such as `PIN 3`; empty if `count`, the number of pins to
--- set, is 0
+-- the first words of the lines that set the pins of `wheel`, such as `PIN 3`; empty if there are no pins to set
 abbrev pub pin_lines : ℕ → ℕ → List ℕ
 pin_lines wheel count = if count == 0 then [] else filled texts.PIN_LINES.now (decimal wheel ∷ [])
 

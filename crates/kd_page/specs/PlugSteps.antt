@@ -19,13 +19,13 @@ abbrev pub moving_row : Page → Step → ℕ → List ℕ
 moving_row page step number =
     filled texts.PLUG_ROW.now (decimal number ∷ []) ++ boxes_at page (row_spot step number) ++ texts.ROW_END.now
 
--- the row of a cable; empty if no plug of the cable moves
+-- the row of a cable; empty if no plug of the cable moves in `step`
 abbrev pub plug_row : Page → Step → ℕ → List ℕ
 plug_row page step number =
     if count_at (row_spot step number) page.settings == 0 then [] else moving_row page step number
 
--- The table of the plugs to move in `step`. The text `head` stands before the first row: the meaning of the marks, and
--- the head of the table.
+-- The table of the plugs to move in `step`. First comes `head`: the meaning of the marks, and the table's head. Then
+-- comes a row for each cable with a plug to move.
 unfoldable pub plug_table : Page → List ℕ → Step → List ℕ
 plug_table page head step = head ++ flat_map (plug_row page step) CABLES ++ texts.PLUGS_END.now
 
@@ -34,7 +34,7 @@ plugs_out page count =
     step_text page words.PlugsOut count ++ board_text page.language Out page.before page.after
     ++ plug_table page (text_in page.language texts.PLUGS_OUT) PlugsOut ++ texts.BOARD_STEP_END.now
 
--- the step in which plugs are taken out; only its title if there are no plugs to take out
+-- the step in which plugs are taken out; only its head if there are no plugs to take out
 abbrev pub out_step : Page → List ℕ
 out_step page =
     let count = count_at (step_spot PlugsOut) page.settings in
@@ -51,7 +51,7 @@ plugs_in page count =
     step_text page words.PlugsIn count ++ board_text page.language In page.after page.before ++ in_table page count
     ++ texts.BOARD_STEP_END.now
 
--- the step in which plugs are put in; only its title if no cable is plugged after the settings
+-- the step in which plugs are put in; only its head if no cable has a plug after the settings
 abbrev pub in_step : Page → List ℕ
 in_step page =
     if has_cables page.after CABLES then plugs_in page (count_at (step_spot PlugsIn) page.settings)

@@ -28,8 +28,8 @@ step_of (settings.PinTo wheel letter effective) = Pins
 step_of (settings.LugTo bar lug place) = Lugs
 step_of (settings.Turn slot letter) = Turns
 
--- The row of a setting in the table of the setting's step: the number of the cable, pin wheel, bar or slot. It is 0 if
--- the step has no table.
+-- The row of a setting in the table of the setting's step: the number of the cable, pin wheel, bar or slot. The row is
+-- 0 if the step has no table.
 abbrev pub row_of : Setting → ℕ
 row_of (settings.RingTo wheel letter) = 0
 row_of (settings.Seat slot wheel) = 0

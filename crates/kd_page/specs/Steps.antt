@@ -33,8 +33,8 @@ idle_text l title = filled IDLE_STEP.now (word_text l title ∷ count_text l 0 �
 unfoldable pub plain_step_text : Page → Word → List ℕ
 plain_step_text page title = filled PLAIN_STEP.now (word_text page.language title ∷ []) ++ titled_text page
 
--- The head of a step that may have more checkboxes than settings. The head gives `count`, the number of settings, if
--- this number isn't 0.
+-- The head of the step of windows or letters, which may have more checkboxes than settings. The head gives `count`, the
+-- number of settings, if this number isn't 0.
 abbrev pub full_step_text : Page → Word → ℕ → List ℕ
 full_step_text page title count = if count == 0 then plain_step_text page title else step_text page title count
 

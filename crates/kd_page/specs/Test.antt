@@ -31,13 +31,13 @@ test_keys m = if is_converter (model_of m) then replicate 26 0 else alphabet
 abbrev pub test_end : Language → Model → List ℕ
 test_end l model = if is_converter model then text_in l texts.TEST_END_PIN else text_in l texts.TEST_END_ROTOR
 
--- the keys in groups of five, and below each key the letter that lights up or is printed
+-- the keys in groups of five, below each key the letter that lights up or is printed, and then the words of `test_end`
 unfoldable pub test_text : Language → Parts → List ℕ
 test_text l m =
     fives_from 0 (test_keys m) ++ texts.TEST_LAMPS.now ++ fives_from 0 (physical_cipher m (test_keys m))
     ++ test_end l (model_of m)
 
--- a letter to set again; on a rotor machine, the letter's number stands beside it
+-- a letter to set again after the test; if `has_number` is true, the letter's number stands beside it
 abbrev pub again_text : Bool → ℕ → List ℕ
 again_text has_number letter =
     if has_number then filled texts.AGAIN_ROTOR.now (letter_text letter ∷ ordinal_text letter ∷ [])

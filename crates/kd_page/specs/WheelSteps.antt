@@ -1,5 +1,5 @@
--- The step of the rings, and the step of the wheels and the reflector. These steps say which parts come from the box,
--- and which parts go into the box. The steps have the checkbox of each setting.
+-- The step of the rings, and the step of the wheels and the reflector. Both steps have a checkbox for each of their
+-- settings, and say which parts come from the box or go into the box.
 use Rattle.std.specs.Prelude.{ℕ, ◌||◌, ◌==◌, Bool, false, if◌then◌else◌, List, [], ◌∷◌, ◌++◌, flat_map}
 use Rattle.std.specs.Prelude.{Option, Some, None, is_some, option_and_then, option_map}
 use Rattle.std.specs.Option.{option_map_or}
@@ -22,7 +22,7 @@ use Rattle.kd_page.specs.Page.{Page}
 use Rattle.kd_page.specs.Spots.{count_at, step_spot}
 use Rattle.kd_page.specs.Steps.{idle_text, list_text, step_text}
 
--- `wheel`; `None` if the second argument is a slot that holds this wheel
+-- `wheel` if no slot holds it, otherwise `None`; the second argument is the slot that holds it, or `None`
 abbrev pub unless_held : Wheel → Option ℕ → Option Wheel
 unless_held wheel None = Some wheel
 unless_held wheel (Some slot) = None
@@ -40,7 +40,7 @@ has_lone_wheel m n (slot ∷ slots) = is_some (lone_wheel m n slot) || has_lone_
 
 -- ---- The wheels that come from the box.
 
--- the wheel that comes from the box into slot `slot`, with the letter of the wheel's ring on machine `m`
+-- the wheel that comes from the box into slot `slot`, if one does, with the letter of the wheel's ring on machine `m`
 abbrev pub wheel_from_box : Page → Parts → ℕ → Option (Wheel × ℕ)
 wheel_from_box page m slot =
     option_and_then (λ wheel. option_map (λ ring. (wheel, ring)) (machine_ring m wheel))

@@ -1,5 +1,4 @@
-//! The checkboxes of a day's page. Each checkbox has the words for one setting and, except for pins, the setting's
-//! line.
+//! The checkboxes of a day's page. Except for pins, the checkbox of a setting has the setting's line.
 ghost use Rattle.std.specs.Prelude.{◌≡◌, flat_map};
 ghost use Rattle.kd_state.specs.declared.setting.Setting.TheVariants.{LugTo, Seat};
 ghost use Rattle.kd_state.specs.Machine.{machine_standing};
@@ -49,7 +48,7 @@ pub(crate) fn pin_mark(effective: bool) -> Mark
     }
 }
 
-/// Writes the checkbox of each setting of `settings` whose checkbox is at `spot`.
+/// Writes the checkboxes that `settings` have at `spot`.
 fn draw_boxes_of<W: Sink>(sink: &mut W, page: &Page<'_>, spot: &Spot, settings: &[Setting])
     ensures { Draws W.taken W.has_failed sink.old sink.new
         (flat_map (box_at page.now spot.now) settings.now) }
@@ -194,8 +193,7 @@ fn pin_word(effective: bool) -> Word
     if effective { Word::On } else { Word::Off }
 }
 
-/// Writes the checkbox to move a lug to a place of its bar. The checkbox also has the place that the lug has before the
-/// settings are carried out.
+/// Writes the checkbox to move a lug to a place of its bar. The checkbox also has the lug's place before the settings.
 fn draw_lug<W: Sink>(sink: &mut W, page: &Page<'_>, bar: u8, lug: Lug, place: Place)
     ensures { Draws W.taken W.has_failed sink.old sink.new
         (lug_text page.now.language (LugTo bar lug place) lug
@@ -217,8 +215,8 @@ fn lug_word(lug: Lug) -> Word
     }
 }
 
-/// Writes the place that `lug` has before the settings are carried out. Writes nothing if `bar` is `None`, because the
-/// machine doesn't have the lug's bar.
+/// Writes the place of `lug` before the settings. Writes nothing if `bar` is `None`, because the machine doesn't have
+/// the lug's bar.
 fn draw_lug_from<W: Sink>(sink: &mut W, language: Language, lug: Lug, bar: Option<Standing>)
     ensures { Draws W.taken W.has_failed sink.old sink.new (lug_from_text language lug bar) }
 {

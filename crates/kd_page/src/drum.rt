@@ -107,7 +107,7 @@ fn is_same_place(one: Place, other: Place) -> bool
     one == other
 }
 
-/// The empty cells at the end of a bar's row that has `count` checkboxes. Each row has two cells for checkboxes.
+/// The end of a bar's row after `count` checkboxes: empty cells, so that each row has two cells for checkboxes.
 fn bar_end(count: u8) -> &'static str
     ensures { result.now ≡ bar_end count }
 {

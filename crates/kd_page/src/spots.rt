@@ -54,7 +54,7 @@ impl Step {
     }
 }
 
-/// Where checkboxes stand on a page: at a step, in a row of the step's table, or in a cell of the row.
+/// Where checkboxes stand on a page: in a step, in a row of the step's table, or in a cell of the row.
 #[derive(Clone, Copy)]
 pub struct Spot {
     pub step: Step,

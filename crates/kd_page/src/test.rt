@@ -1,4 +1,5 @@
-//! The test of the real machine. For given keys, it says which lamps light up, or which letters are printed.
+//! The test of the real machine. For the keys to press, the test says which lamps light up, or which letters are
+//! printed.
 ghost use Rattle.std.specs.Prelude.{◌≡◌, ◌++◌, flat_map, length};
 ghost use Rattle.kd_state.specs.Machine.{model_of};
 ghost use Rattle.kd_state.specs.TwoCiphers.{IsReady, physical_cipher};
@@ -58,7 +59,7 @@ fn draw_test_words<W: Sink>(sink: &mut W, language: Language, model: Model)
     }
 }
 
-/// Writes the keys, and the letters that light up or are printed for them.
+/// Writes the keys, the letters that light up or are printed for them, and the words of `draw_test_end`.
 fn draw_test<W: Sink>(sink: &mut W, language: Language, machine: &Machine)
     requires { IsReady machine.now }
     ensures { Draws W.taken W.has_failed sink.old sink.new (test_text language machine.now) }
@@ -159,7 +160,8 @@ fn draw_again_at<W: Sink>(
     }
 }
 
-/// Writes `letter`, one of the letters to set again. On a rotor machine, the letter's number stands beside it.
+/// Writes `letter`, one of the letters to set again after the test. If `has_number` is true, the letter's number stands
+/// beside it.
 fn draw_again<W: Sink>(sink: &mut W, language: Language, has_number: bool, letter: Letter)
     ensures { Draws W.taken W.has_failed sink.old sink.new (again_text has_number letter) }
 {

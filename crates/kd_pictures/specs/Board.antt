@@ -28,11 +28,11 @@ use Rattle.kd_pictures.specs.Words.{class_text, word_text}
 abbrev pub cable_of : Parts → ℕ → Option ℕ × Option ℕ
 cable_of m number = unwrap_or (machine_cable m number) (None, None)
 
--- whether the cable has a plug at the letter
+-- whether cable `number` of machine `m` has a plug at `letter`
 abbrev pub has_plug : Parts → ℕ → ℕ → Bool
 has_plug m number letter = has_letter (cable_letters (cable_of m number)) letter
 
--- whether a cable's end has a plug that moves: on machine `n`, cable `number` has no plug at the end's letter
+-- whether the plug at a cable's end moves: the end has a letter, and cable `number` of machine `n` has no plug there
 abbrev pub end_moves : Parts → ℕ → Option ℕ → Bool
 end_moves n number end = option_map_or (λ letter. not (has_plug n number letter)) end false
 
@@ -44,16 +44,16 @@ cable_words number (Some one, Some other) =
 cable_words number (Some one, None) = filled texts.LOOSE_WORDS.now (decimal number ∷ letter_text one ∷ [])
 cable_words number (None, other) = []
 
--- whether the cable has a plug
+-- whether cable `number` of machine `m` has a plug
 abbrev pub is_plugged : Parts → ℕ → Bool
 is_plugged m number = is_some (cable_of m number).0
 
--- a separator, then the words for a plugged cable
+-- `separator`, and then the words for a cable that has a plug
 abbrev pub cable_after : List ℕ → Parts → ℕ → List ℕ
 cable_after separator m number = separator ++ cable_words number (cable_of m number)
 
--- The words for the plugged cables in the list. `separator` stands before the first cable, and a comma before each
--- later cable.
+-- The words for those cables in the list that have a plug. `separator` stands before the first of them, and a comma
+-- before each later one.
 abbrev pub cables_after : List ℕ → Parts → List ℕ → List ℕ
 cables_after separator m [] = []
 cables_after separator m (number ∷ numbers) =
@@ -68,31 +68,32 @@ all_cables l m = if has_cables m CABLES then cables_after [] m CABLES else text_
 
 -- ---- The lines of the cables.
 
--- the height at which cable `number` runs, measured from the top
+-- the lane of cable `number`: the height, measured from the top, at which the cable's line runs level
 abbrev pub lane : ℕ → ℕ
 lane number = 139 + 9 * number
 
--- the height at which a cable's line begins to bend, between a socket at height `y` and the lane at height `lane`
+-- the height at which a cable's line begins to bend on its way from a socket at height `y` to the lane at height `lane`
 abbrev pub bend : ℕ → ℕ → ℕ
 bend y lane = if nat_lt y lane then lane - 5 else lane + 5
 
--- the piece of a cable's line that leads from a socket into the cable's lane
+-- the first piece of a cable's line: from a socket into the cable's lane, where the line runs level
 abbrev pub left_half : Class → ℕ → ℕ → List ℕ
 left_half class lane letter = filled texts.LEFT_HALF.now (
     class_text class ∷ decimal (line_x letter) ∷ decimal (socket_y letter) ∷ decimal (bend (socket_y letter) lane)
     ∷ decimal (line_x letter) ∷ decimal lane ∷ decimal (line_x letter + 5) ∷ decimal lane ∷ [])
 
--- the piece of a cable's line that leads along the cable's lane to a socket
+-- the last piece of a cable's line: along the cable's lane, where the line runs level, and to a socket
 abbrev pub right_half : ℕ → ℕ → List ℕ
 right_half lane letter = filled texts.RIGHT_HALF.now (
     decimal (line_x letter - 5) ∷ decimal (line_x letter) ∷ decimal lane
     ∷ decimal (line_x letter) ∷ decimal (bend (socket_y letter) lane) ∷ decimal (socket_y letter) ∷ [])
 
--- the piece of a cable's line that leads along the cable's lane to an open end
+-- the last piece of the line of a cable with one plug: along the cable's lane to an open end
 abbrev pub open_end : ℕ → List ℕ
 open_end letter = filled texts.OPEN_END.now (decimal (line_x letter + 20) ∷ [])
 
--- the line of a cable between two sockets: down to its lane, along the lane, and up
+-- the line of a cable between two sockets: from the left socket to the cable's lane, along the lane, to the right
+-- socket
 abbrev pub line_between : Class → ℕ → ℕ → ℕ → List ℕ
 line_between class lane left right = left_half class lane left ++ right_half lane right
 
@@ -110,8 +111,8 @@ abbrev pub moving_class : Plugs → Class
 moving_class Out = classes.Out
 moving_class In = classes.In
 
--- the class of the line of cable `number`, plugged at the letters `cable`; the line is thick if
--- machine `n` lacks one of these plugs
+-- The CSS class of the line of cable `number`, whose plugs are at the letters `cable`. The line is thick if machine `n`
+-- lacks one of these plugs.
 abbrev pub line_class : Plugs → Parts → ℕ → Option ℕ × Option ℕ → Class
 line_class plugs n number cable =
     if end_moves n number cable.0 || end_moves n number cable.1 then moving_class plugs else classes.Plain
@@ -122,7 +123,7 @@ line_text plugs m n number =
 
 -- ---- The sockets.
 
--- the number of the cable with a plug at the letter; `None` if no cable has one
+-- the number of the cable with a plug at `letter`; `None` if no cable has a plug there
 abbrev pub cable_holding : Parts → ℕ → List ℕ → Option ℕ
 cable_holding m letter [] = None
 cable_holding m letter (number ∷ numbers) =

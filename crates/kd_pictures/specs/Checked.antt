@@ -17,7 +17,7 @@ HasGaps template number = count_by is_gap template ≡ number
 abbrev pub Takes : record { now : List ℕ } × record { now : List ℕ } → ℕ → Type 0
 Takes text number = HasGaps (text_in English text) number × HasGaps (text_in German text) number
 
--- all templates, each with the number of values that pages fill into it
+-- Each template has as many signs `~` as pages fill values into it.
 abbrev pub TemplatesTakeTheirValues : Type 0
 TemplatesTakeTheirValues =
     HasGaps texts.HEAD.now 1 × Takes texts.TITLE_DAY 2 × Takes texts.TITLE_DAYS 3 × Takes texts.NAV_DAY 3
@@ -43,8 +43,8 @@ TemplatesTakeTheirValues =
 abbrev pub Reads : Word → List ℕ → List ℕ → Type 0
 Reads word english german = (word_text English word ≡ english) × (word_text German word ≡ german)
 
--- In both languages, these words are right: which way to set a pin, which lug to move, which slot to fill, and which
--- machine a picture shows.
+-- In both languages, the words that tell an operator what to do are right. Examples are `ON` for a pin, `left lug` for
+-- a lug, and `middle` for a slot.
 abbrev pub WordsTellWhatToDo : Type 0
 WordsTellWhatToDo =
     Reads words.On (codes "ON") (codes "EIN") × Reads words.Off (codes "OFF") (codes "AUS")

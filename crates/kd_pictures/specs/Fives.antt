@@ -5,7 +5,8 @@ use Rattle.kd_pictures.specs.Template.{letter_text}
 abbrev pub gap_text : Bool → List ℕ
 gap_text ends_group = if ends_group then codes " " else []
 
--- the letters in groups of five; `place` letters stand before them in the same row
+-- the letters, with a space after every fifth letter of their row; `place` letters stand before these letters in the
+-- row
 abbrev pub fives_from : ℕ → List ℕ → List ℕ
 fives_from place [] = []
 fives_from place (letter ∷ letters) =

@@ -3,7 +3,7 @@ use Rattle.std.specs.Prelude.{Bool, true, false}
 use Rattle.kd_pictures.specs.declared.results.Results.{Results}
 use Rattle.kd_pictures.specs.declared.results.Results.TheVariants.{LeftOpen, Shown}
 
--- whether the results are left open
+-- whether the page leaves the results open, that is, has worksheets
 abbrev pub are_open : Results → Bool
 are_open Shown = false
 are_open LeftOpen = true

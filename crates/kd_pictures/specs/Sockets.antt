@@ -29,15 +29,15 @@ socket_place letter =
     position_or_len (nat_eq letter)
     (if has_letter upper_row letter then upper_row else if has_letter middle_row letter then middle_row else lower_row)
 
--- how far a letter's socket is from the left
+-- how far a letter's socket is from the picture's left edge
 abbrev pub socket_x : ℕ → ℕ
 socket_x letter = (if socket_row letter == 1 then 70 else 40) + 60 * socket_place letter
 
--- how far a letter's socket is from the top
+-- how far a letter's socket is from the picture's upper edge
 abbrev pub socket_y : ℕ → ℕ
 socket_y letter = if socket_row letter == 0 then 46 else if socket_row letter == 1 then 116 else 286
 
--- how far the name of a letter's socket is from the top
+-- how far the name of a letter's socket is from the picture's upper edge
 abbrev pub label_y : ℕ → ℕ
 label_y letter = if socket_row letter == 0 then 24 else if socket_row letter == 1 then 94 else 323
 

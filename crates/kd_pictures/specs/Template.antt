@@ -18,7 +18,7 @@ letter_text letter = letters_text (letter ∷ [])
 abbrev pub ordinal_text : ℕ → List ℕ
 ordinal_text letter = (if nat_lt (letter + 1) 10 then codes "0" else []) ++ decimal (letter + 1)
 
--- the words that give the number of settings
+-- the number of settings in words, such as `nothing to change` or `3 settings`
 abbrev pub count_text : Language → ℕ → List ℕ
 count_text l number =
     if number == 0 then text_in l NO_SETTINGS else if number == 1 then text_in l ONE_SETTING

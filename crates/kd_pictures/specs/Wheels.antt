@@ -30,7 +30,7 @@ abbrev pub reflector_words : Language → Option Reflector → List ℕ
 reflector_words l None = []
 reflector_words l (Some reflector) = filled (text_in l texts.REFLECTOR_WORDS) (reflector_text reflector ∷ [])
 
--- the template, filled with the letter; empty if there is no letter
+-- `template`, filled with the letter; empty if there is no letter
 abbrev pub letter_words : List ℕ → Option ℕ → List ℕ
 letter_words template None = []
 letter_words template (Some letter) = filled template (letter_text letter ∷ [])
@@ -78,7 +78,8 @@ wheel_shown l x y slot is_old wheel =
 abbrev pub is_same_letter : ℕ → Option ℕ → Bool
 is_same_letter letter other = option_map_or (nat_eq letter) other false
 
--- the letter of a ring, framed as new unless it equals `other`, the letter of this ring on the other machine
+-- A ring's letter, if there is one. The letter is framed as new, unless `other` is the same letter. On the other
+-- machine, the same wheel's ring has the letter `other`.
 abbrev pub ring_shown : ℕ → ℕ → Option ℕ → Option ℕ → List ℕ
 ring_shown x y None other = []
 ring_shown x y (Some letter) other =
@@ -114,13 +115,13 @@ unfoldable pub band_head : Language → ℕ → Word → List ℕ
 band_head l y name = filled (text_in l texts.BAND) (
     decimal (y + 16) ∷ word_text l name ∷ decimal (y + 54) ∷ decimal (y + 84) ∷ decimal (y + 125) ∷ decimal (y + 16) ∷ [])
 
--- the band of machine `m` at height `y`, with marks where `m` differs from machine `n`
+-- the picture's band for machine `m`, at height `y`; what differs from machine `n` is marked
 unfoldable pub band_text : Language → ℕ → Word → Parts → Parts → List ℕ
 band_text l y name m n =
     band_head l y name ++ reflector_shown y (machine_reflector m) (machine_reflector n)
     ++ flat_map (λ slot. slot_shown l (slot_x slot) y m n slot (machine_slot m slot)) SLOTS
 
--- ---- The picture: the machine before, without marks, and the machine after; or the machine after alone.
+-- ---- The picture: the machine before the settings, without marks, and after them; or only after them.
 
 unfoldable pub both_bands : Language → Parts → Parts → List ℕ
 both_bands l m n =

@@ -66,7 +66,7 @@ fn picture_name(plugs: Plugs) -> Word
     }
 }
 
-/// Writes all plugged cables in words.
+/// Writes in words the cables that have a plug, or that there are none.
 #[tactic(auto, unfolding(crate::specs::Board::all_cables))]
 pub fn draw_all_cables<W: Sink>(sink: &mut W, language: Language, machine: &Machine)
     ensures { Draws W.taken W.has_failed sink.old sink.new (all_cables language machine.now) }
@@ -96,7 +96,8 @@ fn is_plugged(machine: &Machine, number: u8) -> bool
     one.is_some()
 }
 
-/// Writes the plugged cables in words. `separator` stands before the first cable, and a comma before each later cable.
+/// Writes in words those of the cables `numbers` that have a plug. `separator` stands before the first of them, and a
+/// comma before each later one.
 fn draw_cables_after<W: Sink>(
     sink: &mut W,
     language: Language,
@@ -117,7 +118,7 @@ fn draw_cables_after<W: Sink>(
     }
 }
 
-/// Writes a plugged cable in words, after `separator`.
+/// Writes `separator`, and then a cable that has a plug, in words.
 fn draw_cable_after<W: Sink>(
     sink: &mut W,
     language: Language,
@@ -193,8 +194,8 @@ fn draw_line<W: Sink>(
     draw_cable_line(sink, language, class, lane, cable_of(machine, number));
 }
 
-/// The class of the line of cable `number`, plugged at the letters `cable`.
-/// The line is thick if machine `other` lacks one of these plugs.
+/// The CSS class of the line of cable `number`, whose plugs are at the letters `cable`. The line is thick if machine
+/// `other` lacks one of these plugs.
 fn line_class(plugs: Plugs, other: &Machine, number: u8, cable: Cable) -> Class
     ensures { result ≡ line_class plugs other.now number cable }
 {
@@ -265,7 +266,7 @@ fn draw_open<W: Sink>(sink: &mut W, language: Language, class: Class, lane: u16,
     draw_open_end(sink, language, letter);
 }
 
-/// Writes the piece of a cable's line that leads from a socket into the cable's lane.
+/// Writes the first piece of a cable's line: from a socket into the cable's lane, where the line runs level.
 fn draw_left_half<W: Sink>(
     sink: &mut W,
     language: Language,
@@ -294,7 +295,7 @@ fn draw_left_half<W: Sink>(
     );
 }
 
-/// Writes the piece of a cable's line that leads along the cable's lane to a socket.
+/// Writes the last piece of a cable's line: along the cable's lane, where the line runs level, and to a socket.
 fn draw_right_half<W: Sink>(sink: &mut W, language: Language, lane: u16, letter: Letter)
     requires low { 100 ≤ lane }
     requires high { lane < 10000 }
@@ -374,7 +375,7 @@ fn draw_socket<W: Sink>(
     }
 }
 
-/// Which of the cables `numbers` has a plug at `letter`; `None` if no cable has a plug there.
+/// Finds the cable among `numbers` that has a plug at `letter`. `None` if no cable has a plug there.
 fn cable_holding(machine: &Machine, letter: Letter, numbers: &[u8]) -> Option<u8>
     ensures { result ≡ cable_holding machine.now letter numbers.now }
 {

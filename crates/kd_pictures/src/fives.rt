@@ -7,7 +7,9 @@ use crate::drawing::draw;
 use crate::template::draw_letter;
 use kd_tables::{Letter, Sink};
 
-/// Writes letters in groups of five. `place` letters stand before them in the same row.
+/// Writes letters, with a space after every fifth letter of their row.
+///
+/// `place` letters stand before these letters in the row.
 pub fn draw_fives<W: Sink>(sink: &mut W, place: u8, letters: &[Letter])
     requires { place + length letters.now < 200 }
     ensures { Draws W.taken W.has_failed sink.old sink.new (fives_from place letters.now) }

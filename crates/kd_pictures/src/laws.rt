@@ -7,8 +7,8 @@ ghost use Rattle.kd_pictures.specs.Checked.{TemplatesTakeTheirValues, WordsTellW
 ghost use Rattle.kd_pictures.specs.Plain.{ValuesArePlain};
 ghost use Rattle.kd_pictures.specs.SheetName.{SheetNamesArePlain};
 
-/// The values that a page takes from files have no markup.
-/// They are letters, numbers, and the names of models, wheels, reflectors, key sheets and orders.
+/// The values that a page takes from files have no markup. These values are letters, numbers, and the names of models,
+/// wheels, reflectors, key sheets and orders.
 #[tactic(auto, using(crate::proofs::PlainValues::values_are_plain, crate::proofs::PlainValues::names_are_plain))]
 pub fn values_are_plain()
     ensures values { ValuesArePlain }
@@ -22,8 +22,8 @@ pub fn languages_say_the_same()
     ensures words { WordsTellWhatToDo }
 {}
 
-/// The cable lines to the sockets of two different letters never lie on each other. They are at least 10 units of the
-/// picture apart.
+/// The cable lines to the sockets of two different letters never lie on each other: the lines are at least 10 units of
+/// the picture apart.
 #[tactic(auto, using(crate::proofs::LinesApart::lines_are_apart))]
 pub fn lines_are_apart()
     ensures { LinesAreApart }

@@ -114,7 +114,7 @@ fn draw_zero<W: Sink>(sink: &mut W, is_short: bool)
     }
 }
 
-/// Writes the words that give the number of settings.
+/// Writes the number of settings in words, such as `nothing to change` or `3 settings`.
 fn draw_count<W: Sink>(sink: &mut W, language: Language, number: u8)
     ensures { Draws W.taken W.has_failed sink.old sink.new (count_text language number) }
 {

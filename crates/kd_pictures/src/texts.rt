@@ -216,14 +216,15 @@ pub const BODY: &str = "</style>\n<body>\n<main>\n";
 
 pub const FOOT: &str = "</main>\n";
 
-/// The title of a day; its values are the model and the day. Then the title of several days; its values are the model,
-/// the first day and the last day. The name of the key sheet stands after either title.
+/// The title of a page or of a file. The name of the key sheet follows it.
+/// - `TITLE_DAY`: for one day. Its values are the model and the day.
+/// - `TITLE_DAYS`: for several days. Its values are the model, the first day and the last day.
 pub const TITLE_DAY: Text = ("~, day ~, ", "~, Tag ~, ");
 
 pub const TITLE_DAYS: Text = ("~, days ~ to ~, ", "~, Tage ~ bis ~, ");
 
-/// The list of the days in a file with several days. The file's title stands between `NAV` and `NAV_LIST`. The values
-/// of `NAV_DAY`, an item of the list, are the day, the day again, and the number of settings on this day.
+/// The list of the days, in a file with several days. The file's title stands between `NAV` and `NAV_LIST`. An item of
+/// the list is `NAV_DAY`: its values are the day, the day again, and the day's number of settings.
 pub const NAV: Text = (
     "<nav class=days aria-label=\"Days\">\n<p>",
     "<nav class=days aria-label=\"Tage\">\n<p>",
@@ -238,7 +239,7 @@ pub const NAV_DAY: Text = (
 
 pub const NAV_END: &str = "</ul>\n</nav>\n";
 
-/// The words that give the number of settings: none, one, or several.
+/// The number of settings in words: none, one, or several.
 pub const NO_SETTINGS: Text = ("nothing to change", "nichts zu ändern");
 
 pub const ONE_SETTING: Text = ("1 setting", "1 Handgriff");
@@ -261,9 +262,10 @@ pub const COMPARE_PIN: Text = (
 
 pub const DAY_END: &str = "</article>\n";
 
-/// The head of a step. Its values are the step's title and its number of settings. The second text is a step's head
-/// that doesn't give the number of settings. The page's title follows either head. `IDLE_STEP` is a step with nothing
-/// to do.
+/// The head of a step. Its first value is always the step's title.
+/// - `STEP`: also has the number of settings. The page's title follows.
+/// - `PLAIN_STEP`: has no number of settings. The page's title follows.
+/// - `IDLE_STEP`: for a step with nothing to do.
 pub const STEP: &str = "<section>\n<h2>~ <small>~</small><span>";
 
 pub const PLAIN_STEP: &str = "<section>\n<h2>~<span>";
@@ -279,8 +281,8 @@ pub const LIST: &str = "<ul>\n";
 
 pub const LIST_END: &str = "</ul>\n</section>\n";
 
-/// The paragraph that lists the wheels and the reflector to take out. They go into the box before others go into the
-/// machine.
+/// The paragraph that lists the wheels and the reflector to take out. These parts go into the box before other parts go
+/// into the machine.
 pub const BOXED: Text = (
     "<p>Take out, into the box:",
     "<p>Herausnehmen, in den Kasten:",
@@ -292,8 +294,10 @@ pub const BOXED_REFLECTOR: Text = (" reflector <b>~</b>", " Umkehrwalze <b>~</b>
 
 pub const BOXED_END: &str = "</p>\n";
 
-/// The words before a list of wheels from the box and their rings. The first text is for the rings before the settings.
-/// The second text is for the rings after the step that sets rings. The third text is for one wheel.
+/// A list of wheels in the box, with their rings.
+/// - `BOX_BEFORE`: the words before the list of the rings as they are before the settings.
+/// - `BOX_AFTER`: the words before the list of the rings as they are after the step that sets rings.
+/// - `BOX_WHEEL`: an item of the list, for one wheel.
 pub const BOX_BEFORE: Text = (
     "<p>Compare these rings in the box, too:",
     "<p>Auch diese Ringe im Kasten vergleichen:",
@@ -312,8 +316,10 @@ pub const RING: Text = (
     "<li><label><input type=checkbox> Walze <b>~</b>: Ring auf <b>~\u{a0}~</b> stellen <code>~</code></label>\n",
 );
 
-/// A checkbox to put in a wheel from the box, in three pieces. The first piece has the slot, the slot's name, and the
-/// wheel. The second has the letter on which the wheel's ring has to stand. The third has the setting's line.
+/// A checkbox to put in a wheel from the box, in three pieces.
+/// - `SEAT`: the slot, the slot's name, and the wheel.
+/// - `BOX_RING`: the letter on which the wheel's ring has to stand, and this letter's number.
+/// - `SEAT_END`: the setting's line.
 pub const SEAT: Text = (
     "<li><label><input type=checkbox> slot ~, ~: put in wheel <b>~</b>, from the box",
     "<li><label><input type=checkbox> Platz ~, ~: Walze <b>~</b> einsetzen, aus dem Kasten",
@@ -346,8 +352,10 @@ pub const ON: Text = ("ON", "EIN");
 
 pub const OFF: Text = ("OFF", "AUS");
 
-/// A checkbox for a lug, in pieces. The first piece says whether the lug is the bar's left lug or its right lug. A
-/// later piece has the lug's old place. The last piece has the lug's new place, and the setting's line.
+/// A checkbox for a lug, in three pieces.
+/// - `LUG`: whether it is the bar's left lug or its right lug.
+/// - `LUG_FROM`: the lug's old place.
+/// - `LUG_END`: the lug's new place, and the setting's line.
 pub const LUG: &str = "<td><label><input type=checkbox> ~";
 
 pub const LEFT_LUG: Text = ("left lug", "linker");
@@ -418,7 +426,8 @@ pub const RING_WORDS: Text = (", ring ~", ", Ring ~");
 
 pub const WINDOW_WORDS: Text = (", window ~", ", Fenster ~");
 
-/// The name and the labels of a band of the picture. The next two texts draw an old reflector, and a new reflector.
+/// The name and the labels of a band of the picture. `REFLECTOR_SHOWN` draws an old reflector, and `NEW_REFLECTOR` a
+/// new one.
 pub const BAND: Text = (
     "<text class=\"label bold\" x=\"2\" y=\"~\" font-size=\"20\">~</text>\n<text class=\"label\" x=\"2\" y=\"~\" font-size=\"18\">wheel</text>\n<text class=\"label\" x=\"2\" y=\"~\" font-size=\"18\">ring</text>\n<text class=\"label\" x=\"2\" y=\"~\" font-size=\"18\">window</text>\n<text x=\"134\" y=\"~\" font-size=\"18\">reflector</text>\n",
     "<text class=\"label bold\" x=\"2\" y=\"~\" font-size=\"20\">~</text>\n<text class=\"label\" x=\"2\" y=\"~\" font-size=\"18\">Walze</text>\n<text class=\"label\" x=\"2\" y=\"~\" font-size=\"18\">Ring</text>\n<text class=\"label\" x=\"2\" y=\"~\" font-size=\"18\">Fenster</text>\n<text x=\"134\" y=\"~\" font-size=\"18\">UKW</text>\n",
@@ -430,9 +439,8 @@ pub const REFLECTOR_SHOWN: &str =
 pub const NEW_REFLECTOR: &str =
     "<rect class=\"set\" x=\"96\" y=\"~\" width=\"76\" height=\"122\"/>\n<text class=\"bold\" x=\"134\" y=\"~\" font-size=\"20\">~</text>\n";
 
-/// The texts for a slot: a text for an empty slot, and two for a slot with a wheel. Then come two
-/// texts for a ring, and two for a window. Each time, the first text draws the wheel, the ring or
-/// the window as old, and the second as new.
+/// The texts for a slot. `EMPTY` draws a slot without a wheel. The next texts come in pairs: for a wheel, for its ring,
+/// and for its window. The first text of a pair draws what is old, and the second what is new.
 pub const EMPTY: Text = (
     "<text x=\"~\" y=\"~\" font-size=\"18\">slot ~</text>\n<rect x=\"~\" y=\"~\" width=\"96\" height=\"122\"/>\n<text x=\"~\" y=\"~\" font-size=\"20\">empty</text>\n",
     "<text x=\"~\" y=\"~\" font-size=\"18\">Platz ~</text>\n<rect x=\"~\" y=\"~\" width=\"96\" height=\"122\"/>\n<text x=\"~\" y=\"~\" font-size=\"20\">leer</text>\n",
@@ -473,8 +481,10 @@ pub const NO_CABLES: Text = ("none", "keine");
 
 pub const BOARD_END: &str = "</svg>\n<figcaption>";
 
-/// The line of a cable, in pieces. The first piece leads from a socket into the lane. The other two pieces lead along
-/// the lane: one to a socket, the other to an open end.
+/// The line of a cable, in pieces. In its lane, the line runs level.
+/// - `LEFT_HALF`: leads from a socket into the lane.
+/// - `RIGHT_HALF`: leads along the lane to a socket.
+/// - `OPEN_END`: leads along the lane to an open end.
 pub const LEFT_HALF: &str = "<path~ d=\"M~ ~V~Q~ ~ ~ ~";
 
 pub const RIGHT_HALF: &str = "H~Q~ ~ ~ ~V~\"/>\n";
@@ -519,8 +529,11 @@ pub const PLUGS_END: &str = "</table>\n";
 
 pub const BOARD_STEP_END: &str = "</div>\n</section>\n";
 
-/// The texts for the table of pins: its caption, the head of a wheel, and the words with which each settings line of
-/// the wheel begins. After these come the texts for the cells of pins; the cell of a pin to change is framed.
+/// The table of pins.
+/// - `PINS`: the table's caption.
+/// - `PIN_WHEEL`: the head of a wheel.
+/// - `PIN_LINES`: the beginning of all settings lines of the wheel, such as `PIN 3`.
+/// - `CELL`, `SET_CELL`: the cell of a pin to leave, and the framed cell of a pin to change.
 pub const PINS: Text = (
     "<table class=pins>\n<caption>Pins after: ~ effective, ~ not. Framed pins are to change: ON makes a pin effective, OFF not.</caption>\n",
     "<table class=pins>\n<caption>Stifte nachher: ~ wirksam, ~ unwirksam. Umrahmte Stifte umstellen: EIN macht wirksam, AUS unwirksam.</caption>\n",
@@ -545,8 +558,8 @@ pub const PIN_SHOWN: &str = "~<br>~";
 
 pub const PINS_END: &str = "</table>\n</section>\n";
 
-/// The texts for the table of bars: its caption and head, the head of a bar's row, and the cells of a bar's places.
-/// After these come the ends of a bar's row: without a checkbox, with one checkbox, or with two checkboxes.
+/// The table of bars: its caption and head, the head of a bar's row, and the cells of a bar's places. The row ends with
+/// `NO_BOXES`, `ONE_BOX` or `BOXES`: these follow no checkbox, one checkbox or two checkboxes.
 pub const DRUM: Text = (
     "<table class=drum>\n<caption>~ a lug stays here, ~ a lug leaves, ~ a lug comes. Move the lugs of a bar in the order shown.</caption>\n<thead>\n<tr><th scope=col>Bar<th scope=col>1<th scope=col>0L<th scope=col>2<th scope=col>3<th scope=col>4<th scope=col>5<th scope=col>0R<th scope=col>6<th scope=col colspan=2>Lugs to move\n<tbody>\n",
     "<table class=drum>\n<caption>~ Reiter bleibt, ~ Reiter geht, ~ Reiter kommt. Die Reiter einer Stange in der gezeigten Reihenfolge versetzen.</caption>\n<thead>\n<tr><th scope=col>Stange<th scope=col>1<th scope=col>0L<th scope=col>2<th scope=col>3<th scope=col>4<th scope=col>5<th scope=col>0R<th scope=col>6<th scope=col colspan=2>Reiter versetzen\n<tbody>\n",
@@ -568,8 +581,8 @@ pub const BOXES: &str = "\n";
 
 pub const DRUM_END: &str = "</table>\n</section>\n";
 
-/// The test of the machine after the settings: the keys to press, the letters that light up or are printed, the letters
-/// to set again, and the number of settings.
+/// The test of the machine after the settings: the keys to press, and the letters that light up or are printed. Then
+/// come the letters to set again, and the number of settings.
 pub const TEST_ROTOR: Text = (
     "<p>Type the alphabet. The lamps have to give the second line:</p>\n<pre>",
     "<p>Das Alphabet eintippen. Die Lampen müssen die zweite Zeile ergeben:</p>\n<pre>",
@@ -653,8 +666,8 @@ pub const MIDDLE: Text = ("middle", "Mitte");
 
 pub const RIGHT: Text = ("right", "rechts");
 
-/// The names of the two pictures. `OUT_CLASS`, `IN_CLASS` and `PLAIN` are the classes of cables: with a plug to take
-/// out, a plug to put in, or no plug to move.
+/// The names of the two pictures: of the machine before the settings, and after them. The next three texts are the CSS
+/// classes of a cable's line: the cable has a plug to take out, a plug to put in, or no plug to move.
 pub const BEFORE: Text = ("before", "vorher");
 
 pub const AFTER: Text = ("after", "nachher");

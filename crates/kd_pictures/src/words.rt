@@ -6,7 +6,7 @@ use crate::texts;
 use kd_language::Language;
 use kd_tables::{Family, Model};
 
-/// A fixed word: the language's code, the way to set a pin, or the name of a step, slot, picture or lug.
+/// A fixed word: the language's code, `ON` or `OFF` for a pin, or the name of a step, slot, picture or lug.
 #[derive(Clone, Copy)]
 pub enum Word {
     Language,
@@ -64,7 +64,7 @@ impl Word {
     }
 }
 
-/// The class of a cable's line: the cable has a plug to take out, a plug to put in, or no plug to move.
+/// The CSS class of a cable's line: the cable has a plug to take out, a plug to put in, or no plug to move.
 #[derive(Clone, Copy)]
 pub enum Class {
     Plain,

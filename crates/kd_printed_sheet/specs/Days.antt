@@ -10,7 +10,7 @@ use Rattle.kd_printed_sheet.specs.declared.days.TheConstants.{DAYS, LAST_DAY_FIR
 abbrev pub days_of : Model → List (Option Day) → List ℕ
 days_of model month = filter (has_day_of model month) LAST_DAY_FIRST
 
--- the earliest of some days; `last` is the latest of these days, and the list has the other days in falling order
+-- the earliest day of a table; `last` is the table's latest day, and the list has the other days in falling order
 abbrev pub first_of : ℕ → List ℕ → ℕ
 first_of last [] = last
 first_of last (day ∷ earlier) = first_of day earlier

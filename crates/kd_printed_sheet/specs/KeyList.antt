@@ -21,7 +21,7 @@ use Rattle.kd_pictures.specs.Words.{model_name}
 use Rattle.kd_printed_sheet.specs.declared.texts.TheConstants as texts
 use Rattle.kd_printed_sheet.specs.Words.{words_text}
 
--- ---- The lines of the bars. Line `n` has bar `n`, and the `n`th pin of each wheel; lines are counted from 0.
+-- ---- The lines of the bars. Line `n` has bar `n`, and the `n`th pin of each wheel. All are counted from 1.
 
 -- the bar's number, in two digits, and the numbers of the wheels at its two lugs
 abbrev pub bar_head : ℕ → ℕ × ℕ → List ℕ
@@ -41,7 +41,7 @@ abbrev pub pin_cell : PinSet → ℕ → ℕ → List ℕ
 pin_cell pins place wheel =
     pin_shown (slice_get (ring_of wheel) place) (is_effective (pins_on (pins_of pins) wheel) place)
 
--- the cells of the pins at place `place` of all six wheels
+-- for each of the six wheels, the cell of its pin at place `place`
 unfoldable pub pin_cells : PinSet → ℕ → List ℕ
 pin_cells pins place = flat_map (pin_cell pins place) pin_wheels
 

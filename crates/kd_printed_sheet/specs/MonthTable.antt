@@ -1,5 +1,5 @@
--- The table of a month's days for a rotor machine's model. Each day has a row, and the last day comes first. So an
--- operator can cut off used days at the bottom. In the definitions, `l` is the language of the words.
+-- A month's table for a model of rotor machine. Each day has a row, and the last day comes first. So an operator can
+-- cut off used days at the bottom. In the definitions, `l` is the language of the words.
 use Rattle.std.specs.Prelude.{decimal, ℕ, Bool, true, false, List, [], ◌∷◌, ◌++◌, flat_map, Option, Some, None}
 use Rattle.kd_tables.specs.declared.model.Model.{Model}
 use Rattle.kd_tables.specs.declared.model.Model.TheVariants.{EnigmaI, M3, M4, M209}

@@ -6,7 +6,7 @@ use Rattle.kd_pictures.specs.Checked.{HasGaps, Takes}
 use Rattle.kd_pictures.specs.Plain.{is_plain}
 use Rattle.kd_printed_sheet.specs.declared.texts.TheConstants as texts
 
--- Words that consist of letters have no markup, whichever letters these are.
+-- A word that consists of letters has no markup, whatever these letters are.
 abbrev pub WordsArePlain : Type 0
 WordsArePlain = (letters : List ℕ) → IsTrue (list_all is_plain (letters_text letters))
 

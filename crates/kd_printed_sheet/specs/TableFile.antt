@@ -21,7 +21,7 @@ use Rattle.kd_printed_sheet.specs.MonthTable.{month_table}
 abbrev pub no_days : Language → Bool → List ℕ
 no_days l has_days = if has_days then [] else text_in l NO_DAYS
 
--- the table of a rotor machine's days, or a key list for each day of a Converter
+-- the tables for a model: one table of the days for a rotor machine, or a key list for each day of a Converter
 unfoldable pub tables_for : Language → List (Option Day) → Model → List ℕ
 tables_for l month model =
     by_family (month_table l model month) (flat_map (λ number. key_list_of l (day_of month number)) DAYS)

@@ -161,7 +161,8 @@ fn draw_pins<W: Sink>(sink: &mut W, pins: &PinSet)
     draw_wheel(sink, &ring6(), &pins.w6);
 }
 
-/// Writes the cell of a pin wheel with the letters `ring` and the pins `pins`.
+/// Writes the cell of a pin wheel: the letters of its effective pins. `ring` has the wheel's letters, and `pins` says
+/// which of its pins are effective.
 fn draw_wheel<const N: usize, W: Sink>(sink: &mut W, ring: &Ring<N>, pins: &[bool])
     ensures { Draws W.taken W.has_failed sink.old sink.new (effective_cell ring.now pins.now) }
 {

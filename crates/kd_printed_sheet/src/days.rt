@@ -30,7 +30,7 @@ pub(crate) fn days_of(model: Model, sheet: &Sheet) -> ArrayVec<u8, 31>
     days
 }
 
-/// The earliest of some days. `last` is the latest of these days, and `earlier` has the others in falling order.
+/// The earliest day of a table. `last` is the table's latest day, and `earlier` has the other days in falling order.
 pub(crate) fn first_of(last: u8, earlier: &[u8]) -> u8
     ensures { result ≡ first_of last earlier.now }
 {
@@ -50,7 +50,7 @@ pub(crate) fn has_any_day(sheet: &Sheet, numbers: &[u8]) -> bool
     }
 }
 
-/// Adds the days in `numbers` that the sheet has for the model.
+/// Adds those of the days `numbers` that the sheet has for the model.
 fn add_days(days: &mut ArrayVec<u8, 31>, model: Model, sheet: &Sheet, numbers: &[u8])
     requires { array_vec_len days.old + length numbers.now ≤ 31 }
     ensures { days.new.items ≡ days.old.items ++ filter (has_day_of model sheet.now) numbers.now }

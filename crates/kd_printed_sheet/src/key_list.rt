@@ -106,7 +106,7 @@ fn draw_bar<W: Sink>(sink: &mut W, language: Language, bar: u8, row: Reading)
     );
 }
 
-/// Writes the cells of the pins at place `place` of all six wheels.
+/// Writes, for each of the six wheels, the cell of its pin at place `place`.
 fn draw_pins<W: Sink>(sink: &mut W, language: Language, pins: &PinSet, place: u8)
     ensures { Draws W.taken W.has_failed sink.old sink.new (pin_cells pins.now place) }
 {

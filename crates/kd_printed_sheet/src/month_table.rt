@@ -1,4 +1,4 @@
-//! The table of a month's days for a rotor machine's model. Each day has a row, and the last day comes first.
+//! A month's table for a model of rotor machine. Each day has a row, and the last day comes first.
 ghost use Rattle.std.specs.Prelude.{◌≡◌, flat_map, option_copied, Some};
 ghost use Rattle.kd_pictures.specs.Drawing.{Draws};
 ghost use Rattle.kd_sheet.specs.Sheet.{day_of};
@@ -19,7 +19,7 @@ use kd_sheet::Sheet;
 use kd_state::{Entry, RotorEntry, SheetDay, SheetWheel};
 use kd_tables::{Letter, Model, Sink};
 
-/// Writes the table of the sheet's days of `model`. If the sheet has no such day, writes nothing.
+/// Writes the table of the sheet's days for `model`. If the sheet has no day for `model`, writes nothing.
 #[tactic(auto, unfolding(crate::specs::MonthTable::month_table))]
 pub(crate) fn draw_month<W: Sink>(sink: &mut W, language: Language, model: Model, sheet: &Sheet)
     ensures { Draws W.taken W.has_failed sink.old sink.new (month_table language model sheet.now) }

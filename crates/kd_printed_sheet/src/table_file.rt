@@ -26,11 +26,11 @@ pub enum TableForm {
     Csv,
 }
 
-/// Writes the tables of the key sheet `sheet` in `form`. A page is in `language`. Allocates no memory.
+/// Writes the tables of the key sheet `sheet` in `form`. Allocates no memory.
 ///
-/// A page has a table for each model of rotor machine that has days; the last day comes first. It also has a key list
-/// for each day of a Converter. A CSV table has a row for each day; the first day comes first. A CSV table is the same
-/// in all languages.
+/// - A page is in `language`. It has a table for each model of rotor machine that has days; the last day comes first.
+///   It also has a key list for each day of a Converter.
+/// - A CSV table is the same in all languages. It has a row for each day; the first day comes first.
 pub fn write_tables<W: Sink>(
     sink: &mut W,
     language: Language,
@@ -87,7 +87,7 @@ fn draw_tables<W: Sink>(sink: &mut W, language: Language, sheet: &Sheet, models:
     }
 }
 
-/// Writes the table of a rotor machine's days, or a key list for each day of a Converter.
+/// Writes the tables for a model: one table of the days for a rotor machine, or a key list for each day of a Converter.
 #[tactic(auto, unfolding(crate::specs::TableFile::tables_for))]
 fn draw_tables_for<W: Sink>(sink: &mut W, language: Language, sheet: &Sheet, model: Model)
     ensures { Draws W.taken W.has_failed sink.old sink.new (tables_for language sheet.now model) }

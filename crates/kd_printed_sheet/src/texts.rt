@@ -15,8 +15,8 @@ pub const NO_DAYS: Text = (
     "<p>Die Schlüsseltafel hat keine Tage.</p>\n",
 );
 
-/// The start of the head of a month's table, with the model. The next two texts say which days the table has: one day,
-/// or the first to the last day.
+/// The beginning of a month's table, with the model. The next two texts say which days the table has: one day, or the
+/// first to the last day.
 pub const MONTH: Text = (
     "<article class=sheet>\n<header>\n<h1>~: key table <small>",
     "<article class=sheet>\n<header>\n<h1>~: Schlüsseltafel <small>",
@@ -52,8 +52,8 @@ pub const NOTHING: &str = "-";
 /// The separator of two words in a cell.
 pub const SPACE: &str = " ";
 
-/// The start of the head of a Converter's key list, with the model and the day. The two letters that name the list
-/// follow. After these letters stands `KEY_LIST_COLUMNS`, which names the columns.
+/// The beginning of a Converter's key list, with the model and the day. Then come the two letters that name the list,
+/// and `KEY_LIST_COLUMNS`, which names the columns.
 pub const KEY_LIST: Text = (
     "<article class=list>\n<header>\n<h1>~, day ~: key list ",
     "<article class=list>\n<header>\n<h1>~, Tag ~: Schlüsselliste ",
@@ -64,8 +64,8 @@ pub const KEY_LIST_COLUMNS: Text = (
     "</h1>\n<p class=fields><span>Schlüsselkreis</span><span>Datum</span><span>Prüfnummer</span></p>\n</header>\n<table class=keylist>\n<thead>\n<tr><th scope=col rowspan=2>Stange<th scope=col rowspan=2>Reiter<th scope=colgroup colspan=6>Wirksame Stifte von Rad\n<tr><th scope=col>1<th scope=col>2<th scope=col>3<th scope=col>4<th scope=col>5<th scope=col>6\n<tbody>\n",
 );
 
-/// The start of the row of a bar with a number below 10: a 0 and the number, then the wheels at the bar's two lugs. The
-/// next text is for all other bars.
+/// The beginning of a bar's row: the bar's number in two digits, and the wheels at the bar's two lugs. `BAR_BELOW_TEN`
+/// is for the bars 1 to 9, and `BAR` for all other bars.
 pub const BAR_BELOW_TEN: &str = "<tr><th scope=row>0~<td>~-~";
 
 pub const BAR: &str = "<tr><th scope=row>~<td>~-~";
@@ -96,8 +96,8 @@ pub const COLUMN_NAMES: &str = "day,model,reflector,wheels,rings,plugs,window,gr
 
 pub const LIST_COLUMN_NAMES: &str = ",list,pins 1,pins 2,pins 3,pins 4,pins 5,pins 6,bars";
 
-/// The comma between two cells of a CSV table. The next text is for a rotor machine's row: empty cells where a
-/// Converter's row has the key list.
+/// The comma between two cells of a CSV table. The next text is the empty cells of a rotor machine's row; a Converter's
+/// row has the key list there.
 pub const COMMA: &str = ",";
 
 pub const NO_LIST: &str = ",,,,,,,,";

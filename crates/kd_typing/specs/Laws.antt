@@ -13,8 +13,8 @@ TypingOnRotorTable =
     (key : RotorKey) (window text : List ℕ) → CanShow key window → All (λ letter. letter < 26) text
     → typed_by (rotor_table key) window text ≡ enigma_cipher (key_turned key window) text
 
--- Typing on the table of a Converter's key gives the ciphertext of a Converter with this key, whatever letters the
--- wheels show at the start.
+-- Typing on the table of a Converter's key gives the ciphertext of a Converter with this key. At the start, the wheels
+-- may show any letters.
 abbrev pub TypingOnPinTable : Type 0
 TypingOnPinTable =
     (key : PinKey) (letters text : List ℕ) → All (λ letter. letter < 26) text

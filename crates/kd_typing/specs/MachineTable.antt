@@ -35,7 +35,8 @@ abbrev pub shown_letters : EngineKey → List ℕ
 shown_letters (keys.Rotor key) = key.window
 shown_letters (keys.Pin key) = key.letters
 
--- the table that a page's script reads in `text`; the key says whether the machine is a Converter
+-- the table that a page's script reads from `text`: a Converter's table if `key` is a Converter's key, otherwise a
+-- rotor machine's table
 abbrev pub table_in : EngineKey → List ℕ → MachineTable
 table_in (keys.Rotor key) text = Rotor (rotor_table_in text)
 table_in (keys.Pin key) text = Pin (pin_table_in text)

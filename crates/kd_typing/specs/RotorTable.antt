@@ -14,11 +14,11 @@ use Rattle.kd_enigma.specs.Cipher.{RotorKey, IsPlugboard, path, product, rotors}
 
 -- The table of a rotor machine.
 -- - `into` has a row for each letter in the right window. The row says which place each key's current reaches through
--- the plugboard and the right wheel.
--- - `core` has a row for each combination of letters in the other windows: the places at which the current comes out of
--- the core.
+--   the plugboard and the right wheel.
+-- - `core` has a row for each combination of letters in the other windows. The row says at which place the current
+--   comes out of the core, for each place at which it enters.
 -- - `steps` has a number for each pair of letters in the middle and the right window. The number says how many wheels
--- move at the next key press.
+--   move at the next key press.
 pub record RotorTable : Type 0 where
   pub into : List (List ℕ)
   pub core : List (List ℕ)
@@ -26,18 +26,19 @@ pub record RotorTable : Type 0 where
 
 -- ---- Typing on a table.
 
--- the items of all slots except the rightmost slot
+-- the items for all slots except the right slot; an item is, for example, a slot's wheel or ring
 abbrev pub core_slots : {X : Type 0} → List X → List X
 core_slots slots = take (length slots - 1) slots
 
 abbrev pub right_slot : {X : Type 0} → List X → List X
 right_slot slots = drop (length slots - 1) slots
 
--- The letter in a window. Windows are counted from the right, from 0.
+-- The letter in the window `from_right`: 0 is the right window, and 1 is the middle window.
 abbrev pub letter_in : List ℕ → ℕ → ℕ
 letter_in window from_right = slice_index window (length window - (from_right + 1))
 
--- the number of the row in `core` for a list of window letters; in base 26, these letters are the number's digits
+-- The number of the row in `core` that belongs to these window letters. The letters are the number's digits in base 26:
+-- BB, for example, is 27.
 abbrev pub row_number : List ℕ → ℕ
 row_number [] = 0
 row_number (letter ∷ letters) = letter * 26 ^ length letters + row_number letters
@@ -47,8 +48,8 @@ abbrev pub window_by : RotorTable → List ℕ → List ℕ
 window_by table window =
     with_last_moved (slice_index table.steps (26 * letter_in window 1 + letter_in window 0)) window
 
--- The letter that lights up for `key` while the windows show `window`. The current of `key` leaves
--- the core at some place. The key of the lit letter would send current into the core at this place.
+-- The letter that lights up for `key` while the windows show `window`. The current of `key` comes out of the core at
+-- some place. The letter that lights up is the one whose own key would send current into the core at this place.
 abbrev pub lamp_by : RotorTable → List ℕ → ℕ → ℕ
 lamp_by table window key =
     let into = slice_index_or table.into (letter_in window 0) [] in
@@ -89,8 +90,8 @@ abbrev pub letters_with_number : ℕ → ℕ → List ℕ
 letters_with_number zero number = []
 letters_with_number (suc count) number = number / 26 ^ count % 26 ∷ letters_with_number count number
 
--- Whether the wheel `from_right` is at a notch while its window shows `letter`. Wheels are counted from the right, from
--- 0.
+-- Whether the wheel `from_right` is at a notch while its window shows `letter`: 0 is the right wheel, and 1 is the
+-- middle wheel.
 abbrev pub is_at_notch : List Wheel → ℕ → ℕ → Bool
 is_at_notch wheels from_right letter =
     option_map_or (λ wheel. is_notch wheel letter) (slice_get wheels (length wheels - (from_right + 1))) false
@@ -118,8 +119,8 @@ all_steps wheels = map (λ number. wheels_moved wheels (number / 26) (number % 2
 abbrev pub rotor_table : RotorKey → RotorTable
 rotor_table key = record { into = into_rows key; core = core_rows key; steps = all_steps key.wheels }
 
--- The machine with the key `key` has three or four slots and a legal plugboard, and its windows can show the letters
--- `window`.
+-- The machine with the key `key` has three or four slots and a legal plugboard. Its windows, one for each slot, can
+-- show the letters `window`.
 pub record CanShow (key : RotorKey) (window : List ℕ) : Type 0 where
   pub least : 3 ≤ length key.wheels
   pub most : length key.wheels ≤ 4

@@ -53,10 +53,10 @@ pin_table_in text =
     let lines = lines_of text in
     record { pins = map (map (λ byte. byte == 49)) (take 6 lines); rows = map letters_of (drop 6 lines) }
 
--- ---- Lines in parts. No public contract cites these definitions.
+-- ---- Single lines of a table. No public contract cites these definitions.
 
--- The line of digits for a wheel with the pins `pins`. The acting pin is `offset` places after the pin of the shown
--- letter.
+-- A digit for each letter that a wheel can show: 1 if the acting pin is effective while this letter shows, otherwise 0.
+-- The wheel has the pins `pins`. The acting pin is `offset` places after the shown letter's pin.
 unfoldable pub acting_text : List Bool → ℕ → List ℕ
 acting_text pins offset =
     pins_text (map (λ place. is_effective pins ((place + offset) % length pins)) (range_with_len 0 (length pins)))

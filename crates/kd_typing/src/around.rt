@@ -24,8 +24,9 @@ pub(crate) fn inward(plugs: Plugs, seated: SheetWheel, letter: Letter) -> [Lette
     row
 }
 
-/// The path of the current around `core`: in through `wheels`, through `core`, and back. The first of the wheels is
-/// next to `core`.
+/// The path of the current: in through `wheels`, through `core`, and back through `wheels`.
+///
+/// Current that enters at place `i` comes back out at place `result[i]`. The first of the wheels is next to `core`.
 pub(crate) fn around_all(
     core: [Letter; 26],
     wheels: &[SheetWheel],
@@ -42,8 +43,9 @@ pub(crate) fn around_all(
     }
 }
 
-/// The current's path: in through a wheel, through `core`, and back through the wheel. The wheel's window shows
-/// `letter`.
+/// The path of the current: in through a wheel, through `core`, and back through the wheel.
+///
+/// Current that enters at place `i` comes back out at place `result[i]`. The wheel's window shows `letter`.
 fn around_one(core: &[Letter; 26], seated: SheetWheel, letter: Letter) -> [Letter; 26]
     ensures { result ≡ around_one core.now seated letter }
 {

@@ -36,10 +36,10 @@ impl PinRows {
         }
     }
 
-    /// The letters that are printed for A to Z while the wheels of set `number`, and no other wheels, have an effective
-    /// acting pin.
+    /// The letters that are printed for A to Z while exactly the wheels of the set `number` have an effective acting
+    /// pin.
     ///
-    /// The set's number has six binary digits, for wheels 1 to 6; 1 means that the set has the wheel.
+    /// The set's number has a binary digit for each wheel. For example, 100001 is the set of the wheels 1 and 6.
     pub fn row_at(&self, number: usize) -> [Letter; 26]
         requires { number < 64 }
         ensures { result ≡ pin_row self.now number }
@@ -67,9 +67,9 @@ impl PinRows {
     }
 }
 
-/// How many bars have a lug at some wheel of set `number`.
+/// The number of bars with a lug at some wheel of the set `number`.
 ///
-/// The set's number has six binary digits, for wheels 1 to 6; 1 means that the set has the wheel.
+/// The set's number has a binary digit for each wheel. For example, 100001 is the set of the wheels 1 and 6.
 fn bars_met(bars: &[Reading; 27], number: usize) -> u8
     ensures value { result ≡ bars_met_in_row bars.now number }
     ensures most { result ≤ 27 }
@@ -83,9 +83,9 @@ fn bars_met(bars: &[Reading; 27], number: usize) -> u8
     met
 }
 
-/// Whether a bar with the reading `bar` has a lug at some wheel of set `number`.
+/// Whether a bar with the reading `bar` has a lug at some wheel of the set `number`.
 ///
-/// The set's number has six binary digits, for wheels 1 to 6; 1 means that the set has the wheel.
+/// The set's number has a binary digit for each wheel. For example, 100001 is the set of the wheels 1 and 6.
 fn is_met(bar: Reading, number: usize) -> bool
     ensures { result ≡ (is_in_row number bar.0 || is_in_row number bar.1) }
 {
@@ -95,7 +95,7 @@ fn is_met(bar: Reading, number: usize) -> bool
 
 /// Whether `wheel` is from 1 to 6, and belongs to the set of wheels with the number `number`.
 ///
-/// The set's number has six binary digits, for wheels 1 to 6; 1 means that the set has the wheel.
+/// The set's number has a binary digit for each wheel. For example, 100001 is the set of the wheels 1 and 6.
 fn is_in_row(number: usize, wheel: u8) -> bool
     ensures { result ≡ is_in_row number wheel }
 {

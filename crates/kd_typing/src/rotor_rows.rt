@@ -110,7 +110,8 @@ impl RotorRows {
     }
 }
 
-/// Whether a wheel is at a notch while its window shows `letter`. Wheels are counted from the right, from 0.
+/// Whether the wheel `from_right` is at a notch while its window shows `letter`. Here 0 is the right wheel, and 1 is
+/// the middle wheel.
 fn is_at_notch(wheels: &[SheetWheel], from_right: usize, letter: Letter) -> bool
     requires { from_right < length wheels.now }
     ensures { result ≡ is_at_notch (map (λ w. w.wheel) wheels.now) from_right letter }

@@ -39,7 +39,8 @@ fn push_pins(settings: &mut Settings, present: &PinSet, wanted: &PinSet)
     push_wheel(settings, 6, ring6(), &present.w6, &wanted.w6);
 }
 
-/// Appends the setting PIN for each pin of wheel `wheel` that differs from the day's. `ring` has the wheel's letters.
+/// Appends the setting PIN for each pin of wheel `wheel` that differs from the day's pin. `ring` has the wheel's
+/// letters.
 fn push_wheel<const N: usize>(
     settings: &mut Settings,
     wheel: u8,
@@ -57,8 +58,8 @@ fn push_wheel<const N: usize>(
 
 /// Appends the setting TURN for each pin wheel that shows another letter than the day's.
 ///
-/// `letters` are the letters that the wheels show, and `window` are the day's letters. Both begin with the letter of
-/// wheel `number`, counted from 1.
+/// `letters` are the letters that the wheels show, and `window` are the day's letters. Both lists begin with the letter
+/// of wheel `number`. Wheels are counted from 1.
 fn push_pin_turns(settings: &mut Settings, number: u8, letters: &[Letter], window: &[Letter])
     requires few { number + length letters.now < 256 }
     requires room { array_vec_len settings.old + length letters.now ≤ 192 }
