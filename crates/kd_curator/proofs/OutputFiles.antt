@@ -13,7 +13,8 @@ use Rattle.kd_language.specs.declared.language.Language.{Language}
 use Rattle.kd_curator_command.specs.CommandLine.{IsNoCommandLine, chosen_language, curator_grammar}
 use Rattle.kd_curator.specs.Ending.{EndsAs, stop_after}
 use Rattle.kd_curator.specs.OutputFile.{Discarded, EndsFile, EndsWithFile, IsRunToFile, IsWhyUnwritten, Published, Unwritten, unwritten_line}
-use Rattle.kd_curator.specs.Program.{AnswersAfter, Carried, CarriesOut, FileUnread, IsRun, NoMemory, OtherWords, Shown}
+use Rattle.kd_curator.specs.Program.{AnswersAfter, Carried, CarriesOut, FileUnread, IsRun, LacksCommand, NoMemory, OtherWords}
+use Rattle.kd_curator.specs.Program.{Shown}
 use Rattle.kd_curator.specs.Program.{at_first, at_last, is_usage, is_whole}
 use Rattle.kd_curator.specs.declared.stop.Stop.{Stop}
 use Rattle.kd_curator.specs.declared.stop.Stop.TheVariants as stops
@@ -24,19 +25,25 @@ pub no_line_among : (words : List (List ℕ)) (kind : ErrorKind) → IsAmong kin
     → IsNoCommandLine words
 no_line_among words kind among command says = subst (IsAmong kind) says.taken among
 
+-- if no command is known, no file was asked for
+pub lacking : (words : List (List ℕ)) (asked : List AskedName) (answer : Result (Unit {0}) Stop) → asked ≡ []
+    → LacksCommand words [] answer → LacksCommand words asked answer
+lacking words asked answer none lacks = (none, lacks.1)
+
 -- a text that is written at once leaves nothing to pass on
 pub other_carried : (l : Language) (words : List (List ℕ)) (known : Option (List ℕ → Option (List ℕ)))
-    (asked : List AskedName) (had has : Option (List ℕ)) (had_failed has_failed : Bool) (answer : Result (Unit {0}) Stop)
-    → asked ≡ []
+    (asked : List AskedName) (had has : Option (List ℕ)) (had_failed has_failed : Bool) (errors : Port)
+    (answer : Result (Unit {0}) Stop) → asked ≡ []
     → CarriesOut l words known []
-    (record { had = had; has = has; had_failed = had_failed; has_failed = has_failed }) [] answer
+    (record { had = had; has = has; had_failed = had_failed; has_failed = has_failed }) errors [] answer
     → CarriesOut l words known asked
-    (record { had = had; has = append_known has []; had_failed = had_failed; has_failed = has_failed }) [] answer
-other_carried l words known asked had has had_failed has_failed answer none carried =
+    (record { had = had; has = append_known has []; had_failed = had_failed; has_failed = has_failed }) errors []
+    answer
+other_carried l words known asked had has had_failed has_failed errors answer none carried =
     let sink : Option (List ℕ) → Port =
     λ h. record { had = had; has = h; had_failed = had_failed; has_failed = has_failed } in
-    subst (λ names. CarriesOut l words known names (sink (append_known has [])) [] answer) (sym none)
-    (subst (λ h. CarriesOut l words known [] (sink h) [] answer) (sym (none_gathered has)) carried)
+    subst (λ names. CarriesOut l words known names (sink (append_known has [])) errors [] answer) (sym none)
+    (subst (λ h. CarriesOut l words known [] (sink h) errors [] answer) (sym (none_gathered has)) carried)
 
 -- after all was written that the answer says, nothing is left to pass on
 flushed : (whole : Bool) (left : List ℕ) (first answer : Result (Unit {0}) Stop) → is_whole first ≡ whole
@@ -53,17 +60,18 @@ usage_not_whole (Err (stops.Usage text)) usage whole = cc
 usage_not_whole (Err (stops.Refused refused)) usage whole = cc
 
 pub none_left : (l : Language) (words : List (List ℕ)) (known : Option (List ℕ → Option (List ℕ)))
-    (asked : List AskedName) (sink : Port) (left : List ℕ) (answer : Result (Unit {0}) Stop)
-    → CarriesOut l words known asked sink left answer → is_whole answer ≡ true → left ≡ []
-none_left l words known asked sink left answer (Carried command says texts many knows asks told) whole =
+    (asked : List AskedName) (sink errors : Port) (left : List ℕ) (answer : Result (Unit {0}) Stop)
+    → CarriesOut l words known asked sink errors left answer → is_whole answer ≡ true → left ≡ []
+none_left l words known asked sink errors left answer (Carried command says texts many knows asks told) whole =
     flushed (is_whole (stop_after told.told)) left (stop_after told.told) answer refl told.answers whole
-none_left l words known asked sink left answer (Shown text kind among help none told) whole =
+none_left l words known asked sink errors left answer (Shown text kind among help none told alone) whole =
     flushed (is_whole (stop_after told.told)) left (stop_after told.told) answer refl told.answers whole
-none_left l words known asked sink left answer (FileUnread command says fault place why knows asks last is) whole =
+none_left l words known asked sink errors left answer
+    (FileUnread command says fault place why knows asks last is alone) whole =
     let wrong : false ≡ true = sym (ap is_whole is) ∙ whole in cc
-none_left l words known asked sink left answer (OtherWords none no_help nothing usage) whole =
+none_left l words known asked sink errors left answer (OtherWords none no_help nothing usage alone) whole =
     absurd (usage_not_whole answer usage whole)
-none_left l words known asked sink left answer (NoMemory nothing is) whole =
+none_left l words known asked sink errors left answer (NoMemory nothing is alone) whole =
     let wrong : false ≡ true = sym (ap is_whole is) ∙ whole in cc
 
 module _ (l : Language) (words : List (List ℕ)) (known : Option (List ℕ → Option (List ℕ))) (asked : List AskedName)
@@ -82,14 +90,14 @@ module _ (l : Language) (words : List (List ℕ)) (known : Option (List ℕ → 
   run_so left run = record {
     empty = empty;
     fresh = fresh;
-    run = record { carried = run.carried; untouched = λ stopped. tt; failed = run.failed; noted = run.noted };
+    run = record { carried = run.carried; untouched = λ stopped. tt; failed = run.failed };
   }
 
   well : (whole : Bool) → is_whole answer ≡ whole → EndsFile before after name has has_failed whole (Ok tt)
       → (left : List ℕ) → Runs left → EndsAs (chosen_language l words) names answer (at_last errors told failed) status
       → EndsWithFile l words known asked before after name names errors status
   well true whole adds left run ends =
-      let none = none_left l words known asked (file left) left answer run.carried whole in
+      let none = none_left l words known asked (file left) (at_first errors told failed) left answer run.carried whole in
       Published (file []) answer told failed (run_so [] (subst Runs none run)) whole
       (subst (AddsFile before after name) (sym (none_gathered has)) adds) ends
   well false whole (same, fine) left run ends =

@@ -13,7 +13,7 @@ use Rattle.kd_sheet.specs.Sheet.{day_of}
 use Rattle.kd_state.specs.SheetDay.{Day}
 use Rattle.kd_curator.specs.Ending.{stop_after}
 use Rattle.kd_curator.specs.Files.{text_at}
-use Rattle.kd_curator.specs.MachineAndSheet.{IsAnswerOn, machine_and_month, machine_in, month_in}
+use Rattle.kd_curator.specs.MachineAndSheet.{machine_and_month, machine_in, month_in}
 use Rattle.kd_curator.specs.Program.{CarriesOut, DoesCommand, DoesTask, IsTold, IsAnswerAfterFlush, is_stopped_before_writing}
 use Rattle.kd_curator.specs.Program.{AnswersAfter, IsFlushed, is_whole}
 use Rattle.kd_curator.specs.Program.{Carried, FileUnread, Shown, OtherWords, NoMemory, is_stopped_by_device, is_usage}
@@ -52,6 +52,7 @@ use Rattle.kd_curator_command.specs.declared.command.Task.TheVariants as tasks
 use Rattle.kd_curator.specs.declared.fault.Refused.{Refused}
 use Rattle.kd_curator.specs.declared.stop.Stop.{Stop}
 use Rattle.kd_curator.specs.declared.stop.Stop.TheVariants as stops
+use Rattle.kd_curator.proofs.Answers.{on_kept}
 
 -- ---- the same bytes at another port
 
@@ -85,12 +86,6 @@ module _ (one other : Port) (before : one.had ≡ other.had) (after : Keeps one.
   pages_kept l name month m numbers answer (NoPage refused is told) = NoPage refused is told
   pages_kept l name month m numbers answer (Pages first others planned text booklet writes) =
       Pages first others planned text booklet (text_kept _ _ answer writes)
-
-  on_kept : {A : Type 0} (found : Result A Refused) (Holds Other : A → Type 0) (answer : Result (Unit {0}) Refused)
-      → ((value : A) → Holds value → Other value) → IsAnswerOn found Holds answer → IsAnswerOn found Other answer
-  on_kept (Ok value) Holds Other answer more (inl holds) = inl (more value holds)
-  on_kept (Err refused) Holds Other answer more (inl is) = inl is
-  on_kept found Holds Other answer more (inr lacks) = inr lacks
 
   task_kept : (l : Language) (task : Task) (name machine sheet : List ℕ) (told : Result (Unit {0}) Refused)
       → DoesTask l task name machine sheet one told → DoesTask l task name machine sheet other told
@@ -292,17 +287,21 @@ none_gathered None = refl
 none_gathered (Some bytes) = ap Some (append-nil bytes)
 
 module _ (l : Language) (words : List (List ℕ)) (known : Option (List ℕ → Option (List ℕ))) (asked : List AskedName)
-    (one other : Port) (left : List ℕ) (done answer : Result (Unit {0}) Stop) (ends : IsAnswerAfterFlush left done answer)
-    (before : one.had ≡ other.had) (after : Keeps one.has other.has) where
-  pub carried_on : CarriesOut l words known asked one [] done → CarriesOut l words known asked other left answer
+    (one other errors : Port) (left : List ℕ) (done answer : Result (Unit {0}) Stop)
+    (ends : IsAnswerAfterFlush left done answer) (before : one.had ≡ other.had) (after : Keeps one.has other.has) where
+  pub carried_on : CarriesOut l words known asked one errors [] done
+      → CarriesOut l words known asked other errors left answer
   carried_on (Carried command says texts many knows asks told) =
       Carried command says texts many knows asks (told_on left done answer ends _ _
-      (λ t. command_kept one other before after (chosen_language l words) command texts t) told)
-  carried_on (FileUnread command says fault place why knows asks last is) =
-      FileUnread command says fault place why knows asks last (stops_on left done answer ends _ refl is)
-  carried_on (Shown text kind among help none told) =
+      (λ t runs. (
+        command_kept one other before after (chosen_language l words) command texts t runs.0,
+        runs.1,
+      )) told)
+  carried_on (FileUnread command says fault place why knows asks last is alone) =
+      FileUnread command says fault place why knows asks last (stops_on left done answer ends _ refl is) alone
+  carried_on (Shown text kind among help none told alone) =
       Shown text kind among help none (told_on left done answer ends _ _
-      (λ t. text_kept one other before after refused_device text t) told)
-  carried_on (OtherWords none no_help nothing usage) =
-      OtherWords none no_help nothing (usage_on left done answer ends usage)
-  carried_on (NoMemory nothing is) = NoMemory nothing (stops_on left done answer ends _ refl is)
+      (λ t. text_kept one other before after refused_device text t) told) alone
+  carried_on (OtherWords none no_help nothing usage alone) =
+      OtherWords none no_help nothing (usage_on left done answer ends usage) alone
+  carried_on (NoMemory nothing is alone) = NoMemory nothing (stops_on left done answer ends _ refl is) alone

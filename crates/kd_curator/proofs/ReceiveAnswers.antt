@@ -1,9 +1,11 @@
 -- The answer of the page for receiving, as a refusal.
-use Rattle.std.proofs.Common.{◌≡◌, ◌∙◌, ℕ, [], IsErr, None, append-nil, take, List, Option, Some, Bool, true, false, Err, Ok, Result, ap, inl, inr, refl, subst, sym}
+use Rattle.std.proofs.Common.{◌≡◌, ◌∙◌, ℕ, [], IsErr, None, append-nil, take, length, List, Option, Some, Bool, true, false, Err, Ok, Result, ap, inl, inr, refl, subst, sym}
+use Rattle.std.proofs.Math.Seq.{take-length}
 use Rattle.std.proofs.lemmas.Bool.{false≢true}
 use Rattle.std.specs.Io.KnownBytes.{Appends, Keeps}
 use Rattle.kd_tables.specs.Ports.{Port, port}
-use Rattle.kd_spreadsheet.specs.Notes.{Tells}
+use Rattle.kd_sheet.specs.Sheet.{day_of}
+use Rattle.kd_spreadsheet.specs.Notes.{Tells, TellsText}
 use Rattle.kd_pictures.specs.Drawing.{Draws}
 use Rattle.kd_state.specs.declared.machine.parts.Parts.{Parts}
 use Rattle.kd_state.specs.SheetDay.{Day}
@@ -15,10 +17,14 @@ use Rattle.kd_lost.specs.declared.form.DamagedFormFault.TheVariants.{NoMemory, T
 use Rattle.kd_message.specs.ReceivePage.{FormNotRead, IsFormNoted, IsReceivePageAnswer, NotNoted, Noted, ReceivedPageWritten, receive_notes}
 use Rattle.kd_tables.specs.WriteFault.{is_device}
 use Rattle.kd_tables.specs.declared.ports.write_fault.WriteFault.{WriteFault}
+use Rattle.kd_curator.specs.MachineAndSheet.{IsAnswerOnSheet, machine_and_month}
+use Rattle.kd_curator.specs.Notes.{HasFormNotes, IsLeftAlone}
 use Rattle.kd_curator.specs.Refusals.{has_written, refused_by, refused_form, refused_whole}
 use Rattle.kd_curator.specs.RunReceive.{Cut, NotRead, OfNothing, OfParts, Page, TellsOfForm, WritesReceivePage}
 use Rattle.kd_curator.specs.declared.fault.PageFault.TheVariants.{NotWhole}
 use Rattle.kd_curator.specs.declared.fault.Refused.{Refused}
+use Rattle.kd_curator.proofs.Answers.{on_kept}
+use Rattle.kd_curator.proofs.Runs.{left_alone}
 
 -- what `write_receive_page` returns
 abbrev pub Told : Type 0
@@ -109,3 +115,42 @@ module _ {E : Type 0} (taken : E → Option (List ℕ)) (failed : E → Bool) wh
       drawn_tells old new (receive_notes l s parts) (failed old) (failed new) refl refl drawn
   form_tells l s form old new told (NotNoted fault is) quiet =
       silent_tells old new (quiet (subst IsErr (sym is) refl) (ap is_device is))
+
+  drawn_text : (old new : E) (text : List ℕ) (before after : Bool) → failed old ≡ before → failed new ≡ after
+      → Draws taken failed old new text → TellsText (port taken failed old new) text
+  drawn_text old new text true after was is drawn = let none = drawn.none was in record {
+    whole = λ fine. absurd (false≢true (sym fine ∙ none.0));
+    part = (0, kept_whole (taken old) (taken new) none.1);
+  }
+  drawn_text old new text false true was is drawn = let front = drawn.front was is in record {
+    whole = λ fine. absurd (false≢true (sym fine ∙ is));
+    part = (front.0, front.2);
+  }
+  drawn_text old new text false false was is drawn = let whole = (drawn.whole is).1 in record {
+    whole = λ _. whole;
+    part = (length text, subst (Appends (taken old) (taken new)) (sym (take-length text)) whole);
+  }
+
+  text_told : (l : Language) (day : Option Day) (m : Parts) (form : List ℕ) (old new : E)
+      (answer : Result (Unit {0}) Refused)
+      → TellsOfForm l day m form (λ text. Draws taken failed old new text) answer
+      → TellsOfForm l day m form (TellsText (port taken failed old new)) answer
+  text_told l day m form old new answer (OfParts s found ready parts read drawn) =
+      OfParts s found ready parts read
+      (drawn_text old new (receive_notes l s parts) (failed old) (failed new) refl refl drawn)
+  text_told l day m form old new answer (OfNothing refused early) = OfNothing refused early
+
+  -- the notes of `run_receive` are those of the command
+  pub form_noted : (l : Language) (machine sheet : List ℕ) (number : ℕ) (form : List ℕ) (old new : E)
+      (answer : Result (Unit {0}) Refused)
+      → IsAnswerOnSheet machine sheet (λ m month. TellsOfForm l (day_of month number) m form
+      (λ text. Draws taken failed old new text) answer) answer
+      → (IsErr answer → has_written answer ≡ false → new ≡ old) → Tells (port taken failed old new)
+      → HasFormNotes l machine sheet number form answer (port taken failed old new)
+  form_noted l machine sheet number form old new answer told quiet tells = record {
+    noted = on_kept (machine_and_month machine sheet) _ _ answer
+        (λ both. text_told l (day_of both.1 number) both.0 form old new answer) told;
+    quiet = λ refused early. subst (λ e. IsLeftAlone (port taken failed old e)) (sym (quiet refused early))
+        (left_alone (taken old) (failed old));
+    tells = tells;
+  }

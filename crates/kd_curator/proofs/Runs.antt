@@ -3,23 +3,18 @@ use Rattle.std.proofs.Common.{◌≡◌, ◌||◌, ◌≤◌, ℕ, Bool, true, f
 use Rattle.std.proofs.Common.{Err}
 use Rattle.std.proofs.Common.{◌∷◌, OnErr, inl, refl, arith, ap, subst, sym, ◌∙◌}
 use Rattle.clap.specs.Words.{Row, subcommand_of}
-use Rattle.kd_tables.specs.Ports.{Port}
 use Rattle.kd_tables.specs.declared.model.Model.{Model}
 use Rattle.kd_curator_command.specs.CommandLine.{IsCommandLineOf, IsMeant, NamedCommand, curator_grammar}
 use Rattle.kd_curator_command.specs.declared.command.Command.TheVariants as commands
-use Rattle.kd_tables.specs.declared.direction.Direction.{Direction}
-use Rattle.kd_tables.specs.declared.direction.Direction.TheVariants as directions
-use Rattle.kd_curator_command.specs.declared.command.MessageTask.{MessageTask}
-use Rattle.kd_host.specs.Files.{AreAskedFor, AskedName}
-use Rattle.kd_curator.specs.Files.{names_of}
-use Rattle.kd_curator.specs.Program.{HasMonth, HasNotes, HasTold, IsLeftAlone, NoNotes, TableNotes}
+use Rattle.kd_curator.specs.Notes.{IsLeftAlone}
+use Rattle.kd_curator.specs.Program.{HasMonth}
 use Rattle.kd_curator.specs.Ending.{stop_after}
 use Rattle.kd_curator.specs.Program.{IsTold, IsAnswerAfterFlush, is_stopped_before_writing}
 use Rattle.kd_curator.specs.Program.{is_stopped_by_device}
 use Rattle.kd_curator.specs.Refusals.{comes_after_writing, has_written, is_device, is_device_fault, refused_device}
 use Rattle.kd_curator.specs.declared.fault.PageFault.{PageFault}
 use Rattle.kd_curator.specs.declared.fault.PageFault.TheVariants as faults
-use Rattle.kd_curator.specs.Program.{AnswersAfter, FormNotes, TellsOfMessage, is_whole}
+use Rattle.kd_curator.specs.Program.{AnswersAfter, is_whole}
 use Rattle.kd_curator.specs.declared.fault.Refused.{Refused}
 use Rattle.kd_curator.specs.declared.stop.Stop.{Stop}
 
@@ -71,34 +66,10 @@ pub device_so : (before after : Bool) (told : Result (Unit {0}) Refused) (answer
 device_so before after told answer is failed =
     failed ∙ ap (λ b. before || b) (device_told told ∙ sym (ap is_stopped_by_device is))
 
--- ---- what is told on standard error
-
+-- nothing is told on standard error
 pub left_alone : (had : Option (List ℕ)) (failed : Bool)
     → IsLeftAlone (record { had = had; has = had; had_failed = failed; has_failed = failed })
 left_alone had failed = record { same = refl; failed = refl }
-
-message_notes_so : (words : List (List ℕ)) (asked : List AskedName) (errors : Port) (machine sheet message : List ℕ)
-    (task : MessageTask) (direction : Direction) → IsCommandLineOf words (commands.Message machine sheet message task)
-    → task.direction ≡ direction → AreAskedFor (machine ∷ sheet ∷ message ∷ []) [] asked true
-    → TellsOfMessage direction errors
-    → HasNotes words asked errors
-message_notes_so words asked errors machine sheet message task directions.Send says is read told = NoNotes told
-message_notes_so words asked errors machine sheet message task directions.Receive says is read told =
-    FormNotes machine sheet message task says is read told
-
--- what the command tells, the words allow
-pub notes_so : (words : List (List ℕ)) (asked : List AskedName) (errors : Port) (command : NamedCommand)
-    → IsCommandLineOf words command → AreAskedFor (names_of command) [] asked true → HasTold command errors
-    → HasNotes words asked errors
-notes_so words asked errors (commands.OnMachine a b c) says read told = NoNotes told
-notes_so words asked errors (commands.Message a b c d) says read told =
-    message_notes_so words asked errors a b c d d.direction says refl read told
-notes_so words asked errors (commands.Orders a b c d) says read told = NoNotes told
-notes_so words asked errors (commands.TypingPage a) says read told = NoNotes told
-notes_so words asked errors (commands.Table a b) says read told = NoNotes told
-notes_so words asked errors (commands.EmptySheet a b) says read told = NoNotes told
-notes_so words asked errors (commands.Sheet table options) says read told = TableNotes table options says read told
-notes_so words asked errors (commands.Look b) says read told = NoNotes told
 
 -- the number of days that the words ask for is that of a month
 meant_month : (said : Option (List ℕ × List Row)) (model : Model) (days : ℕ)

@@ -27,9 +27,10 @@ look_answer (Ok (Faulty fault)) = Err (refused_whole FaultyFile)
 look_answer (Err (Unwritten fault)) = Err refused_memory
 look_answer (Err Device) = Err refused_device
 
--- A report on the files was written in language `l`, or memory ran out. If the sink failed, only a prefix of the report was written. If
--- a file has a fault, the command is refused after the report.
-pub record Looks (l : Language) (files : List NamedText) (sink : Port) (answer : Result (Unit {0}) Refused) : Type 0 where
+-- A report on the files was written in language `l`, or memory ran out. If the sink failed, only a prefix of the report
+-- was written. If a file has a fault, the command is refused after the report.
+pub record Looks (l : Language) (files : List NamedText) (sink : Port) (answer : Result (Unit {0}) Refused)
+    : Type 0 where
   pub told : Result Outcome (WriteFault AllocError)
   pub looks : IsLookAnswer l files sink told
   pub answers : answer ≡ look_answer told

@@ -81,14 +81,14 @@ pub data EndsWithFile (l : Language) (words : List (List ℕ)) (known : Option (
 
 -- The output goes to the sink because the command line names no output file or means no command, or because memory ran
 -- out.
-abbrev pub GoesToSink : List (List ℕ) → Result (Unit {0}) Stop → Type 0
-GoesToSink words answer = (output_of words ≡ None) ⊎ LacksCommand words answer
+abbrev pub GoesToSink : List (List ℕ) → List AskedName → Result (Unit {0}) Stop → Type 0
+GoesToSink words asked answer = (output_of words ≡ None) ⊎ LacksCommand words asked answer
 
 -- How the program ends if the output went to the sink.
 abbrev pub EndsAtSink : Language → List (List ℕ) → Option (List ℕ → Option (List ℕ)) → List AskedName → (List ℕ → Port)
     → Type 0 → Port → ℕ → Type 0
-EndsAtSink l words known asked sink Untouched errors status = HasEnded l words
-    (λ told left answer. GoesToSink words answer × IsRun l words known asked (sink left) Untouched told left answer)
+EndsAtSink l words known asked sink Untouched errors status = HasEnded l words asked
+    (λ told left answer. GoesToSink words asked answer × IsRun l words known asked (sink left) Untouched told left answer)
     errors status
 
 -- How the program ends.

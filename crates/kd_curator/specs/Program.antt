@@ -13,17 +13,18 @@ use Rattle.kd_host.specs.Files.{AreAskedFor, AskedName}
 use Rattle.kd_host.specs.Writing.{WritesText}
 use Rattle.kd_new_file.specs.declared.why_unread.WhyUnread.{WhyUnread}
 use Rattle.kd_spreadsheet.specs.EmptySheet.{empty_month_text}
-use Rattle.kd_spreadsheet.specs.Notes.{Tells}
 use Rattle.kd_spreadsheet.specs.Options.{OptionTexts}
 use Rattle.kd_state.specs.Machine.{model_of}
 use Rattle.kd_tables.specs.Ports.{Port}
 use Rattle.kd_curator_command.specs.CommandLine.{AsksForHelp, IsCommandLineOf, IsNoCommandLine, NamedCommand}
 use Rattle.kd_curator_command.specs.CommandLine.{chosen_language, curator_grammar}
 use Rattle.kd_curator_command.specs.CommandLine.{is_help}
+use Rattle.kd_curator_command.specs.Locale.{language_without_command}
 use Rattle.kd_curator.specs.Ending.{EndsAs, blame_of, memory_stop, stop_after}
 use Rattle.kd_curator.specs.Files.{contents_of, names_of, text_at}
 use Rattle.kd_curator.specs.MachineAndSheet.{IsAnswerOn, IsAnswerOnSheet, machine_in}
 use Rattle.kd_curator.specs.Looks.{Looks, named_texts}
+use Rattle.kd_curator.specs.Notes.{HasNotes, IsLeftAlone}
 use Rattle.kd_curator.specs.Refusals.{comes_after_writing, is_after_all, is_device_fault, refused_device, refused_unread}
 use Rattle.kd_language.specs.declared.language.Language.{Language}
 use Rattle.kd_pictures.specs.declared.results.Results.{Results}
@@ -89,10 +90,11 @@ DoesCommand l (commands.Look files) texts sink answer = Looks l (named_texts fil
 DoesCommand l (commands.EmptySheet model days) texts sink answer =
     WritesText refused_device (empty_month_text model days) sink answer
 
--- During the call, nothing was written to the port, and the port didn't fail.
-pub record IsLeftAlone (p : Port) : Type 0 where
-  pub same : p.has ≡ p.had
-  pub failed : p.has_failed ≡ p.had_failed
+-- The command writes its output to `sink` and its notes to `errors`, and its answer is `answer`. `texts` are the bytes
+-- of the command's files, in the order of the files. Words are in language `l`.
+abbrev pub RunsCommand : Language → NamedCommand → List (List ℕ) → Port → Port → Result (Unit {0}) Refused → Type 0
+RunsCommand l command texts sink errors answer =
+    DoesCommand l command texts sink answer × HasNotes l command texts answer errors
 
 -- ---- The program's answer.
 
@@ -135,7 +137,7 @@ abbrev pub is_usage : Result (Unit {0}) Stop → Bool
 is_usage (Err (stops.Usage text)) = true
 is_usage _ = false
 
--- How a command line is carried out.
+-- How a command line is carried out. `errors` is standard error until the program's answer was known.
 -- - `Carried`: the line's command was carried out, with the bytes `texts` of its files. Words are in language `l`,
 --   unless the line asks for another language.
 -- - `FileUnread`: a file of the command couldn't be read. The program asked for no later file, and the answer has a
@@ -144,25 +146,26 @@ is_usage _ = false
 -- - `OtherWords`: the words don't mean a command.
 -- - `NoMemory`: memory ran out before the program asked for a file.
 pub data CarriesOut (l : Language) (words : List (List ℕ)) (known : Option (List ℕ → Option (List ℕ))) (asked : List AskedName)
-    (sink : Port) (left : List ℕ) (answer : Result (Unit {0}) Stop) : Type 0 where
+    (sink errors : Port) (left : List ℕ) (answer : Result (Unit {0}) Stop) : Type 0 where
   Carried : (command : NamedCommand) → IsCommandLineOf words command → (texts : List (List ℕ))
       → length texts ≡ length (names_of command)
       → IfSome known (λ held. AgreesOrNoMemory files.NoMemory (contents_of held (names_of command)) (Ok texts))
       → AreAskedFor (names_of command) [] asked true
-      → IsTold (DoesCommand (chosen_language l words) command texts sink) left answer
-      → CarriesOut l words known asked sink left answer
+      → IsTold (RunsCommand (chosen_language l words) command texts sink errors) left answer
+      → CarriesOut l words known asked sink errors left answer
   FileUnread : (command : NamedCommand) → IsCommandLineOf words command → (fault : FileFault) (place : ℕ)
       (why : WhyUnread)
       → IfSome known (λ held. AgreesOrNoMemory files.NoMemory (contents_of held (names_of command)) (Err fault))
       → AreAskedFor (names_of command) [] asked false → length asked ≡ place + 1
-      → answer ≡ Err (stops.Refused (refused_unread place fault why))
-      → CarriesOut l words known asked sink left answer
+      → answer ≡ Err (stops.Refused (refused_unread place fault why)) → IsLeftAlone errors
+      → CarriesOut l words known asked sink errors left answer
   Shown : (text : List ℕ) (kind : ErrorKind) → IsAmong kind (fault_of curator_grammar words) → IsTrue (is_help kind)
-      → asked ≡ [] → IsTold (WritesText refused_device text sink) left answer
-      → CarriesOut l words known asked sink left answer
+      → asked ≡ [] → IsTold (WritesText refused_device text sink) left answer → IsLeftAlone errors
+      → CarriesOut l words known asked sink errors left answer
   OtherWords : IsNoCommandLine words → ¬ (AsksForHelp words) → asked ≡ [] → IsTrue (is_usage answer)
-      → CarriesOut l words known asked sink left answer
-  NoMemory : asked ≡ [] → answer ≡ Err memory_stop → CarriesOut l words known asked sink left answer
+      → IsLeftAlone errors → CarriesOut l words known asked sink errors left answer
+  NoMemory : asked ≡ [] → answer ≡ Err memory_stop → IsLeftAlone errors
+      → CarriesOut l words known asked sink errors left answer
 
 -- whether the program stopped because a write to standard output failed
 abbrev pub is_stopped_by_device : Result (Unit {0}) Stop → Bool
@@ -175,30 +178,16 @@ is_stopped_before_writing (Ok done) = false
 is_stopped_before_writing (Err (stops.Refused refused)) = not (comes_after_writing refused.fault)
 is_stopped_before_writing (Err stop) = true
 
--- The notes that were on standard error before the program's answer was known.
--- - If the words mean the command `sheet`, and the table was read, there may be notes on the table.
--- - If the words mean the command `receive`, and the files were read, there may be notes on the form.
--- - Otherwise there are no notes.
-pub data HasNotes (words : List (List ℕ)) (asked : List AskedName) (errors : Port) : Type 0 where
-  NoNotes : IsLeftAlone errors → HasNotes words asked errors
-  TableNotes : (table : List ℕ) (options : OptionTexts) → IsCommandLineOf words (commands.Sheet table options)
-      → AreAskedFor (table ∷ []) [] asked true → Tells errors → HasNotes words asked errors
-  FormNotes : (machine sheet message : List ℕ) (task : MessageTask)
-      → IsCommandLineOf words (commands.Message machine sheet message task) → task.direction ≡ Receive
-      → AreAskedFor (machine ∷ sheet ∷ message ∷ []) [] asked true → Tells errors → HasNotes words asked errors
-
 -- The program's answer to a command line.
--- - `carried`: how the command line is carried out.
+-- - `carried`: how the command line is carried out. Standard error has only the command's notes, if there are any.
 -- - `untouched`: if the program stops before it writes, the sink is untouched.
 -- - `failed`: the sink has failed exactly if it had failed before, or the answer says that a write failed.
--- - `noted`: the notes on standard error, which stand before the text for the answer.
 pub record IsRun (l : Language) (words : List (List ℕ)) (known : Option (List ℕ → Option (List ℕ))) (asked : List AskedName)
     (sink : Port) (Untouched : Type 0) (errors : Port) (left : List ℕ) (answer : Result (Unit {0}) Stop)
     : Type 0 where
-  pub carried : CarriesOut l words known asked sink left answer
+  pub carried : CarriesOut l words known asked sink errors left answer
   pub untouched : IsTrue (is_stopped_before_writing answer) → Untouched
   pub failed : sink.has_failed ≡ (sink.had_failed || is_stopped_by_device answer)
-  pub noted : HasNotes words asked errors
 
 -- A sink before and after a call. The bytes `left` were gathered, but not taken by the sink; here, they count as taken.
 abbrev pub port_with_untaken : {P : Type 0} → (P → Option (List ℕ)) → (P → Bool) → P → P → List ℕ → Port
@@ -223,24 +212,24 @@ abbrev pub AreNamesFor : List (List ℕ) → List (List ℕ) → Result (Unit {0
 AreNamesFor words names answer =
     ((command : NamedCommand) × IsCommandLineOf words command × (names ≡ names_of command)) ⊎ (blame_of answer ≡ None)
 
--- The words mean no command, or memory ran out before a command was known.
-abbrev pub LacksCommand : List (List ℕ) → Result (Unit {0}) Stop → Type 0
-LacksCommand words answer = IsNoCommandLine words ⊎ (answer ≡ Err memory_stop)
+-- The words mean no command, or memory ran out before a command was known. The program asked for no file.
+abbrev pub LacksCommand : List (List ℕ) → List AskedName → Result (Unit {0}) Stop → Type 0
+LacksCommand words asked answer = (asked ≡ []) × (IsNoCommandLine words ⊎ (answer ≡ Err memory_stop))
 
--- `language` is the language of the program's text on standard error, on a computer with the language `l`. Either the
--- words mean a command, and the language is that of the command line. Or the words mean no command, or memory ran out
--- before a command was known; then the language is `l`.
-abbrev pub IsLanguageFor : Language → List (List ℕ) → Result (Unit {0}) Stop → Language → Type 0
-IsLanguageFor l words answer language =
+-- `language` is the language of the program's answer on standard error, on a computer with the language `l`. Either the
+-- words mean a command, and the language is that of the command line. Or no command is known, and the language is that
+-- of help.
+abbrev pub IsLanguageFor : Language → List (List ℕ) → List AskedName → Result (Unit {0}) Stop → Language → Type 0
+IsLanguageFor l words asked answer language =
     ((command : NamedCommand) × IsCommandLineOf words command × (language ≡ chosen_language l words))
-    ⊎ (LacksCommand words answer × (language ≡ l))
+    ⊎ (LacksCommand words asked answer × (language ≡ language_without_command l words))
 
 -- The program's answer satisfies `IsSo`. The program ends with the text and the exit status for this answer. `left` are
 -- the gathered bytes that the sink didn't take. When the answer was known, standard error had taken the bytes `told`,
 -- and `failed` says whether standard error had failed. `names` are the names of the command's files. `language` is the
 -- text's language, on a computer with the language `l`.
-pub record HasEnded (l : Language) (words : List (List ℕ)) (IsSo : Port → List ℕ → Result (Unit {0}) Stop → Type 0)
-    (errors : Port) (status : ℕ) : Type 0 where
+pub record HasEnded (l : Language) (words : List (List ℕ)) (asked : List AskedName)
+    (IsSo : Port → List ℕ → Result (Unit {0}) Stop → Type 0) (errors : Port) (status : ℕ) : Type 0 where
   pub left : List ℕ
   pub answer : Result (Unit {0}) Stop
   pub told : Option (List ℕ)
@@ -249,7 +238,7 @@ pub record HasEnded (l : Language) (words : List (List ℕ)) (IsSo : Port → Li
   pub language : Language
   pub is_so : IsSo (at_first errors told failed) left answer
   pub named : AreNamesFor words names answer
-  pub spoken : IsLanguageFor l words answer language
+  pub spoken : IsLanguageFor l words asked answer language
   pub ends : EndsAs language names answer (at_last errors told failed) status
 
 -- ---- What inner functions require and tell. No public contract cites these definitions.
@@ -258,16 +247,3 @@ pub record HasEnded (l : Language) (words : List (List ℕ)) (IsSo : Port → Li
 abbrev pub HasMonth : NamedCommand → Type 0
 HasMonth (commands.EmptySheet model days) = days ≤ 31
 HasMonth _ = Unit {0}
-
--- What a command for a message wrote to standard error. For a form, it may have written notes; for an order, it wrote
--- nothing.
-abbrev pub TellsOfMessage : Direction → Port → Type 0
-TellsOfMessage Send errors = IsLeftAlone errors
-TellsOfMessage Receive errors = Tells errors
-
--- What was written to standard error before a refusal's text. The command `sheet` may have written notes on a table.
--- The command `receive` may have written notes on a form. Any other command has written nothing.
-abbrev pub HasTold : NamedCommand → Port → Type 0
-HasTold (commands.Sheet table options) errors = Tells errors
-HasTold (commands.Message machine sheet message task) errors = TellsOfMessage task.direction errors
-HasTold _ errors = IsLeftAlone errors

@@ -2,7 +2,7 @@
 ghost use Rattle.std.specs.Prelude.{◌≡◌, ◌≢◌, ◌||◌, [], ℕ, List, false, true, length, map, IsErr, IsTrue};
 ghost use Rattle.std.specs.Prelude.{Option, None, Some};
 ghost use Rattle.std.specs.Io.KnownBytes.{Keeps, append_known};
-ghost use Rattle.kd_tables.specs.Ports.{port};
+ghost use Rattle.kd_tables.specs.Ports.{Port, port};
 ghost use Rattle.kd_host.specs.Writing.{WritesText};
 ghost use Rattle.kd_curator_command.specs.CommandLine.{HasNoCommand, IsCommandLineOf, output_of, unborrowed_command};
 ghost use Rattle.kd_language.specs.declared.language.Language.{Language};
@@ -10,10 +10,11 @@ ghost use Rattle.kd_new_file.specs.NewFiles.{AddsFile, FilesByName};
 ghost use Rattle.kd_curator.specs.OutputFile.{EndsAtSink, EndsFile, EndsWithFile, IsMeantBySome, IsMeantIn, RunsTo};
 ghost use Rattle.kd_curator.specs.Ending.{blame_of};
 ghost use Rattle.kd_curator.specs.Files.{names_of, text_at};
+ghost use Rattle.kd_curator.specs.Notes.{HasMessageNotes, HasNotes, IsLeftAlone};
 ghost use Rattle.kd_curator.specs.Program.{CarriesOut, DoesCommand, DoesTask, IsRun, port_with_untaken};
-ghost use Rattle.kd_curator.specs.Program.{HasMonth, HasNotes, HasTold, LacksCommand};
+ghost use Rattle.kd_curator.specs.Program.{HasMonth, LacksCommand};
 ghost use Rattle.kd_curator.specs.Program.{IsAnswerAfterFlush, is_stopped_before_writing, is_stopped_by_device};
-ghost use Rattle.kd_curator.specs.Program.{TellsOfMessage, WorksMessage, is_whole};
+ghost use Rattle.kd_curator.specs.Program.{WorksMessage, is_whole};
 ghost use Rattle.kd_curator.specs.Refusals.{has_written, is_device, refused_device, refused_unread};
 ghost use Rattle.kd_new_file.specs.declared.why_unread.WhyUnread.{WhyUnread};
 
@@ -33,7 +34,9 @@ use crate::run_type::run_type;
 use crate::sheets::{make_sheet, write_empty_sheet};
 use crate::stop::{Stop, end_program};
 use crate::tables::run_table;
-use kd_curator_command::{Command, MessageTask, NamedCommand, NoCommand, Task, parse_words};
+use kd_curator_command::{
+    Command, MessageTask, NamedCommand, NoCommand, Task, language_without_command, parse_words,
+};
 use kd_host::{FileFault, Files};
 use kd_language::{Language, Wording};
 use kd_look::NamedFile;
@@ -87,6 +90,7 @@ pub fn run_curator<'n, S: AsStr, F: Files<'n>, N: NewFiles, W: Sink + Drop, E: S
         Err(none) => {
             let mut sink = sink;
             let answer = answer_other_words(none, &mut sink);
+            let language = language_without_command(language, words);
             (end_program(language, &answer, &[], errors), sink)
         }
     }
@@ -220,12 +224,10 @@ fn run_command<'n, F: Files<'n>, N: NewFiles, W: Sink, E: Sink>(
     ensures carried { (l : Language) (words : List (List ℕ))
         → IsMeantIn l words request.entry.language (unborrowed_command request.entry.command)
         → CarriesOut l words (F.known files.old) (F.asked files.new)
-        (port W.taken W.has_failed sink.old sink.new) [] result }
+        (port W.taken W.has_failed sink.old sink.new)
+        (port E.taken E.has_failed errors.old errors.new) [] result }
     ensures untouched { IsTrue (is_stopped_before_writing result) → sink.new ≡ sink.old }
     ensures failed { W.has_failed sink.new ≡ (W.has_failed sink.old || is_stopped_by_device result) }
-    ensures noted { (words : List (List ℕ))
-        → IsCommandLineOf words (unborrowed_command request.entry.command)
-        → HasNotes words (F.asked files.new) (port E.taken E.has_failed errors.old errors.new) }
 {
     let Request { language, command } = request;
     let names = names_of(&command);
@@ -263,9 +265,9 @@ fn refused_unread<N: NewFiles>(
 /// version, writes the text that it asks for. Otherwise, turns `none` into a `Stop`.
 fn answer_other_words<W: Sink>(none: NoCommand, sink: &mut W) -> Result<(), Stop>
     ensures carried { (l : Language) (words : List (List ℕ)) (known : Option (List ℕ → Option (List ℕ)))
-        → HasNoCommand words none
-        → CarriesOut l words known [] (port W.taken W.has_failed sink.old sink.new) [] result }
-    ensures why { (words : List (List ℕ)) → HasNoCommand words none → LacksCommand words result }
+        (errors : Port) → IsLeftAlone errors → HasNoCommand words none
+        → CarriesOut l words known [] (port W.taken W.has_failed sink.old sink.new) errors [] result }
+    ensures why { (words : List (List ℕ)) → HasNoCommand words none → LacksCommand words [] result }
     ensures nothing { blame_of result ≡ None }
     ensures untouched { IsTrue (is_stopped_before_writing result) → sink.new ≡ sink.old }
     ensures failed { W.has_failed sink.new ≡ (W.has_failed sink.old || is_stopped_by_device result) }
@@ -292,7 +294,7 @@ fn carry_out<W: Sink, E: Sink>(
         (port W.taken W.has_failed sink.old sink.new) result }
     ensures untouched { IsErr result → has_written result ≡ false → sink.new ≡ sink.old }
     ensures failed { W.has_failed sink.new ≡ (W.has_failed sink.old || is_device result) }
-    ensures told { HasTold (unborrowed_command command.entry)
+    ensures noted { HasNotes language (unborrowed_command command.entry) contents.now result
         (port E.taken E.has_failed errors.old errors.new) }
 {
     let wording = Wording { alloc, language };
@@ -359,7 +361,9 @@ fn work_message<W: Sink, E: Sink>(
         (text_at contents.now 2) (port W.taken W.has_failed sink.old sink.new) result }
     ensures untouched { IsErr result → has_written result ≡ false → sink.new ≡ sink.old }
     ensures failed { W.has_failed sink.new ≡ (W.has_failed sink.old || is_device result) }
-    ensures told { TellsOfMessage task.direction (port E.taken E.has_failed errors.old errors.new) }
+    ensures noted { HasMessageNotes task.direction language (text_at contents.now 0)
+        (text_at contents.now 1) task.day (text_at contents.now 2) result
+        (port E.taken E.has_failed errors.old errors.new) }
 {
     let options = PageOptions {
         language,

@@ -1,10 +1,10 @@
 //! The command `sheet`: makes a key sheet from a spreadsheet's table, or writes a key sheet to fill in.
 ghost use Rattle.std.specs.Prelude.{◌≡◌, ◌≤◌, ◌||◌, false, IsErr};
 ghost use Rattle.kd_tables.specs.Ports.{port};
-ghost use Rattle.kd_spreadsheet.specs.Notes.{Tells};
 ghost use Rattle.kd_spreadsheet.specs.Options.{texts_of};
 ghost use Rattle.kd_host.specs.Writing.{WritesText};
 ghost use Rattle.kd_spreadsheet.specs.EmptySheet.{empty_month_text};
+ghost use Rattle.kd_curator.specs.Notes.{HasTableNotes};
 ghost use Rattle.kd_curator.specs.Refusals.{is_device, refused_device};
 ghost use Rattle.kd_curator.specs.Sheets.{MakesSheet};
 
@@ -25,7 +25,8 @@ pub(crate) fn make_sheet<W: Sink, E: Sink>(
         (port W.taken W.has_failed sink.old sink.new) result }
     ensures untouched { IsErr result → is_device result ≡ false → sink.new ≡ sink.old }
     ensures failed { W.has_failed sink.new ≡ (W.has_failed sink.old || is_device result) }
-    ensures told { Tells (port E.taken E.has_failed errors.old errors.new) }
+    ensures noted { HasTableNotes wording.language (texts_of options.now) table.now result
+        (port E.taken E.has_failed errors.old errors.new) }
 {
     let options = TableOptions {
         model: options.model.as_bytes(),

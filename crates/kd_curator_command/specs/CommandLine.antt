@@ -38,9 +38,13 @@ use Rattle.kd_curator_command.specs.declared.grammar.CommandWords.{CommandWords}
 use Rattle.kd_curator_command.specs.declared.grammar.ArgumentSort.{ArgumentSort}
 use Rattle.kd_curator_command.specs.declared.grammar.ArgumentSort.TheVariants as sorts
 
+-- an argument that may be left out; its value has a name in help and errors
+abbrev pub optional : List ℕ → Rule
+optional name = record (new_rule name) { value_names = 1 }
+
 -- an argument that has to be given
 abbrev pub needed : List ℕ → Rule
-needed name = record (new_rule name) { required = true }
+needed name = record (optional name) { required = true }
 
 -- an argument that has to be given, and may have several values
 abbrev pub several : List ℕ → Rule
@@ -73,7 +77,7 @@ with_rule shape rule = record shape { rules = shape.rules ++ rule ∷ [] }
 
 abbrev pub page_shape : Shape
 page_shape =
-    with_rule (with_rule (command_shape (codes "page") (new_rule (codes "DAYS"))) language_option) output_option
+    with_rule (with_rule (command_shape (codes "page") (optional (codes "DAYS"))) language_option) output_option
 
 abbrev pub list_shape : Shape
 list_shape =
@@ -100,7 +104,7 @@ sheet_shape = record (new_shape (codes "sheet")) {
 
 abbrev pub look_shape : Shape
 look_shape = record (new_shape (codes "look")) {
-  rules = needed (codes "FILE") ∷ new_rule (codes "FILE2") ∷ new_rule (codes "FILE3") ∷ language_option ∷ [];
+  rules = needed (codes "FILE") ∷ optional (codes "FILE2") ∷ optional (codes "FILE3") ∷ language_option ∷ [];
 }
 
 -- the option `--blank`, which takes no value
@@ -392,9 +396,9 @@ HasNoCommand words NoMemory = Unit {0}
 
 -- the rule for an argument that has the name `name` and the given sort
 abbrev pub rule_of_sort : List ℕ → ArgumentSort → Rule
-rule_of_sort name sorts.Needed = needed name
-rule_of_sort name sorts.Several = several name
-rule_of_sort name sorts.Optional = new_rule name
+rule_of_sort name (sorts.Needed value) = needed name
+rule_of_sort name (sorts.Several value) = several name
+rule_of_sort name (sorts.Optional value) = optional name
 rule_of_sort name (sorts.Valued value) = option_rule name
 rule_of_sort name (sorts.Lettered letter value) = lettered name letter
 rule_of_sort name sorts.Flag = flag name

@@ -1,8 +1,9 @@
 //! The grammar of the command line.
 ghost use Rattle.std.specs.Prelude.{◌≡◌, false, IfOk};
-ghost use Rattle.clap.specs.Words.{App, app_of, new_rule, rule_of};
-ghost use Rattle.kd_curator_command.specs.CommandLine.{IsMadeOf, curator_grammar, flag, lettered, needed, option_rule, program_alone};
-ghost use Rattle.kd_curator_command.specs.CommandLine.{rule_of_argument, several, shape_of, with_commands};
+ghost use Rattle.clap.specs.Words.{App, app_of, rule_of};
+ghost use Rattle.kd_curator_command.specs.CommandLine.{IsMadeOf, curator_grammar, flag, lettered, needed, option_rule};
+ghost use Rattle.kd_curator_command.specs.CommandLine.{optional, program_alone, rule_of_argument, several, shape_of};
+ghost use Rattle.kd_curator_command.specs.CommandLine.{with_commands};
 
 use clap::{Arg, ArgAction, Command as Grammar};
 use kd_language::{Text, Wording};
@@ -12,18 +13,20 @@ use std::alloc::{AllocError, Global};
 const VERSION: &str = "1.0";
 
 /// The sort of an argument, which says how the argument is given on the command line.
+///
+/// A sort with a value has the value's name in help and errors, such as `DAY`.
 #[derive(Clone, Copy)]
-pub(crate) enum ArgumentSort<'a> {
+pub(crate) enum ArgumentSort {
     /// An argument that has to be given.
-    Needed,
+    Needed(Text),
     /// An argument that has to be given, and may have several values.
-    Several,
+    Several(Text),
     /// An argument that may be left out.
-    Optional,
-    /// An option with a value. The string is the value's name in the help.
-    Valued(&'a str),
-    /// An option of one letter, with a value. The string is the value's name in the help.
-    Lettered(char, &'a str),
+    Optional(Text),
+    /// An option with a value.
+    Valued(Text),
+    /// An option of one letter, with a value.
+    Lettered(char, Text),
     /// An option that takes no value.
     Flag,
 }
@@ -32,7 +35,7 @@ pub(crate) enum ArgumentSort<'a> {
 #[derive(Clone, Copy)]
 pub(crate) struct Argument<'a> {
     pub(crate) name: &'a str,
-    pub(crate) sort: ArgumentSort<'a>,
+    pub(crate) sort: ArgumentSort,
     /// What the help text says about the argument.
     pub(crate) help: Text,
 }
@@ -48,25 +51,25 @@ pub(crate) struct CommandWords<'a> {
 
 const MACHINE: Argument<'static> = Argument {
     name: "MACHINE",
-    sort: ArgumentSort::Needed,
+    sort: ArgumentSort::Needed(("MACHINE", "MASCHINE")),
     help: ("The machine file", "Die Maschinendatei"),
 };
 
 const SHEET: Argument<'static> = Argument {
     name: "SHEET",
-    sort: ArgumentSort::Needed,
+    sort: ArgumentSort::Needed(("SHEET", "TAFEL")),
     help: ("The key sheet", "Die Schlüsseltafel"),
 };
 
 const DAY: Argument<'static> = Argument {
     name: "DAY",
-    sort: ArgumentSort::Needed,
+    sort: ArgumentSort::Needed(("DAY", "TAG")),
     help: ("The day, from 1 to 31", "Der Tag, von 1 bis 31"),
 };
 
 const LANGUAGE: Argument<'static> = Argument {
     name: "in",
-    sort: ArgumentSort::Valued("LANGUAGE"),
+    sort: ArgumentSort::Valued(("LANGUAGE", "SPRACHE")),
     help: (
         "The language of the words, de or en; without it, that of the environment's LANG",
         "Die Sprache aller Texte, de oder en; ohne die Option gilt die Umgebungsvariable LANG",
@@ -75,10 +78,10 @@ const LANGUAGE: Argument<'static> = Argument {
 
 const OUTPUT: Argument<'static> = Argument {
     name: "output",
-    sort: ArgumentSort::Lettered('o', "FILE"),
+    sort: ArgumentSort::Lettered('o', ("FILE", "DATEI")),
     help: (
         "Writes the new file FILE, whole or not at all, and no standard output",
-        "Schreibt die neue Datei FILE, ganz oder gar nicht, und nichts auf die Standardausgabe",
+        "Schreibt die neue Datei DATEI, ganz oder gar nicht, und nichts auf die Standardausgabe",
     ),
 };
 
@@ -104,7 +107,7 @@ static COMMANDS: [CommandWords; 8] = [
             SHEET,
             Argument {
                 name: "DAYS",
-                sort: ArgumentSort::Optional,
+                sort: ArgumentSort::Optional(("DAYS", "TAGE")),
                 help: (
                     "The days, such as 2, 1-31 or 1,4,2; without it, all days for the machine's model",
                     "Die Tage, etwa 2, 1-31 oder 1,4,2; ohne Angabe alle Tage für das Modell der Maschine",
@@ -134,7 +137,7 @@ static COMMANDS: [CommandWords; 8] = [
             DAY,
             Argument {
                 name: "ORDER",
-                sort: ArgumentSort::Several,
+                sort: ArgumentSort::Several(("ORDER", "AUFTRAG")),
                 help: (
                     "The order, as desk send takes it; or up to 32 orders, one page after another",
                     "Der Auftrag, wie ihn desk send nimmt; oder bis zu 32 Aufträge, eine Seite nach der anderen",
@@ -157,7 +160,7 @@ static COMMANDS: [CommandWords; 8] = [
             DAY,
             Argument {
                 name: "FORM",
-                sort: ArgumentSort::Needed,
+                sort: ArgumentSort::Needed(("FORM", "FORMULAR")),
                 help: (
                     "The form, with ? for each lost letter",
                     "Das Formular, mit ? für jeden verlorenen Buchstaben",
@@ -205,7 +208,7 @@ static COMMANDS: [CommandWords; 8] = [
         arguments: &[
             Argument {
                 name: "model",
-                sort: ArgumentSort::Valued("MODEL"),
+                sort: ArgumentSort::Valued(("MODEL", "MODELL")),
                 help: (
                     "The model, for a table that has no column model",
                     "Das Modell, für eine Tabelle ohne die Spalte Modell",
@@ -213,7 +216,7 @@ static COMMANDS: [CommandWords; 8] = [
             },
             Argument {
                 name: "reflector",
-                sort: ArgumentSort::Valued("REFLECTOR"),
+                sort: ArgumentSort::Valued(("REFLECTOR", "UMKEHRWALZE")),
                 help: (
                     "The reflector, for days that lack it",
                     "Die Umkehrwalze, für Tage, bei denen sie fehlt",
@@ -221,7 +224,7 @@ static COMMANDS: [CommandWords; 8] = [
             },
             Argument {
                 name: "window",
-                sort: ArgumentSort::Valued("LETTERS"),
+                sort: ArgumentSort::Valued(("LETTERS", "BUCHSTABEN")),
                 help: (
                     "The letters in the windows, for days that lack them",
                     "Die Buchstaben in den Fenstern, für Tage, bei denen sie fehlen",
@@ -229,15 +232,15 @@ static COMMANDS: [CommandWords; 8] = [
             },
             Argument {
                 name: "empty",
-                sort: ArgumentSort::Valued("MODEL"),
+                sort: ArgumentSort::Valued(("MODEL", "MODELL")),
                 help: (
                     "Writes a sheet of this model to fill in; then TABLE is the number of its days",
-                    "Schreibt eine Tafel dieses Modells zum Ausfüllen; dann ist TABLE die Zahl ihrer Tage",
+                    "Schreibt eine Tafel dieses Modells zum Ausfüllen; dann ist TABELLE die Zahl ihrer Tage",
                 ),
             },
             Argument {
                 name: "TABLE",
-                sort: ArgumentSort::Needed,
+                sort: ArgumentSort::Needed(("TABLE", "TABELLE")),
                 help: (
                     "The table: CSV, or values separated by semicolons or tabs",
                     "Die Tabelle: CSV, oder Werte mit Semikolons oder Tabulatoren dazwischen",
@@ -256,7 +259,7 @@ static COMMANDS: [CommandWords; 8] = [
         arguments: &[
             Argument {
                 name: "FILE",
-                sort: ArgumentSort::Needed,
+                sort: ArgumentSort::Needed(("FILE", "DATEI")),
                 help: (
                     "A machine file, a key sheet, an order or a form",
                     "Eine Maschinendatei, eine Schlüsseltafel, ein Auftrag oder ein Formular",
@@ -264,12 +267,12 @@ static COMMANDS: [CommandWords; 8] = [
             },
             Argument {
                 name: "FILE2",
-                sort: ArgumentSort::Optional,
+                sort: ArgumentSort::Optional(("FILE2", "DATEI2")),
                 help: ("Another file", "Eine weitere Datei"),
             },
             Argument {
                 name: "FILE3",
-                sort: ArgumentSort::Optional,
+                sort: ArgumentSort::Optional(("FILE3", "DATEI3")),
                 help: ("Another file", "Eine weitere Datei"),
             },
             LANGUAGE,
@@ -338,47 +341,52 @@ fn argument_of<'a>(wording: Wording, argument: &Argument<'a>) -> Arg<'a>
     ensures local { result.global ≡ false }
 {
     let Wording { alloc, language } = wording;
-    let help = language.text(argument.help);
-    match argument.sort {
-        ArgumentSort::Needed => needed(alloc, argument.name, help),
-        ArgumentSort::Several => several(alloc, argument.name, help),
-        ArgumentSort::Optional => optional(alloc, argument.name, help),
-        ArgumentSort::Valued(value) => option(alloc, argument.name, value, help),
+    let Argument { name, sort, help } = *argument;
+    let help = language.text(help);
+    match sort {
+        ArgumentSort::Needed(value) => needed(alloc, name, language.text(value), help),
+        ArgumentSort::Several(value) => several(alloc, name, language.text(value), help),
+        ArgumentSort::Optional(value) => optional(alloc, name, language.text(value), help),
+        ArgumentSort::Valued(value) => option(alloc, name, language.text(value), help),
         ArgumentSort::Lettered(letter, value) => {
-            lettered(alloc, argument.name, letter, value, help)
+            lettered(alloc, name, letter, language.text(value), help)
         }
-        ArgumentSort::Flag => flag(alloc, argument.name, help),
+        ArgumentSort::Flag => flag(alloc, name, help),
     }
 }
 
-/// An argument that has to be given.
-fn needed<'a>(alloc: Global, name: &'a str, help: &'a str) -> Arg<'a>
+/// An argument that has to be given. `value` is the value's name in help and errors.
+fn needed<'a>(alloc: Global, name: &'a str, value: &'a str, help: &'a str) -> Arg<'a>
     ensures rule { rule_of result ≡ needed name.entry.now }
     ensures local { result.global ≡ false }
 {
-    Arg::new(alloc, name).required(true).help(help)
+    Arg::new(alloc, name)
+        .required(true)
+        .value_name(value)
+        .help(help)
 }
 
-/// An argument that has to be given, and may have several values.
-fn several<'a>(alloc: Global, name: &'a str, help: &'a str) -> Arg<'a>
+/// An argument that has to be given, and may have several values. `value` is the name of a value in help and errors.
+fn several<'a>(alloc: Global, name: &'a str, value: &'a str, help: &'a str) -> Arg<'a>
     ensures rule { rule_of result ≡ several name.entry.now }
     ensures local { result.global ≡ false }
 {
     Arg::new(alloc, name)
         .required(true)
         .action(ArgAction::Append)
+        .value_name(value)
         .help(help)
 }
 
-/// An argument that may be left out.
-fn optional<'a>(alloc: Global, name: &'a str, help: &'a str) -> Arg<'a>
-    ensures rule { rule_of result ≡ new_rule name.entry.now }
+/// An argument that may be left out. `value` is the value's name in help and errors.
+fn optional<'a>(alloc: Global, name: &'a str, value: &'a str, help: &'a str) -> Arg<'a>
+    ensures rule { rule_of result ≡ optional name.entry.now }
     ensures local { result.global ≡ false }
 {
-    Arg::new(alloc, name).help(help)
+    Arg::new(alloc, name).value_name(value).help(help)
 }
 
-/// An option with a value. `value` is the value's name in the help.
+/// An option with a value. `value` is the value's name in help and errors.
 fn option<'a>(alloc: Global, name: &'a str, value: &'a str, help: &'a str) -> Arg<'a>
     ensures rule { rule_of result ≡ option_rule name.entry.now }
     ensures local { result.global ≡ false }
@@ -389,7 +397,7 @@ fn option<'a>(alloc: Global, name: &'a str, value: &'a str, help: &'a str) -> Ar
         .help(help)
 }
 
-/// An option of one letter, with a value. `value` is the value's name in the help.
+/// An option of one letter, with a value. `value` is the value's name in help and errors.
 fn lettered<'a>(
     alloc: Global,
     name: &'a str,

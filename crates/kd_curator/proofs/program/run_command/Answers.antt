@@ -1,10 +1,10 @@
 use Rattle.std.proofs.Common.{Bor, Err, List, ap, arith, length, refl, ℕ, ◌∙◌}
 use Rattle.std.proofs.lemmas.List.{length-map}
 use Rattle.kd_curator_command.specs.CommandLine.{unborrowed_command, unborrowed_names}
-use Rattle.kd_curator.specs.Program.{Carried, FileUnread, NoNotes}
+use Rattle.kd_curator.specs.Program.{Carried, FileUnread}
 use Rattle.kd_curator.specs.declared.stop.Stop.TheVariants as stops
 use Rattle.kd_curator.proofs.Reading.{reads_all}
-use Rattle.kd_curator.proofs.Runs.{device_so, left_alone, months_so, notes_so, stopped_so, told_so}
+use Rattle.kd_curator.proofs.Runs.{device_so, left_alone, months_so, stopped_so, told_so}
 use Rattle.kd_curator.proofs.program.run_command.Goals as goal
 
 pub carry_out-answer-requires-clause-month : goal.carry_out-answer-requires-clause-month
@@ -18,10 +18,7 @@ returns-in-Err-clause-carried g c =
     (reads_all _ _ _ _ _ c.new-contents.ensures named c.in-Err.ensures.read)
     (rw (c.requires.asked, named) at c.in-Err.ensures.asked)
     (omega (arith, c.in-Err.ensures.place refl, c.len.ensures.value))
-    (ap (λ refused. Err (stops.Refused refused)) c.refused_unread-refused.ensures.1)
-
-pub returns-in-Err-clause-noted : goal.returns-in-Err-clause-noted
-returns-in-Err-clause-noted g c = λ words says. NoNotes (left_alone _ _)
+    (ap (λ refused. Err (stops.Refused refused)) c.refused_unread-refused.ensures.1) (left_alone _ _)
 
 pub returns-clause-carried : goal.returns-clause-carried
 returns-clause-carried g c =
@@ -34,7 +31,10 @@ returns-clause-carried g c =
     (omega (arith, given, c.in_default.ensures.many, fresh, mapped, all))
     (rw c.as_slice-2.ensures.value (reads_all _ _ _ _ _ c.new-contents.ensures named c.in_default.ensures.read))
     (rw (c.requires.asked, named) at c.in_default.ensures.asked)
-    (told_so _ _ _ (rw meant.language at c.carry_out-answer.ensures.does) c.of_answer.ensures)
+    (told_so _ _ _ (
+      rw meant.language at c.carry_out-answer.ensures.does,
+      rw meant.language at c.carry_out-answer.ensures.noted,
+    ) c.of_answer.ensures)
 
 pub returns-clause-untouched : goal.returns-clause-untouched
 returns-clause-untouched g c =
@@ -42,9 +42,3 @@ returns-clause-untouched g c =
 
 pub returns-clause-failed : goal.returns-clause-failed
 returns-clause-failed g c = device_so _ _ _ _ c.of_answer.ensures c.carry_out-answer.ensures.failed
-
-pub returns-clause-noted : goal.returns-clause-noted
-returns-clause-noted g c =
-    let named = ap unborrowed_names c.as_slice.ensures.value ∙ c.names_of-names.ensures in
-    λ words says. notes_so _ _ _ _ says (rw (c.requires.asked, named) at c.in_default.ensures.asked)
-    c.carry_out-answer.ensures.told

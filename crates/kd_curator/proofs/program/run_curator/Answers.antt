@@ -2,8 +2,7 @@ use Rattle.std.specs.Prelude.{unwrap_or}
 use Rattle.std.proofs.Common.{[], ap, inl, inr, map, option_map, refl, sym, ◌∙◌, Bor, List, ℕ}
 use Rattle.kd_curator_command.specs.CommandLine.{unborrowed_names}
 use Rattle.kd_curator.specs.OutputFile.{ToFile, ToSink}
-use Rattle.kd_curator.specs.Program.{NoNotes}
-use Rattle.kd_curator.proofs.OutputFiles.{other_carried}
+use Rattle.kd_curator.proofs.OutputFiles.{lacking, other_carried}
 use Rattle.kd_curator.proofs.Runs.{left_alone}
 use Rattle.kd_curator.proofs.program.run_curator.Goals as goal
 
@@ -31,25 +30,27 @@ returns-in-Err g c =
     let taken = g.W.Sink.taken in
     let has_failed = g.W.Sink.has_failed in
     let new = c.answer_other_words-answer.new.sink in
+    let lacks = lacking words _ _ c.requires (other.why words c.in-Err.ensures.none) in
     ToSink (record {
       left = [];
       answer = c.answer_other_words-answer.result;
       told = g.E.Sink.taken c.args.errors.now;
       failed = g.E.Sink.has_failed c.args.errors.now;
       names = [];
-      language = c.args.language;
+      language = c.language_without_command-language.result;
       is_so = (
-        inr (other.why words c.in-Err.ensures.none),
+        inr lacks,
         record {
           carried = other_carried c.args.language words (g.F.Files.known c.args.files.now) (g.F.Files.asked c.args.files.now)
-              (taken c.args.sink) (taken new) (has_failed c.args.sink) (has_failed new) c.answer_other_words-answer.result
-              c.requires (other.carried c.args.language words (g.F.Files.known c.args.files.now) c.in-Err.ensures.none);
+              (taken c.args.sink) (taken new) (has_failed c.args.sink) (has_failed new) _
+              c.answer_other_words-answer.result c.requires
+              (other.carried c.args.language words (g.F.Files.known c.args.files.now) _ (left_alone _ _)
+              c.in-Err.ensures.none);
           untouched = other.untouched;
           failed = other.failed;
-          noted = NoNotes (left_alone _ _);
         },
       );
       named = inr other.nothing;
-      spoken = inr (other.why words c.in-Err.ensures.none, refl);
+      spoken = inr (lacks, c.language_without_command-language.ensures);
       ends = c.end_program.ensures;
     }) refl

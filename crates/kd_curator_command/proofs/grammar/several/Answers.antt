@@ -8,7 +8,11 @@ required_rule rule = record rule { required = true }
 abbrev append_rule : Rule → Rule
 append_rule rule = record rule { action = Some Append }
 
+abbrev named_rule : Rule → Rule
+named_rule rule = record rule { value_names = 1 }
+
 pub returns-clause-rule : goal.returns-clause-rule
 returns-clause-rule c =
-    ap rule_of c.help.ensures ∙ ap rule_of c.action.ensures
-    ∙ ap append_rule (ap rule_of c.required.ensures ∙ ap required_rule c.new.ensures.rule)
+    ap rule_of c.help.ensures ∙ ap rule_of c.value_name.ensures
+    ∙ ap named_rule (ap rule_of c.action.ensures
+    ∙ ap append_rule (ap rule_of c.required.ensures ∙ ap required_rule c.new.ensures.rule))
