@@ -396,9 +396,9 @@ HasNoCommand words NoMemory = Unit {0}
 
 -- the rule for an argument that has the name `name` and the given sort
 abbrev pub rule_of_sort : List ℕ → ArgumentSort → Rule
-rule_of_sort name (sorts.Needed value) = needed name
-rule_of_sort name (sorts.Several value) = several name
-rule_of_sort name (sorts.Optional value) = optional name
+rule_of_sort name sorts.Needed = needed name
+rule_of_sort name sorts.Several = several name
+rule_of_sort name sorts.Optional = optional name
 rule_of_sort name (sorts.Valued value) = option_rule name
 rule_of_sort name (sorts.Lettered letter value) = lettered name letter
 rule_of_sort name sorts.Flag = flag name

@@ -5,28 +5,27 @@ ghost use Rattle.kd_curator_command.specs.CommandLine.{IsMadeOf, curator_grammar
 ghost use Rattle.kd_curator_command.specs.CommandLine.{optional, program_alone, rule_of_argument, several, shape_of};
 ghost use Rattle.kd_curator_command.specs.CommandLine.{with_commands};
 
+use crate::texts::VALUE_NAMES;
 use clap::{Arg, ArgAction, Command as Grammar};
-use kd_language::{Text, Wording};
+use kd_language::{Language, Text, Wording};
 use std::alloc::{AllocError, Global};
 
 /// The version that `--version` shows.
 const VERSION: &str = "1.0";
 
 /// The sort of an argument, which says how the argument is given on the command line.
-///
-/// A sort with a value has the value's name in help and errors, such as `DAY`.
 #[derive(Clone, Copy)]
-pub(crate) enum ArgumentSort {
+pub(crate) enum ArgumentSort<'a> {
     /// An argument that has to be given.
-    Needed(Text),
+    Needed,
     /// An argument that has to be given, and may have several values.
-    Several(Text),
+    Several,
     /// An argument that may be left out.
-    Optional(Text),
-    /// An option with a value.
-    Valued(Text),
-    /// An option of one letter, with a value.
-    Lettered(char, Text),
+    Optional,
+    /// An option with a value. The string is the value's name in English.
+    Valued(&'a str),
+    /// An option of one letter, with a value. The string is the value's name in English.
+    Lettered(char, &'a str),
     /// An option that takes no value.
     Flag,
 }
@@ -35,7 +34,7 @@ pub(crate) enum ArgumentSort {
 #[derive(Clone, Copy)]
 pub(crate) struct Argument<'a> {
     pub(crate) name: &'a str,
-    pub(crate) sort: ArgumentSort,
+    pub(crate) sort: ArgumentSort<'a>,
     /// What the help text says about the argument.
     pub(crate) help: Text,
 }
@@ -51,25 +50,25 @@ pub(crate) struct CommandWords<'a> {
 
 const MACHINE: Argument<'static> = Argument {
     name: "MACHINE",
-    sort: ArgumentSort::Needed(("MACHINE", "MASCHINE")),
+    sort: ArgumentSort::Needed,
     help: ("The machine file", "Die Maschinendatei"),
 };
 
 const SHEET: Argument<'static> = Argument {
     name: "SHEET",
-    sort: ArgumentSort::Needed(("SHEET", "TAFEL")),
+    sort: ArgumentSort::Needed,
     help: ("The key sheet", "Die Schlüsseltafel"),
 };
 
 const DAY: Argument<'static> = Argument {
     name: "DAY",
-    sort: ArgumentSort::Needed(("DAY", "TAG")),
+    sort: ArgumentSort::Needed,
     help: ("The day, from 1 to 31", "Der Tag, von 1 bis 31"),
 };
 
 const LANGUAGE: Argument<'static> = Argument {
     name: "in",
-    sort: ArgumentSort::Valued(("LANGUAGE", "SPRACHE")),
+    sort: ArgumentSort::Valued("LANGUAGE"),
     help: (
         "The language of the words, de or en; without it, that of the environment's LANG",
         "Die Sprache aller Texte, de oder en; ohne die Option gilt die Umgebungsvariable LANG",
@@ -78,7 +77,7 @@ const LANGUAGE: Argument<'static> = Argument {
 
 const OUTPUT: Argument<'static> = Argument {
     name: "output",
-    sort: ArgumentSort::Lettered('o', ("FILE", "DATEI")),
+    sort: ArgumentSort::Lettered('o', "FILE"),
     help: (
         "Writes the new file FILE, whole or not at all, and no standard output",
         "Schreibt die neue Datei DATEI, ganz oder gar nicht, und nichts auf die Standardausgabe",
@@ -107,7 +106,7 @@ static COMMANDS: [CommandWords; 8] = [
             SHEET,
             Argument {
                 name: "DAYS",
-                sort: ArgumentSort::Optional(("DAYS", "TAGE")),
+                sort: ArgumentSort::Optional,
                 help: (
                     "The days, such as 2, 1-31 or 1,4,2; without it, all days for the machine's model",
                     "Die Tage, etwa 2, 1-31 oder 1,4,2; ohne Angabe alle Tage für das Modell der Maschine",
@@ -137,7 +136,7 @@ static COMMANDS: [CommandWords; 8] = [
             DAY,
             Argument {
                 name: "ORDER",
-                sort: ArgumentSort::Several(("ORDER", "AUFTRAG")),
+                sort: ArgumentSort::Several,
                 help: (
                     "The order, as desk send takes it; or up to 32 orders, one page after another",
                     "Der Auftrag, wie ihn desk send nimmt; oder bis zu 32 Aufträge, eine Seite nach der anderen",
@@ -160,7 +159,7 @@ static COMMANDS: [CommandWords; 8] = [
             DAY,
             Argument {
                 name: "FORM",
-                sort: ArgumentSort::Needed(("FORM", "FORMULAR")),
+                sort: ArgumentSort::Needed,
                 help: (
                     "The form, with ? for each lost letter",
                     "Das Formular, mit ? für jeden verlorenen Buchstaben",
@@ -208,7 +207,7 @@ static COMMANDS: [CommandWords; 8] = [
         arguments: &[
             Argument {
                 name: "model",
-                sort: ArgumentSort::Valued(("MODEL", "MODELL")),
+                sort: ArgumentSort::Valued("MODEL"),
                 help: (
                     "The model, for a table that has no column model",
                     "Das Modell, für eine Tabelle ohne die Spalte Modell",
@@ -216,7 +215,7 @@ static COMMANDS: [CommandWords; 8] = [
             },
             Argument {
                 name: "reflector",
-                sort: ArgumentSort::Valued(("REFLECTOR", "UMKEHRWALZE")),
+                sort: ArgumentSort::Valued("REFLECTOR"),
                 help: (
                     "The reflector, for days that lack it",
                     "Die Umkehrwalze, für Tage, bei denen sie fehlt",
@@ -224,7 +223,7 @@ static COMMANDS: [CommandWords; 8] = [
             },
             Argument {
                 name: "window",
-                sort: ArgumentSort::Valued(("LETTERS", "BUCHSTABEN")),
+                sort: ArgumentSort::Valued("LETTERS"),
                 help: (
                     "The letters in the windows, for days that lack them",
                     "Die Buchstaben in den Fenstern, für Tage, bei denen sie fehlen",
@@ -232,7 +231,7 @@ static COMMANDS: [CommandWords; 8] = [
             },
             Argument {
                 name: "empty",
-                sort: ArgumentSort::Valued(("MODEL", "MODELL")),
+                sort: ArgumentSort::Valued("MODEL"),
                 help: (
                     "Writes a sheet of this model to fill in; then TABLE is the number of its days",
                     "Schreibt eine Tafel dieses Modells zum Ausfüllen; dann ist TABELLE die Zahl ihrer Tage",
@@ -240,7 +239,7 @@ static COMMANDS: [CommandWords; 8] = [
             },
             Argument {
                 name: "TABLE",
-                sort: ArgumentSort::Needed(("TABLE", "TABELLE")),
+                sort: ArgumentSort::Needed,
                 help: (
                     "The table: CSV, or values separated by semicolons or tabs",
                     "Die Tabelle: CSV, oder Werte mit Semikolons oder Tabulatoren dazwischen",
@@ -259,7 +258,7 @@ static COMMANDS: [CommandWords; 8] = [
         arguments: &[
             Argument {
                 name: "FILE",
-                sort: ArgumentSort::Needed(("FILE", "DATEI")),
+                sort: ArgumentSort::Needed,
                 help: (
                     "A machine file, a key sheet, an order or a form",
                     "Eine Maschinendatei, eine Schlüsseltafel, ein Auftrag oder ein Formular",
@@ -267,12 +266,12 @@ static COMMANDS: [CommandWords; 8] = [
             },
             Argument {
                 name: "FILE2",
-                sort: ArgumentSort::Optional(("FILE2", "DATEI2")),
+                sort: ArgumentSort::Optional,
                 help: ("Another file", "Eine weitere Datei"),
             },
             Argument {
                 name: "FILE3",
-                sort: ArgumentSort::Optional(("FILE3", "DATEI3")),
+                sort: ArgumentSort::Optional,
                 help: ("Another file", "Eine weitere Datei"),
             },
             LANGUAGE,
@@ -343,16 +342,27 @@ fn argument_of<'a>(wording: Wording, argument: &Argument<'a>) -> Arg<'a>
     let Wording { alloc, language } = wording;
     let Argument { name, sort, help } = *argument;
     let help = language.text(help);
+    let value = value_name(language, name);
     match sort {
-        ArgumentSort::Needed(value) => needed(alloc, name, language.text(value), help),
-        ArgumentSort::Several(value) => several(alloc, name, language.text(value), help),
-        ArgumentSort::Optional(value) => optional(alloc, name, language.text(value), help),
-        ArgumentSort::Valued(value) => option(alloc, name, language.text(value), help),
-        ArgumentSort::Lettered(letter, value) => {
-            lettered(alloc, name, letter, language.text(value), help)
+        ArgumentSort::Needed => needed(alloc, name, value, help),
+        ArgumentSort::Several => several(alloc, name, value, help),
+        ArgumentSort::Optional => optional(alloc, name, value, help),
+        ArgumentSort::Valued(english) => option(alloc, name, value_name(language, english), help),
+        ArgumentSort::Lettered(letter, english) => {
+            lettered(alloc, name, letter, value_name(language, english), help)
         }
         ArgumentSort::Flag => flag(alloc, name, help),
     }
+}
+
+/// The name of an argument's value in help and errors, in `language`. `english` is its name in English.
+fn value_name<'a>(language: Language, english: &'a str) -> &'a str {
+    for name in &VALUE_NAMES {
+        if name.0 == english {
+            return language.text(*name);
+        }
+    }
+    english
 }
 
 /// An argument that has to be given. `value` is the value's name in help and errors.

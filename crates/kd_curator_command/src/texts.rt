@@ -37,3 +37,21 @@ pub(crate) const IN_QUOTES: Text = (
 
 /// No hint.
 pub(crate) const NO_HINT: Text = ("", "");
+
+/// The names of arguments' values in help and errors. The first is the name of an argument, or of an option's value.
+pub(crate) const VALUE_NAMES: [Text; 14] = [
+    ("MACHINE", "MASCHINE"),
+    ("SHEET", "TAFEL"),
+    ("DAY", "TAG"),
+    ("DAYS", "TAGE"),
+    ("ORDER", "AUFTRAG"),
+    ("FORM", "FORMULAR"),
+    ("TABLE", "TABELLE"),
+    ("FILE", "DATEI"),
+    ("FILE2", "DATEI2"),
+    ("FILE3", "DATEI3"),
+    ("LANGUAGE", "SPRACHE"),
+    ("MODEL", "MODELL"),
+    ("REFLECTOR", "UMKEHRWALZE"),
+    ("LETTERS", "BUCHSTABEN"),
+];
