@@ -2,6 +2,7 @@ pub mod Blame
 pub mod Ending
 pub mod Files
 pub mod MachineAndSheet
+pub mod Notes
 pub mod OutputFile
 pub mod Program
 pub mod Refusals

@@ -4,6 +4,9 @@ use Rattle.kd_curator.proofs.program.carry_out.Goals as goal
 pub returns-in-Sheet-clause-does : goal.returns-in-Sheet-clause-does
 returns-in-Sheet-clause-does g c = rw c.in-Sheet.is (rw c.text_at-in-Sheet.ensures at c.make_sheet.ensures.sheet)
 
+pub returns-in-Sheet-clause-noted : goal.returns-in-Sheet-clause-noted
+returns-in-Sheet-clause-noted g c = rw c.in-Sheet.is (rw c.text_at-in-Sheet.ensures at c.make_sheet.ensures.noted)
+
 pub returns-in-Sheet-clause-untouched : goal.returns-in-Sheet-clause-untouched
 returns-in-Sheet-clause-untouched g c = not_device _ c.make_sheet.ensures.untouched
 
