@@ -1,7 +1,7 @@
 -- How a command line is carried out.
 use Rattle.std.proofs.Common.{◌≡◌, ◌||◌, ◌≤◌, ℕ, Bool, true, false, List, [], IsErr, IsTrue, Option, Some, None, Result, Ok}
 use Rattle.std.proofs.Common.{Err}
-use Rattle.std.proofs.Common.{◌∷◌, OnErr, inl, refl, arith, ap, subst, sym, ◌∙◌}
+use Rattle.std.proofs.Common.{OnErr, inl, refl, arith, ap, subst, sym, ◌∙◌}
 use Rattle.clap.specs.Words.{Row, subcommand_of}
 use Rattle.kd_tables.specs.declared.model.Model.{Model}
 use Rattle.kd_curator_command.specs.CommandLine.{IsCommandLineOf, IsMeant, NamedCommand, curator_grammar}

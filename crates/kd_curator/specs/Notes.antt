@@ -1,7 +1,7 @@
 -- The notes on standard error, which stand there before the program's answer is known: those of the command `sheet` on
 -- a table, and those of the command `receive` on a form. No other command has notes.
 -- Test: tests/cases/curator-sheet.toml, tests/cases/curator-messages.toml
-use Rattle.std.specs.Prelude.{◌≡◌, ℕ, Bool, false, List, Option, None, Some, Result, Ok, Err, IsErr}
+use Rattle.std.specs.Prelude.{◌≡◌, ℕ, false, List, Option, None, Some, Result, Ok, Err, IsErr}
 use Rattle.kd_tables.specs.Ports.{Port}
 use Rattle.kd_tables.specs.declared.direction.Direction.{Direction}
 use Rattle.kd_tables.specs.declared.direction.Direction.TheVariants.{Receive, Send}
@@ -13,7 +13,6 @@ use Rattle.kd_spreadsheet.specs.declared.fault.SpreadsheetFault.{SpreadsheetFaul
 use Rattle.kd_spreadsheet.specs.declared.fault.SpreadsheetFault.TheVariants as spreadsheets
 use Rattle.kd_curator_command.specs.CommandLine.{NamedCommand}
 use Rattle.kd_curator_command.specs.declared.command.Command.TheVariants as commands
-use Rattle.kd_curator_command.specs.declared.command.MessageTask.{MessageTask}
 use Rattle.kd_curator.specs.Files.{text_at}
 use Rattle.kd_curator.specs.MachineAndSheet.{IsAnswerOnSheet}
 use Rattle.kd_curator.specs.Refusals.{has_written}

@@ -1,7 +1,7 @@
 -- The program: which command the words mean, which files are read, and what is written.
 -- Code: `run_curator` parses the words; `run_command` reads the files, and carries out the command.
 -- Test: tests/cases/curator-pages.toml
-use Rattle.std.specs.Prelude.{◌≡◌, ◌⊎◌, ◌+◌, ◌≤◌, ◌||◌, not, ℕ, Bool, true, false, List, [], ◌∷◌, drop, length, Option, None, IfSome}
+use Rattle.std.specs.Prelude.{◌≡◌, ◌⊎◌, ◌+◌, ◌≤◌, ◌||◌, not, ℕ, Bool, true, false, List, [], drop, length, Option, None, IfSome}
 use Rattle.std.specs.Prelude.{Result, Ok, Err, IsTrue}
 use Rattle.std.specs.Io.KnownBytes.{append_known}
 use Rattle.clap.specs.Words.{IsAmong, fault_of}
@@ -13,7 +13,6 @@ use Rattle.kd_host.specs.Files.{AreAskedFor, AskedName}
 use Rattle.kd_host.specs.Writing.{WritesText}
 use Rattle.kd_new_file.specs.declared.why_unread.WhyUnread.{WhyUnread}
 use Rattle.kd_spreadsheet.specs.EmptySheet.{empty_month_text}
-use Rattle.kd_spreadsheet.specs.Options.{OptionTexts}
 use Rattle.kd_state.specs.Machine.{model_of}
 use Rattle.kd_tables.specs.Ports.{Port}
 use Rattle.kd_curator_command.specs.CommandLine.{AsksForHelp, IsCommandLineOf, IsNoCommandLine, NamedCommand}

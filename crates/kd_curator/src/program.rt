@@ -4,7 +4,7 @@ ghost use Rattle.std.specs.Prelude.{Option, None, Some};
 ghost use Rattle.std.specs.Io.KnownBytes.{Keeps, append_known};
 ghost use Rattle.kd_tables.specs.Ports.{Port, port};
 ghost use Rattle.kd_host.specs.Writing.{WritesText};
-ghost use Rattle.kd_curator_command.specs.CommandLine.{HasNoCommand, IsCommandLineOf, output_of, unborrowed_command};
+ghost use Rattle.kd_curator_command.specs.CommandLine.{HasNoCommand, output_of, unborrowed_command};
 ghost use Rattle.kd_language.specs.declared.language.Language.{Language};
 ghost use Rattle.kd_new_file.specs.NewFiles.{AddsFile, FilesByName};
 ghost use Rattle.kd_curator.specs.OutputFile.{EndsAtSink, EndsFile, EndsWithFile, IsMeantBySome, IsMeantIn, RunsTo};

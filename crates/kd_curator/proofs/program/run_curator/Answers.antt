@@ -1,6 +1,5 @@
 use Rattle.std.specs.Prelude.{unwrap_or}
-use Rattle.std.proofs.Common.{[], ap, inl, inr, map, option_map, refl, sym, ◌∙◌, Bor, List, ℕ}
-use Rattle.kd_curator_command.specs.CommandLine.{unborrowed_names}
+use Rattle.std.proofs.Common.{[], ap, inr, map, option_map, refl, sym, ◌∙◌, Bor, List, ℕ}
 use Rattle.kd_curator.specs.OutputFile.{ToFile, ToSink}
 use Rattle.kd_curator.proofs.OutputFiles.{lacking, other_carried}
 use Rattle.kd_curator.proofs.Runs.{left_alone}
