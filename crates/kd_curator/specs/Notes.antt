@@ -1,5 +1,5 @@
--- The notes on standard error, which stand there before the program's answer is known: those of the command `sheet` on
--- a table, and those of the command `receive` on a form. No other command has notes.
+-- The notes on standard error, which are written before the program's answer is known. The command `sheet` writes notes
+-- on a table, and the command `receive` on a form. No other command writes notes.
 -- Test: tests/cases/curator-sheet.toml, tests/cases/curator-messages.toml
 use Rattle.std.specs.Prelude.{◌≡◌, ℕ, false, List, Option, None, Some, Result, Ok, Err, IsErr}
 use Rattle.kd_tables.specs.Ports.{Port}
@@ -28,7 +28,7 @@ pub record IsLeftAlone (p : Port) : Type 0 where
 
 -- ---- On a table.
 
--- the table's fault that leads to the refusal's fault; `None` if there is no such fault
+-- why a table is refused, from the fault in the refusal; `None` if the refusal has another reason
 abbrev pub noted_fault_for : PageFault → Option SpreadsheetFault
 noted_fault_for faults.FaultyTable = Some spreadsheets.Refused
 noted_fault_for (faults.File fault) = Some spreadsheets.NoMemory
