@@ -342,22 +342,25 @@ fn argument_of<'a>(wording: Wording, argument: &Argument<'a>) -> Arg<'a>
     let Wording { alloc, language } = wording;
     let Argument { name, sort, help } = *argument;
     let help = language.text(help);
-    let value = value_name(language, name);
+    let english = match sort {
+        ArgumentSort::Valued(value) | ArgumentSort::Lettered(_, value) => value,
+        _ => name,
+    };
+    let value = value_name(&VALUE_NAMES, language, english);
     match sort {
         ArgumentSort::Needed => needed(alloc, name, value, help),
         ArgumentSort::Several => several(alloc, name, value, help),
         ArgumentSort::Optional => optional(alloc, name, value, help),
-        ArgumentSort::Valued(english) => option(alloc, name, value_name(language, english), help),
-        ArgumentSort::Lettered(letter, english) => {
-            lettered(alloc, name, letter, value_name(language, english), help)
-        }
+        ArgumentSort::Valued(_) => option(alloc, name, value, help),
+        ArgumentSort::Lettered(letter, _) => lettered(alloc, name, letter, value, help),
         ArgumentSort::Flag => flag(alloc, name, help),
     }
 }
 
-/// The name of an argument's value in help and errors, in `language`. `english` is its name in English.
-fn value_name<'a>(language: Language, english: &'a str) -> &'a str {
-    for name in &VALUE_NAMES {
+/// The name of an argument's value in help and errors, in `language`. `english` is its name in English. `names` has the
+/// names in both languages.
+fn value_name<'a>(names: &[Text], language: Language, english: &'a str) -> &'a str {
+    for name in names {
         if name.0 == english {
             return language.text(*name);
         }
