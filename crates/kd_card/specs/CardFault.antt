@@ -156,7 +156,7 @@ last_of last (kind ∷ kinds) = last_of (Some kind) kinds
 
 -- `bytes` begin with the lines of `kinds`, and `rest` follows these lines. The kinds are valid and strictly ascending.
 -- If there is a kind `last`, all of them come after `last`. No further kind can be read: `rest` doesn't begin with the
--- line of a valid kind that comes after all of them.
+-- line of a valid kind that comes after `last` and after all of them.
 pub record BeginsWithKinds {K X : Type 0} (format : KindFormat K X) (last : Option K) (bytes : List ℕ) (kinds : List K)
     (rest : List ℕ) : Type 0 where
   pub lines : bytes ≡ kinds_text format kinds ++ rest

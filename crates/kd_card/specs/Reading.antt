@@ -23,7 +23,7 @@ head_prefix ByNumber = codes "CARD 1 DAY "
 head_prefix ByKind = codes "CARD 2 DAY "
 
 -- The first line of `bytes`, which is line `line` of the card, isn't a price line with the first word `word`. The fault
--- is `fault`, whatever number of prices the line should have.
+-- is `fault`, whatever number of prices (at least one) the line should have.
 abbrev pub IsNoPriceLine : List ℕ → ℕ → List ℕ → CardFault → Type 0
 IsNoPriceLine word line bytes fault =
     (number : ℕ) → 0 < number → IsPriceLineAnswer word number line bytes (Err fault)

@@ -78,7 +78,8 @@ fn read_day(text: &[u8], version: Version) -> Option<(u8, &[u8])>
 
 /// Checks the first line of `text`, which is line `line` of the card. Returns the text after this line.
 ///
-/// In the line `SUM 12`, `prefix` is `SUM ` and `due` is `12`. If `signed`, the number may be negative.
+/// The line has to be `prefix` and then the number `due`: in `SUM 12`, these are `SUM ` and `12`. If `signed`, the
+/// number may be negative.
 fn read_value<'a>(
     text: &'a [u8],
     prefix: &str,

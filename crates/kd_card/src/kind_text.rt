@@ -49,7 +49,8 @@ fn kind_of_parts<K: Kind>(key: &[u8], count: &[u8], price: &[u8]) -> Option<K>
 ///
 /// - `None`: the group ends. `text` is empty, or its first line ends with LF and has another first word than
 ///   `K::word()`.
-/// - `BadLine(line)`: the line has no LF, or begins with `K::word()` but isn't the line of a valid kind after `last`.
+/// - `BadLine(line)`: the line has no LF, or has the first word `K::word()` but isn't the line of a valid kind after
+///   `last`.
 fn next_kind<K: Kind>(
     text: &[u8],
     last: Option<K>,

@@ -216,8 +216,8 @@ abbrev pub LacksCommand : List (List ℕ) → List AskedName → Result (Unit {0
 LacksCommand words asked answer = (asked ≡ []) × (IsNoCommandLine words ⊎ (answer ≡ Err memory_stop))
 
 -- `language` is the language of the program's answer on standard error, on a computer with the language `l`. Either the
--- words mean a command, and the language is that of the command line. Or no command is known, and the language is that
--- of help.
+-- words mean a command, and the language is that of the command line. Or no command is known, and the language is the
+-- one that the first option `--in` names, otherwise `l`.
 abbrev pub IsLanguageFor : Language → List (List ℕ) → List AskedName → Result (Unit {0}) Stop → Language → Type 0
 IsLanguageFor l words asked answer language =
     ((command : NamedCommand) × IsCommandLineOf words command × (language ≡ chosen_language l words))

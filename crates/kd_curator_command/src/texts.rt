@@ -38,7 +38,8 @@ pub(crate) const IN_QUOTES: Text = (
 /// No hint.
 pub(crate) const NO_HINT: Text = ("", "");
 
-/// The names of arguments' values in help and errors. The first is the name of an argument, or of an option's value.
+/// The names of arguments' values in help and errors. The first text of a pair is the name of an argument, or the
+/// English name of an option's value.
 pub(crate) const VALUE_NAMES: [Text; 14] = [
     ("MACHINE", "MASCHINE"),
     ("SHEET", "TAFEL"),

@@ -1,4 +1,4 @@
-//! Permutations of the alphabet, each in a vector of 32 bytes. One processor instruction composes two of them.
+//! Permutations of the alphabet, each in a vector of 32 bytes. One shuffle of bytes composes two of them.
 ghost use Rattle.std.specs.Prelude.{◌≡◌, ◌<◌, ◌≤◌, nat_lt, slice_index, if◌then◌else◌};
 ghost use Rattle.kd_tables.specs.Permutation.{followed_by, shift};
 

@@ -68,7 +68,7 @@ IsFormReadTo s Holds form text =
 -- The answer for a whole form whose parts before `p` have no fault:
 -- - If parts are left, the first of them has a fault, and `answer` is this fault.
 -- - If no parts are left, `answer` is success if the form has as many parts as its headings say. Otherwise, it is
--- `PartOrder`.
+--   `PartOrder`.
 abbrev pub IsAnswerAt : Day → Result (Unit {0}) FormFault → PartsProperty
 IsAnswerAt s answer p [] = (count : ℕ) × (p.expected ≡ Some count) × Demands (p.number ≡ count + 1) PartOrder answer
 IsAnswerAt s answer p (part ∷ parts) = (fault : FormFault) × IsPartAnswer s p part (Err fault) × (answer ≡ Err fault)

@@ -25,7 +25,7 @@ IsFaultOrNoMemory is_fault takes_memory fault = (takes_memory × (fault ≡ NoMe
 -- The answer of a call that needs the machine `m` on the key of the day `s`:
 -- - `OffKey`: the machine isn't ready, or isn't on the key. The answer is `NotReady` or `NotOnKey`.
 -- - `WithKey`: the machine is ready and on the key. The answer is a result that satisfies `is_due`, or a fault that
--- satisfies `IsFaultOrNoMemory`.
+--   satisfies `IsFaultOrNoMemory`.
 pub data IsAnswerOnKey {X : Type 0} (m : Parts) (s : Day) (is_due : X → Type 0) (is_fault : FormFault → Type 0)
     (takes_memory : Type 0) (answer : Result X FormFault) : Type 0 where
   OffKey : (fault : FormFault) → IsKeyFault m s fault → answer ≡ Err fault

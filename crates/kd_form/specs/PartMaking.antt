@@ -1,4 +1,4 @@
--- How a part is made on a machine that is set as the day says, and how many letters a part can have.
+-- How a part is made on a machine that is set as the day says, and how many letters of text a part can have.
 -- Code: `DayMachine` has one engine, and sets its windows anew for each text.
 use Rattle.std.specs.Prelude.{◌≡◌, ℕ, ◌-◌, ◌%◌, List, [], ◌∷◌, ◌++◌, length, Option, Some, None, replicate}
 use Rattle.kd_state.specs.SheetDay.{Day, Rotor, Pin, AreADaysGroup}

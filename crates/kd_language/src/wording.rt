@@ -16,8 +16,8 @@ pub struct Wording {
 }
 
 impl Wording {
-    /// A copy of `text` in this language, with values in place of its signs `~`: the first value for the first sign,
-    /// and so on.
+    /// A copy of `text` in the wording's language, with values in place of its signs `~`: the first value for the first
+    /// sign, and so on.
     pub fn fill(self, text: Text, values: &[&str]) -> Result<String, AllocError>
         ensures { IfOk result (λ words. string_bytes words
             ≡ filled (in_language self.language text.entry.0.now text.entry.1.now)

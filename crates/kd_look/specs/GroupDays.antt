@@ -1,4 +1,5 @@
--- The lines that say which days of key sheets have the groups of orders and forms.
+-- The lines that say which days of key sheets have the groups of orders and forms. Only days for a machine that the
+-- message can be for are named.
 -- Test: tests/cases/curator-look.toml
 use Rattle.std.specs.Prelude.{ℕ, ◌==◌, ◌++◌, ◌&&◌, Bool, false, List, [], ◌∷◌, count_by, decimal, Option, Some, None}
 use Rattle.std.specs.List.{enumerate_from, filter, flat_map, list_all, list_any, range_with_len}
@@ -68,8 +69,8 @@ unfoldable pub group_day_line : Language → GroupSearch → ℕ → List ℕ �
 group_day_line l search part group day =
     filled (text_in l texts.GROUP_DAY) (search.name ∷ decimal part ∷ group ∷ decimal day ∷ search.sheet ∷ [])
 
--- the warning that no day for the message's machine has the group of part `part`; `group` is the group in capital
--- letters
+-- the warning that no day of the sheet for the message's machine has the group of part `part`; `group` is the group in
+-- capital letters
 unfoldable pub no_group_line : Language → GroupSearch → ℕ → List ℕ → List ℕ
 no_group_line l search part group =
     filled (text_in l texts.NO_GROUP) (search.name ∷ decimal part ∷ search.sheet ∷ group ∷ [])

@@ -28,8 +28,8 @@ end_of_line text index =
     then (if fits_at text 10 (index + 1) then Ok (index + 2) else Err (record { index = index + 1; mark = 10 }))
     else Err (record { index = index; mark = 10 })
 
--- Compares the bytes from `index` on with the pattern `marks`. The result is the index after these bytes, or the first
--- byte that doesn't fit.
+-- Compares the bytes from `index` on with the pattern `marks`. The result is the index after the bytes that fit, or the
+-- first byte that doesn't fit.
 abbrev pub marks_end : List ℕ → List ℕ → ℕ → Result ℕ WrongByte
 marks_end text [] index = Ok index
 marks_end text (mark ∷ marks) index =

@@ -233,7 +233,7 @@ fn push_day(
     )
 }
 
-/// Appends the warning that no day for the message's machine has the group of part `part`.
+/// Appends the warning that no day of the sheet for the message's machine has the group of part `part`.
 ///
 /// `group` is the group in capital letters.
 #[tactic(auto, unfolding(crate::specs::GroupDays::no_group_line))]

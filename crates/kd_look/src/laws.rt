@@ -66,7 +66,7 @@ pub fn messages_are_taken_for_their_machine()
     ensures forms { FormsAreForTheirMachine }
 {}
 
-/// This crate tells forms from orders: a form is a text that begins as a heading line does.
+/// This crate finds that a text is a form exactly if the text begins as a heading line does.
 ///
 /// If `send` makes a form of an order, this crate finds that the order is an order.
 pub fn messages_are_taken_for_their_kind()

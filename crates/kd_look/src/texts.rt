@@ -121,7 +121,8 @@ pub const NO_GROUP: Text = (
     "~: Warnung: Teil ~: in ~ hat kein Tag für eine solche Maschine die Kenngruppe ~\n",
 );
 
-/// What is wrong with an order or a form: this text, and the texts after it. Each is named after a `Reason`.
+/// What is wrong with an order or a form: this text, and the texts after it up to `BODY_COUNT`. Each is named after a
+/// `Reason`.
 pub const ORDER_ENDS: Text = (
     "the order ends before its text; above the text stands the line `TEXT`",
     "der Auftrag endet vor seinem Text; über dem Text steht die Zeile `TEXT`",

@@ -121,7 +121,7 @@ AreReadWith s copies form reads = AreReadOf s (completed_parts copies 0 (damaged
 
 -- `parts` are the parts of the form. First, each part is read alone. If all parts are of one message, each part is read
 -- again, with letters from its copies in place of lost letters. The second reading counts only if each part keeps its
--- number and its letters. Otherwise `parts` come from the first reading.
+-- numbers and its letters. Otherwise `parts` come from the first reading.
 pub record AreFormParts (s : Day) (form : List ℕ) (parts : List DamagedPart) : Type 0 where
   pub alone : List DamagedPart
   pub read : AreReadOf s (damaged_parts_of form) alone

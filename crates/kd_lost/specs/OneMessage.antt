@@ -77,7 +77,7 @@ signs_agree (sign ∷ one) (again ∷ other) = sign_agrees sign again && signs_a
 signs_agree [] other = true
 signs_agree (sign ∷ one) [] = true
 
--- whether two headings may have the same keys: at each place of the keys, the signs are equal or one is lost
+-- whether two headings may have the same keys: at each place that both keys have, the signs are equal or one is lost
 abbrev pub keys_agree : DamagedPart → DamagedPart → Bool
 keys_agree one other = signs_agree (key_signs one.heading.bytes) (key_signs other.heading.bytes)
 

@@ -103,7 +103,7 @@ fn count_signs(heading: &[u8]) -> &[u8]
     first_word(later_words(later_words(heading)))
 }
 
-/// Whether two headings may have the same keys: at each place of the keys, the signs are equal or one is lost.
+/// Whether two headings may have the same keys: at each place that both keys have, the signs are equal or one is lost.
 fn keys_agree(one: &DamagedPart, other: &DamagedPart) -> bool
     ensures { result ≡ keys_agree one.now other.now }
 {

@@ -59,7 +59,7 @@ fn line_after(line: usize, byte: u8) -> usize
     if byte == b'\n' { line + 1 } else { line }
 }
 
-/// The place of a letter that follows `byte`, counted from 1 among the letters of its line.
+/// The place of a letter just after `byte`, counted from 1 among the letters of its line.
 ///
 /// A letter instead of `byte` would have the place `letter`.
 fn letter_after(letter: usize, byte: u8) -> usize

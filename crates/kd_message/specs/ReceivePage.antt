@@ -123,7 +123,8 @@ number_or before (Some numbers) = numbers.part
 number_or before None = before
 
 -- What section `section` has for some unnumbered parts of a list: for each of them, the last numbered part before it
--- has the number `after`. `before` is the number of the last numbered part before the list.
+-- has the number `after`. If `after` is 0, no numbered part stands before them. `before` is the number of the last
+-- numbered part before the list; 0 if there is none.
 abbrev pub lone_after : Section → Language → Day → ℕ → ℕ → List DamagedPart → List ℕ
 lone_after section l s after before [] = []
 lone_after section l s after before (part ∷ parts) =
@@ -144,7 +145,8 @@ number_in section l s parts number =
     ++ lone_after section l s number 0 parts
 
 -- What section `section` has for the parts of one message, in the order of their numbers. First come the unnumbered
--- parts at the beginning of the form. Each numbered part is followed by the unnumbered parts that came after it.
+-- parts at the beginning of the form. After each numbered part stand the unnumbered parts that came between it and the
+-- next numbered part.
 abbrev pub by_number : Section → Language → Day → List DamagedPart → List ℕ
 by_number section l s parts =
     lone_after section l s 0 0 parts ++ flat_map (number_in section l s parts) (range_with_len 1 (total_of parts))

@@ -11,7 +11,7 @@ pub fn rows_are_enciphered()
     ensures { RowsAreEnciphered }
 {}
 
-/// A received part's sheet has the plaintext below the line to write on, and the ciphertext above it.
+/// On a received part's sheet, the letters below the line to write on are the plaintext of those above it.
 ///
 /// For lost letters, the operator may press any keys.
 pub fn rows_are_deciphered()
@@ -23,7 +23,7 @@ pub fn templates_take_their_values()
     ensures { TemplatesTakeTheirValues }
 {}
 
-/// A form that `desk receive` reads is shown as one whole message, with the same text.
+/// A form that `desk receive` reads is shown as one whole message, with the text that `desk receive` gives.
 pub fn forms_read_are_whole()
     ensures { FormsReadAreWhole }
 {}

@@ -180,8 +180,8 @@ struct PageSection {
 
 /// Writes what the section has for the parts of one message, in the order of their numbers.
 ///
-/// First come the unnumbered parts at the beginning of the form. Each numbered part is followed by the unnumbered parts
-/// that came after it.
+/// First come the unnumbered parts at the beginning of the form. After each numbered part stand the unnumbered parts
+/// that came between it and the next numbered part.
 fn draw_by_number<W: Sink>(sink: &mut W, page: PageSection, day: &SheetDay, parts: &[DamagedPart])
     requires { AreWorkable day.now parts.now }
     ensures { Draws W.taken W.has_failed sink.old sink.new
@@ -258,8 +258,8 @@ fn draw_shown<W: Sink>(
 
 /// Writes what the section has for some unnumbered parts of the list `parts`.
 ///
-/// For each of these parts, the last numbered part before it has the number `after`. `before` is the number of the last
-/// numbered part before the list.
+/// For each of these parts, the last numbered part before it has the number `after`. If `after` is 0, no numbered part
+/// stands before them. `before` is the number of the last numbered part before the list; 0 if there is none.
 fn draw_lone_after<W: Sink>(
     sink: &mut W,
     page: PageSection,

@@ -345,8 +345,8 @@ pub const FORM_GROUP: &str = "<span>";
 
 pub const FORM_GROUP_END: &str = "</span>";
 
-/// The note below a rotor machine's message part: which group has the fillers. `FORM_PIN_NOTE` is for a Converter:
-/// which groups are indicators.
+/// The note below a rotor machine's message part: group 1 has two fillers, then the group of the day. `FORM_PIN_NOTE`
+/// is for a Converter: which groups are indicators.
 pub const FORM_ROTOR_NOTE: Text = (
     "</div>\n<p class=note>Group 1: two fillers, then the group of the day.</p>\n</section>\n",
     "</div>\n<p class=note>Gruppe 1: zwei Füllbuchstaben, dann die Kenngruppe des Tages.</p>\n</section>\n",
@@ -387,7 +387,8 @@ pub const ORDER_NAME_END: &str = "</h1>\n";
 // ---- What is told on standard error.
 
 /// The start of a note about a part. The values are the part's number and the number of parts. `NOTE_ASK` stands before
-/// the words that say what to ask for. `ASKED_END`, `LINE_END` and `NOTE_END` are ends of notes.
+/// the words that say what to ask for, and `NOTE_END` ends the note. In a note about a part without a number,
+/// `ASKED_END` ends these words, and `LINE_END` ends the note.
 pub const NOTE_PART: Text = ("Part ~ of ~: ", "Teil ~ von ~: ");
 
 pub const NOTE_ASK: Text = (" Ask for ", " Wiederholen lassen: ");

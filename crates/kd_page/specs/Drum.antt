@@ -25,8 +25,8 @@ use Rattle.kd_pictures.specs.Words.{mark_text}
 abbrev pub has_lug : Place × Place → Place → Bool
 has_lug bar place = is_same_place bar.0 place || is_same_place bar.1 place
 
--- The mark of a place on a bar: a lug stays there, leaves, or comes. No mark if the place has no lug. The arguments say
--- whether the place has a lug before the settings, and whether it has one after them.
+-- The mark of a place on a bar: a lug stays there, leaves, or comes. No mark if the place has no lug before and none
+-- after the settings. The arguments say whether it has a lug before the settings, and whether it has one after them.
 abbrev pub cell_mark : Bool → Bool → Option Mark
 cell_mark true true = Some LugStays
 cell_mark true false = Some LugLeaves

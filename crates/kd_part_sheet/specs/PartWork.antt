@@ -13,9 +13,10 @@ use Rattle.kd_form.specs.PartMaking.{cipher_from, enciphered_choice, fill_last_g
 use Rattle.kd_part_sheet.specs.declared.cells.Cell.{Cell}
 use Rattle.kd_part_sheet.specs.Cells.{choice_cells, copied, pressed_cells}
 
--- The letters on the sheet of a part. The operator first sets the letters `ground`, and presses the letters in `key` to
--- find the message key or the internal key. Before the text, the operator sets the letters `start`. `body` has the
--- letters of the body.
+-- The letters on the sheet of a part. The operator first sets the letters `ground`, and presses the letters in `key`.
+-- This gives the internal key on a Converter. On a rotor machine, it gives the enciphered key of a part to send, or the
+-- message key of a received part. Before the text, the operator sets the letters `start`. `body` has the letters of
+-- the body.
 pub record Work : Type 0 where
   pub ground : List ℕ
   pub key : List Cell

@@ -125,9 +125,10 @@ pub struct Warnings {
     pub not_tested: bool,
 }
 
-/// Writes the warnings that apply.
+/// Writes those of three warnings that apply.
 ///
-/// There are three: copies of the indicators have lost letters, the form is of another day, its day can't be tested.
+/// They are: copies of the indicators have lost letters, the form is of another day, its day can't be tested.
+/// `letters_lost` isn't among them.
 pub fn draw_warnings<W: Sink>(sink: &mut W, language: Language, sheet: Sheet, warnings: Warnings)
     ensures { Draws W.taken W.has_failed sink.old sink.new
         (warnings_text language sheet warnings) }

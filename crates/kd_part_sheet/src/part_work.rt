@@ -23,7 +23,7 @@ use std::marker::Model;
 pub struct PartWork {
     /// The windows before the letters `key` are pressed: the ground setting, or the external letters.
     pub ground: ArrayVec<Letter, 6>,
-    /// The letters that are pressed to find the message key or the internal key.
+    /// The letters that are pressed to find the enciphered key, the message key, or the internal key.
     pub key: ArrayVec<Cell, 12>,
     /// The windows before the text: the message key, or the internal key.
     pub start: ArrayVec<Letter, 6>,

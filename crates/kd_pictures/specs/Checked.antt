@@ -43,8 +43,8 @@ TemplatesTakeTheirValues =
 abbrev pub Reads : Word → List ℕ → List ℕ → Type 0
 Reads word english german = (word_text English word ≡ english) × (word_text German word ≡ german)
 
--- In both languages, the words that tell an operator what to do are right. Examples are `ON` for a pin, `left lug` for
--- a lug, and `middle` for a slot.
+-- In both languages, these words are right: `ON` and `OFF` for a pin, `left lug` and `right lug`, the names of the
+-- slots, such as `middle`, and `before` and `after` for a picture.
 abbrev pub WordsTellWhatToDo : Type 0
 WordsTellWhatToDo =
     Reads words.On (codes "ON") (codes "EIN") × Reads words.Off (codes "OFF") (codes "AUS")

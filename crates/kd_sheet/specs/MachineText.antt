@@ -32,7 +32,7 @@ array_text texts = codes "[" ++ join_by quoted_text (codes ", ") texts ++ codes 
 abbrev pub key_line : Key → List ℕ → List ℕ
 key_line key value = key_name key ++ codes " = " ++ value ++ codes "\n"
 
--- the version of a machine file with a machine of `model`: the lowest version that has this model
+-- the version in which a machine file of `model` is written: the lowest version that has this model
 abbrev pub file_version : Model → ℕ
 file_version EnigmaI = 1
 file_version M3 = 1

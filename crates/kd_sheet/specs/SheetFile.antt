@@ -25,7 +25,7 @@ use Rattle.kd_sheet.specs.declared.key.Key.TheVariants as keys
 use Rattle.kd_sheet.specs.declared.fault.SheetFault.{SheetFault}
 use Rattle.kd_sheet.specs.declared.fault.SheetFault.TheVariants.{BadValue, DayTwice}
 
--- exactly `count` rings, read from a text of capital letters such as `ABC`, or from an array of numbers such as 1, 2, 3
+-- exactly `count` rings, read from a text of capital letters such as `ABC`, or from an array of numbers, where 1 is A
 abbrev pub rings_of : ℕ → Data → Option (List ℕ)
 rings_of count (string text) = capital_letters (nat_eq count) text
 rings_of count value = option_and_then (letters_of_numbers count) (as_items value)

@@ -1,5 +1,5 @@
 -- How a text from a file is shown in a line. The text stands in backticks. If it is long, or has control characters,
--- only its length in bytes is shown. The file also has the words for models, and for the wheels in their boxes.
+-- only its length in bytes is shown. Below are also the words for models, and for the wheels in their boxes.
 -- Test: tests/cases/curator-look.toml
 use Rattle.std.specs.Prelude.{codes, ℕ, ◌++◌, ◌==◌, ◌&&◌, nat_le, not, Bool, List, [], ◌∷◌, length, decimal, if◌then◌else◌}
 use Rattle.std.specs.List.{list_all}

@@ -219,7 +219,7 @@ fn has_column(options: &TableOptions<&[u8]>, columns: &Columns, cell: Cell) -> b
     is_optional(cell) || has_text(options, columns, cell)
 }
 
-/// Whether the table has the columns of all `cells`, or doesn't need them: they are optional, or options replace them.
+/// Whether, for each of `cells`, the table has the column or doesn't need it: it is optional, or an option replaces it.
 fn has_each_column(options: &TableOptions<&[u8]>, columns: &Columns, cells: &[Cell]) -> bool
     ensures { result ≡ list_all
         (λ cell. is_optional cell || has_text (texts_of options.now) columns.now cell) cells.now }

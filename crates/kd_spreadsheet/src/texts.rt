@@ -120,7 +120,8 @@ pub const IS_NO_DAY: Text = ("~ isn't a day from 1 to 31", "~ ist kein Tag von 1
 
 pub const NO_MODEL: Text = ("there is no model ~", "es gibt kein Modell ~");
 
-/// The words for an unknown reflector. The values are the name of an Enigma's model, and the text of the cell.
+/// The words for a reflector that the model doesn't have. The values are the name of an Enigma's model, and the text of
+/// the cell.
 pub const NO_REFLECTOR: Text = ("~ has no reflector ~", "die ~ hat keine Umkehrwalze ~");
 
 // ---- Letters.

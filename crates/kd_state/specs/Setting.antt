@@ -42,7 +42,7 @@ with_lug Right place bar = (bar.0, place)
 abbrev pub cable_without : ℕ → Option ℕ × Option ℕ → Option ℕ × Option ℕ
 cable_without letter cable = if option_map_or (nat_eq letter) cable.0 false then (cable.1, None) else (cable.0, None)
 
--- `cable` after `letter` is put at its empty end; the letters are then in alphabetical order
+-- `cable` after `letter` is put at an empty end of it; the letters are then in alphabetical order
 abbrev pub cable_with : ℕ → Option ℕ × Option ℕ → Option ℕ × Option ℕ
 cable_with letter cable = cable_in_order (option_or cable.0 cable.1) (Some letter)
 

@@ -1,4 +1,4 @@
--- What the command line says to send or to receive a message: a command's name, and the name of its argument.
+-- For sending and for receiving a message: the name of the command, and the name of its argument for the file.
 -- Test: tests/cases/desk-words.toml, tests/cases/curator-words.toml
 use Rattle.std.specs.Prelude.{codes, ℕ, List}
 use Rattle.kd_tables.specs.declared.direction.Direction.{Direction}

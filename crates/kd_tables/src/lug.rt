@@ -15,7 +15,7 @@ pub enum Lug {
 /// Looks up `$value` in the table of lugs and their names.
 ///
 /// If `$read` is `name_of`, the result is the name of the lug `$value`. If `$read` is `named`, the result is the lug
-/// with the name `$value`.
+/// with the name `$value`, or `None` if there is none.
 macro_rules! names {
     ($read:ident, $value:expr) => {
         $read!($value, {

@@ -46,7 +46,7 @@ pub enum Family {
 /// Looks up `$value` in the table of models and their names.
 ///
 /// If `$read` is `name_of`, the result is the name of the model `$value`. If `$read` is `named`, the result is the
-/// model with the name `$value`.
+/// model with the name `$value`, or `None` if there is none.
 macro_rules! names {
     ($read:ident, $value:expr) => {
         $read!($value, {

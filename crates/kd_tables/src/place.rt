@@ -31,7 +31,7 @@ pub enum Place {
 /// Looks up `$value` in the table of places and their names.
 ///
 /// If `$read` is `name_of`, the result is the name of the place `$value`. If `$read` is `named`, the result is the
-/// place with the name `$value`.
+/// place with the name `$value`, or `None` if there is none.
 macro_rules! names {
     ($read:ident, $value:expr) => {
         $read!($value, {

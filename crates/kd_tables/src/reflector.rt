@@ -23,7 +23,7 @@ pub enum Reflector {
 /// Looks up `$value` in the table of reflectors and their names.
 ///
 /// If `$read` is `name_of`, the result is the name of the reflector `$value`. If `$read` is `named`, the result is the
-/// reflector with the name `$value`.
+/// reflector with the name `$value`, or `None` if there is none.
 macro_rules! names {
     ($read:ident, $value:expr) => {
         $read!($value, {

@@ -46,7 +46,7 @@ macro_rules! wirings {
 /// Looks up `$value` in the table of wheels and their names.
 ///
 /// If `$read` is `name_of`, the result is the name of the wheel `$value`. If `$read` is `named`, the result is the
-/// wheel with the name `$value`.
+/// wheel with the name `$value`, or `None` if there is none.
 macro_rules! names {
     ($read:ident, $value:expr) => {
         $read!($value, {

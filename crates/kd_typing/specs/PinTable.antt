@@ -52,18 +52,18 @@ printed_text table letters (letter ∷ text) =
 
 -- ---- The table of a key.
 
--- Whether wheel `wheel`, from 1 to 6, is in the set of wheels with the number `number`. The number has a binary digit
--- for each wheel. For example, 100001 is the set of the wheels 1 and 6.
+-- Whether wheel `wheel`, from 1 to 6, is in the set of wheels with the number `number`. The number has six binary
+-- digits, for wheels 1 to 6. For example, 110000 is the set of the wheels 1 and 2.
 abbrev pub is_in_row : ℕ → ℕ → Bool
 is_in_row number wheel = (nat_le 1 wheel && nat_le wheel 6) && nat_eq (number / 2 ^ (6 - wheel) % 2) 1
 
--- The number of bars with a lug at some wheel of the set `number`. The set's number has a binary digit for each wheel.
--- For example, 100001 is the set of the wheels 1 and 6.
+-- The number of bars with a lug at some wheel of the set `number`. The set's number has six binary digits, for wheels 1
+-- to 6. For example, 110000 is the set of the wheels 1 and 2.
 abbrev pub bars_met_in_row : List (ℕ × ℕ) → ℕ → ℕ
 bars_met_in_row bars number = count_by (λ bar. is_in_row number bar.0 || is_in_row number bar.1) bars
 
 -- The letters that are printed for A to Z while exactly the wheels of the set `number` have an effective acting pin.
--- The set's number has a binary digit for each wheel. For example, 100001 is the set of the wheels 1 and 6.
+-- The set's number has six binary digits, for wheels 1 to 6. For example, 110000 is the set of the wheels 1 and 2.
 unfoldable pub pin_row : PinKey → ℕ → List ℕ
 pin_row key number = map (λ letter. (25 + bars_met_in_row key.bars number - letter) % 26) alphabet
 

@@ -39,7 +39,7 @@ impl PinRows {
     /// The letters that are printed for A to Z while exactly the wheels of the set `number` have an effective acting
     /// pin.
     ///
-    /// The set's number has a binary digit for each wheel. For example, 100001 is the set of the wheels 1 and 6.
+    /// The set's number has six binary digits, for wheels 1 to 6. For example, 110000 is the set of the wheels 1 and 2.
     pub fn row_at(&self, number: usize) -> [Letter; 26]
         requires { number < 64 }
         ensures { result ≡ pin_row self.now number }
@@ -69,7 +69,7 @@ impl PinRows {
 
 /// The number of bars with a lug at some wheel of the set `number`.
 ///
-/// The set's number has a binary digit for each wheel. For example, 100001 is the set of the wheels 1 and 6.
+/// The set's number has six binary digits, for wheels 1 to 6. For example, 110000 is the set of the wheels 1 and 2.
 fn bars_met(bars: &[Reading; 27], number: usize) -> u8
     ensures value { result ≡ bars_met_in_row bars.now number }
     ensures most { result ≤ 27 }
@@ -85,7 +85,7 @@ fn bars_met(bars: &[Reading; 27], number: usize) -> u8
 
 /// Whether a bar with the reading `bar` has a lug at some wheel of the set `number`.
 ///
-/// The set's number has a binary digit for each wheel. For example, 100001 is the set of the wheels 1 and 6.
+/// The set's number has six binary digits, for wheels 1 to 6. For example, 110000 is the set of the wheels 1 and 2.
 fn is_met(bar: Reading, number: usize) -> bool
     ensures { result ≡ (is_in_row number bar.0 || is_in_row number bar.1) }
 {
@@ -95,7 +95,7 @@ fn is_met(bar: Reading, number: usize) -> bool
 
 /// Whether `wheel` is from 1 to 6, and belongs to the set of wheels with the number `number`.
 ///
-/// The set's number has a binary digit for each wheel. For example, 100001 is the set of the wheels 1 and 6.
+/// The set's number has six binary digits, for wheels 1 to 6. For example, 110000 is the set of the wheels 1 and 2.
 fn is_in_row(number: usize, wheel: u8) -> bool
     ensures { result ≡ is_in_row number wheel }
 {

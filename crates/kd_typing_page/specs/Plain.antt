@@ -1,10 +1,10 @@
--- Each template of the page has a gap for each value that the page fills in.
+-- Each template of the page has a gap for each value that the page fills into it.
 use Rattle.std.specs.Prelude.{◌≡◌, count_by}
 use Rattle.kd_pictures.specs.Checked.{Takes}
 use Rattle.kd_language.specs.Template.{is_gap}
 use Rattle.kd_typing_page.specs.declared.texts.TheConstants as texts
 
--- Each template has exactly as many gaps as the page has values to fill in.
+-- Each template has exactly as many gaps as the page fills values into it.
 abbrev pub TemplatesTakeTheirValues : Type 0
 TemplatesTakeTheirValues =
     Takes texts.TITLE 1 × Takes texts.ROTOR_HEAD 1 × Takes texts.PIN_HEAD 1 × Takes texts.WINDOW 3

@@ -38,7 +38,7 @@ pub fn line_end(text: &[u8], marks: &[u8], index: usize) -> Result<usize, WrongB
 
 /// Compares the bytes from `index` on with the pattern `marks`.
 ///
-/// The result is the index after these bytes, or the first byte that doesn't fit.
+/// The result is the index after the bytes that fit the whole pattern, or the first byte that doesn't fit.
 pub fn marks_end(text: &[u8], marks: &[u8], index: usize) -> Result<usize, WrongByte>
     requires { index ≤ length text.now }
     ensures value { result ≡ marks_end text.now marks.now index }
