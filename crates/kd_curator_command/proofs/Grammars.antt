@@ -1,10 +1,19 @@
 -- The program's grammar as it is built, argument by argument and command by command.
 use Rattle.kd_curator_command.proofs.Prelude.{arith, ◌≡◌, ◌∙◌, [], ◌∷◌, ◌++◌, ℕ, List, false, ap, ap₂, sym, subst, App}
-use Rattle.kd_curator_command.proofs.Prelude.{app_of, map, rule_of, app_of_fields, Arg, Bor, Shape, IsMadeOf, Some}
+use Rattle.kd_curator_command.proofs.Prelude.{app_of, map, rule_of, app_of_fields, Arg, Bor, Rule, Shape, IsMadeOf, Some}
+use Rattle.kd_curator_command.proofs.Prelude.{true}
 use Rattle.clap.specs.{Built.AddsArg, Built.AddsSubcommand, Simple.new_app, Simple.with_subcommand, Simple.new_shape}
 use Rattle.clap.specs.declared.builder.command.Command.{Command, TheOpen.Command-F, TheViews.out-Command}
 use Rattle.{kd_curator_command.specs.CommandLine.rule_of_argument, std.proofs.lemmas.List.map-append}
 use Rattle.kd_curator_command.specs.declared.grammar.Argument.{Argument}
+
+-- the argument's rule, once the argument is required
+abbrev pub required_rule : Rule → Rule
+required_rule rule = record rule { required = true }
+
+-- the argument's rule, once its value has a name
+abbrev pub named_rule : Rule → Rule
+named_rule rule = record rule { value_names = 1 }
 
 -- the command `name` with these arguments
 abbrev pub shape_with : List ℕ → List Argument → Shape

@@ -92,7 +92,7 @@ fn reason_for(
     line: usize,
     message: &str,
 ) -> Result<String, AllocError> {
-    let mistake = hint(numbered_line(bytes, line), message);
+    let mistake = hint(bytes, line, message);
     let cause = cause_words(wording, message, mistake)?;
     wording.fill(texts::NOT_TOML, &[cause.as_str()])
 }
@@ -109,13 +109,16 @@ fn cause_words(wording: Wording, message: &str, mistake: Text) -> Result<String,
     Ok(words)
 }
 
-/// The likely mistake in `line`, in which the parser found a fault. `message` is the parser's message.
-fn hint(line: &[u8], message: &str) -> Text {
+/// The likely mistake in line `number` of `bytes`, in which the parser found a fault. `message` is the parser's message.
+fn hint(bytes: &[u8], number: usize, message: &str) -> Text {
+    let line = numbered_line(bytes, number);
     let quotes = line.iter().filter(|byte| **byte == b'"').count();
     if message == "invalid UTF-8" {
         texts::NOT_UTF8
     } else if message == "duplicate key" {
         texts::KEY_TWICE
+    } else if number == 1 && is_spreadsheet_head(line) {
+        texts::SPREADSHEET
     } else if has_curly_quote(line) {
         texts::CURLY_QUOTE
     } else if quotes % 2 == 1 {
@@ -129,6 +132,15 @@ fn hint(line: &[u8], message: &str) -> Text {
     } else {
         texts::END_MISSING
     }
+}
+
+/// Whether a file's first line names the columns of a spreadsheet: it has at least two separators, and no `=`.
+fn is_spreadsheet_head(line: &[u8]) -> bool {
+    let separators = line
+        .iter()
+        .filter(|byte| matches!(**byte, b';' | b',' | b'\t'))
+        .count();
+    1 < separators && !line.contains(&b'=')
 }
 
 /// Whether `line` has a character from U+2000 to U+203F, in UTF-8. These include the curly quotes.

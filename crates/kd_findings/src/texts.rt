@@ -78,6 +78,11 @@ pub const KEY_TWICE: Text = (
     "ein Name steht zweimal da; über den Zeilen jedes Tages steht `[[day]]`",
 );
 
+pub const SPREADSHEET: Text = (
+    "is it a spreadsheet's table? `curator sheet` makes a key sheet of it",
+    "ist es die Tabelle eines Monats? `curator sheet` macht eine Schlüsseltafel daraus",
+);
+
 pub const CURLY_QUOTE: Text = (
     "write straight quotes `\"`, and plain characters",
     "gerade Anführungszeichen `\"` schreiben, und keine Sonderzeichen",

@@ -1,11 +1,9 @@
 use Rattle.kd_curator_command.proofs.Prelude.{ap, ◌∙◌, ℕ, rule_of, Rule, Some}
+use Rattle.kd_curator_command.proofs.Grammars.{named_rule}
 use Rattle.kd_curator_command.proofs.grammar.lettered.Goals as goal
 
 abbrev short_rule : ℕ → Rule → Rule
 short_rule letter rule = record rule { short = Some letter }
-
-abbrev named_rule : Rule → Rule
-named_rule rule = record rule { value_names = 1 }
 
 pub returns-clause-rule : goal.returns-clause-rule
 returns-clause-rule c =

@@ -1,11 +1,6 @@
 use Rattle.kd_curator_command.proofs.Prelude.{ap, ◌∙◌, rule_of, Rule, true}
+use Rattle.kd_curator_command.proofs.Grammars.{named_rule, required_rule}
 use Rattle.kd_curator_command.proofs.grammar.needed.Goals as goal
-
-abbrev required_rule : Rule → Rule
-required_rule rule = record rule { required = true }
-
-abbrev named_rule : Rule → Rule
-named_rule rule = record rule { value_names = 1 }
 
 pub returns-clause-rule : goal.returns-clause-rule
 returns-clause-rule c =

@@ -1,11 +1,9 @@
 use Rattle.kd_curator_command.proofs.Prelude.{ap, ◌∙◌, ℕ, List, rule_of, Rule, Some}
+use Rattle.kd_curator_command.proofs.Grammars.{named_rule}
 use Rattle.kd_curator_command.proofs.grammar.option.Goals as goal
 
 abbrev long_rule : List ℕ → Rule → Rule
 long_rule name rule = record rule { long = Some name }
-
-abbrev named_rule : Rule → Rule
-named_rule rule = record rule { value_names = 1 }
 
 pub returns-clause-rule : goal.returns-clause-rule
 returns-clause-rule c =

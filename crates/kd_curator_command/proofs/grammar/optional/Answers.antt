@@ -1,8 +1,6 @@
 use Rattle.kd_curator_command.proofs.Prelude.{ap, ◌∙◌, rule_of, Rule}
+use Rattle.kd_curator_command.proofs.Grammars.{named_rule}
 use Rattle.kd_curator_command.proofs.grammar.optional.Goals as goal
-
-abbrev named_rule : Rule → Rule
-named_rule rule = record rule { value_names = 1 }
 
 pub returns-clause-rule : goal.returns-clause-rule
 returns-clause-rule c =

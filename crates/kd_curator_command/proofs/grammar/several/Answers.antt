@@ -1,15 +1,10 @@
 use Rattle.kd_curator_command.proofs.Prelude.{ap, ◌∙◌, rule_of, Rule, Some, true}
+use Rattle.kd_curator_command.proofs.Grammars.{named_rule, required_rule}
 use Rattle.clap.specs.declared.builder.action.ArgAction.TheVariants.{Append}
 use Rattle.kd_curator_command.proofs.grammar.several.Goals as goal
 
-abbrev required_rule : Rule → Rule
-required_rule rule = record rule { required = true }
-
 abbrev append_rule : Rule → Rule
 append_rule rule = record rule { action = Some Append }
-
-abbrev named_rule : Rule → Rule
-named_rule rule = record rule { value_names = 1 }
 
 pub returns-clause-rule : goal.returns-clause-rule
 returns-clause-rule c =
