@@ -144,8 +144,8 @@ pub record IsGroup {K X : Type 0} (format : KindFormat K X) (number : ℕ) (kind
 abbrev pub expansion : {X : Type 0} → List (KindOf X) → List (X × ℤ)
 expansion kinds = flat_map (λ kind. replicate kind.count (kind.key, kind.price)) kinds
 
--- Each of `keys` has the price at the same place of `prices`. In some order, these are the keys and prices of `kinds`:
--- a kind with the count 3 stands for three equal keys with its price.
+-- Each of `keys` has the price at the same place of `prices`. The kinds `kinds` stand for exactly these keys and
+-- prices, in any order. For example, a kind with the count 3 stands for three equal keys with its price.
 -- Code: `kinds_of` sorts keys with their prices, and counts equal neighbours. For each key, `prices_of` takes the price
 -- of the key's kind, and lowers the kind's count.
 pub record AreKindsOf {K X : Type 0} (format : KindFormat K X) (keys : List X) (prices : List ℤ) (kinds : List K)

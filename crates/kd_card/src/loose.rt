@@ -10,7 +10,7 @@ ghost use Rattle.kd_card.specs.Loose.{setting_unless};
 
 use kd_state::{Setting, Settings};
 
-/// Appends `setting`, unless `already` is true: then the machine is already as `setting` would set it.
+/// Appends `setting` if `already` is false. If `already` is true, the machine is as `setting` would set it.
 pub fn push_unless(settings: &mut Settings, already: bool, setting: Setting)
     requires { array_vec_len settings.old + 1 ≤ 192 }
     ensures items { settings.new.items ≡ settings.old.items ++ setting_unless already setting }

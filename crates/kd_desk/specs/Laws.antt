@@ -21,7 +21,7 @@ abbrev pub SettingsHaveNoFault : Type 0
 SettingsHaveNoFault =
     (bytes : List ℕ) (xs : List Setting) (fault : DeskFault) → AreSettings bytes xs → ¬ (IsSettingsFault bytes fault)
 
--- Bytes have at most one fault if they are read as a list or a card.
+-- If bytes are read as a list or a card, they have at most one fault.
 abbrev pub SettingsHaveOneFault : Type 0
 SettingsHaveOneFault =
     (bytes : List ℕ) (fault other : DeskFault) → IsSettingsFault bytes fault → IsSettingsFault bytes other

@@ -25,8 +25,8 @@ fault_of_message fault = faults.Message fault
 abbrev pub answer_to_message : Result (Unit {0}) FormFault → Result (Unit {0}) DeskFault
 answer_to_message answer = result_map_both (λ done. done) fault_of_message answer
 
--- A call that types, sends or receives a message gave an answer that satisfies `is_so`. `answer` is this answer, with
--- its fault turned into a `DeskFault`.
+-- A call typed, sent or received a message, and its answer satisfies `is_so`. `answer` is this answer, with its fault
+-- turned into a `DeskFault`.
 pub record IsAnswered (is_so : Result (Unit {0}) FormFault → Type 0) (answer : Result (Unit {0}) DeskFault)
     : Type 0 where
   pub told : Result (Unit {0}) FormFault

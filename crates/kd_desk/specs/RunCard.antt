@@ -49,7 +49,7 @@ pub data Prints (Promise : List Setting → PriceParts → Type 0) (machine : Pa
       → Prints Promise machine day number sink answer
   Card : WritesCard Promise number sink answer → Prints Promise machine day number sink answer
 
--- ---- Which shortest card it is.
+-- ---- Which of several shortest cards the planner chooses.
 
 -- A shortest card for day `number`, as the planner chooses it. Its values are valid, and it proves itself. Its lines
 -- carry out a cheapest assignment, in the planner's order, and leave spare cables free.

@@ -57,7 +57,8 @@ pub record AreLettersTaken (s : Day) (keys : List Keys) (w : PartWriter) (letter
   pub made : ArePartTextsMade s 1 (length keys) (take w.written keys)
       (pieces (part_size s) (take (part_size s * w.written) letters)) sent
 
--- At the end of the text, the writer writes the last part `made` after `sent`, or refuses the text.
+-- The answer at the end of the text. After a success, the parts `sent`, followed by the last part `made`, are the
+-- whole form. With a fault, the text is refused, and `made` is empty.
 abbrev pub IsTextEndAnswer : Day → List Keys → List ℕ → List ℕ → List ℕ → Result (Unit {0}) FormFault → Type 0
 IsTextEndAnswer s keys letters sent made (Ok _) = IsMadeAnswer s keys letters (Ok (sent ++ made))
 IsTextEndAnswer s keys letters sent made (Err fault) = IsMadeAnswer s keys letters (Err fault) × (made ≡ [])

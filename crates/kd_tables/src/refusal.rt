@@ -45,10 +45,10 @@ pub enum Refusal {
     PriceTooHigh,
     /// The sum of a card's prices isn't the number of the card's lines that change a cable or a bar.
     SumDiffers,
-    /// A line of a card isn't needed: it doesn't lower the number of things, such as slots or rings, that differ from
-    /// the day.
+    /// A line of a card isn't needed.
     ///
-    /// Lines for cables and bars aren't refused for this reason.
+    /// A line is needed if it changes a cable or a bar, or if it lowers the number of things, such as slots or rings,
+    /// that differ from the day.
     NeedlessLine,
     /// A file isn't a TOML document.
     NotToml,
@@ -82,7 +82,7 @@ pub enum Refusal {
     /// the day's.
     WrongGroup,
     /// A part of a Converter's message has no internal key. The key's six letters are picked from twelve enciphered
-    /// letters, but for some wheel no letter on this wheel is left.
+    /// letters, wheel by wheel, but the twelve letters run out too early.
     IndicatorSpent,
     /// A part doesn't begin with a heading of the day's model.
     BadHeading,

@@ -11,7 +11,8 @@ use toml::{Table, Value};
 
 /// A type whose values can be read from the items of an array.
 ///
-/// `Given` is the type of what the reader needs besides the items. For wheels in slots, this is the key and the model.
+/// `Given` is the type of a value that reading needs besides the items. For wheels in slots, it is the key and the
+/// model.
 pub trait FromItem<Given> {
     /// How an item is read. The arguments are the value of type `Given`, the values of the earlier items, and the item.
     /// The result is the item's value or a fault.
