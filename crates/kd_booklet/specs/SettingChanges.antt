@@ -37,8 +37,8 @@ WindowTurns (Rotor m) n number letter =
 WindowTurns (Pin m) n number letter =
     Becomes (machine_pin_letter (Pin m) number) (machine_pin_letter n number) (Some letter)
 
--- Machine `m` isn't as the setting says, and machine `n` is. For example, only on `n` is a wheel's ring at the
--- setting's letter. A page marks this difference between `m` and `n`, unless the setting turns a Converter's wheel.
+-- Machine `m` isn't as the setting says, and machine `n` is. For example, a wheel's ring is at the setting's letter on
+-- `n`, but not on `m`. A page marks this difference between `m` and `n`, unless the setting turns a Converter's wheel.
 abbrev pub Changes : Parts → Parts → Setting → Type 0
 Changes m n (RingTo wheel letter) = Becomes (machine_ring m wheel) (machine_ring n wheel) (Some letter)
 Changes m n (SeatReflector reflector) = Becomes (machine_reflector m) (machine_reflector n) (Some reflector)

@@ -13,7 +13,7 @@ abbrev pub words_after_first : Option (List ℕ) → List (List ℕ)
 words_after_first None = []
 words_after_first (Some text) = words_of text
 
--- The word is a price from -9999 to 9999, in the form that prices have on a card.
+-- The word is a price from -9999 to 9999, as a card writes it: for example, `-12`.
 abbrev pub IsPriceText : List ℕ → Type 0
 IsPriceText word = (price : ℤ) × (unsigned_abs price ≤ 9999) × (signed_decimal price ≡ word)
 

@@ -27,7 +27,8 @@ SettingsHaveOneFault =
     (bytes : List ℕ) (fault other : DeskFault) → IsSettingsFault bytes fault → IsSettingsFault bytes other
     → fault ≡ other
 
--- ---- The laws of a month: its cards set the machine to each day, on an Enigma by the fewest settings in all.
+-- ---- The laws of a month: its cards set the machine to each day. On an Enigma, these cards have the fewest settings
+-- in all.
 
 -- Cards and machine files that are written for one day after another set the machine to each of these days.
 abbrev pub MonthsSetTheMachine : Type 0

@@ -21,7 +21,7 @@ fault_of_message message.Device = faults.Device
 fault_of_message message.ReadTooLong = faults.ReadTooLong
 fault_of_message fault = faults.Message fault
 
--- the answer of a call that typed, sent or received a message, with its fault turned into a `DeskFault`
+-- the desk's answer after a message was typed, sent or received: a fault of the message becomes a `DeskFault`
 abbrev pub answer_to_message : Result (Unit {0}) FormFault → Result (Unit {0}) DeskFault
 answer_to_message answer = result_map_both (λ done. done) fault_of_message answer
 

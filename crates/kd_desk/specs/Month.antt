@@ -21,7 +21,7 @@ use Rattle.kd_desk.specs.RunCard.{IsChosenCard, Prints}
 use Rattle.kd_desk.specs.CallAnswers.{LacksMemory}
 use Rattle.kd_desk.specs.Settings.{AreSettings}
 
--- The texts written for a day: a card, and the file of the machine that the card's settings lead to.
+-- Two texts for a day: a card, and the file of the machine that the card's settings lead to.
 pub record CardAndFile : Type 0 where
   pub card : List ℕ
   pub file : List ℕ

@@ -39,7 +39,7 @@ IsHeadStep s keys line order Open = IsHeadBegun s keys line order
 IsHeadStep s keys line order Text = IsOrder s order keys order []
 IsHeadStep s keys line order Bad = IsOrderHeadFault s order (length order)
 
--- ---- The text behind the head. No public contract cites these definitions.
+-- ---- The text after the head. No public contract cites these definitions.
 
 -- There are keys for at most 99 parts. All keys are for the day's model, and suit the day (`IsKeysAnswer`).
 pub record AreSuitedKeys (s : Day) (keys : List Keys) : Type 0 where

@@ -99,7 +99,7 @@ abbrev pub is_device : Result (Unit {0}) FormFault → Bool
 is_device (Err Device) = true
 is_device _ = false
 
--- ---- What a call does only for a machine on the day's key.
+-- ---- Calls that need a machine on the day's key.
 -- Test: tests/cases/desk-messages.toml
 
 -- whether the answer is the fault `NotReady` or `NotOnKey`

@@ -30,7 +30,8 @@ one_unless same = if same then 0 else 1
 abbrev pub column_letters : Option (ℕ × ℕ) → List ℕ
 column_letters column = option_map_or (λ pair. pair.0 ∷ pair.1 ∷ []) column []
 
--- the cost of giving a cable the pair of a column: how many letters only the cable has, plus how many only the pair has
+-- the cost of giving a cable the letters of a column: how many letters are in the cable or in the column, but not in
+-- both. For example, it is 2 for the cable AB and the column AC.
 abbrev pub cable_cost : Option ℕ × Option ℕ → Option (ℕ × ℕ) → ℕ
 cable_cost cable column =
     count_by (λ l. exactly_one (has_letter (cable_letters cable) l) (has_letter (column_letters column) l)) alphabet

@@ -14,7 +14,7 @@ use kd_tables::{Letter, Place, Reading, Standing};
 
 /// The cost of giving `cable` the pair `column`, or of emptying the cable if `column` is `None`.
 ///
-/// The cost is the number of letters that only the cable or only the pair has.
+/// The cost is the number of letters that are in the cable or in the pair, but not in both.
 #[tactic(auto, using(crate::proofs::CostTable::at_most_four, crate::proofs::CostTable::counted_more))]
 pub fn cable_cost(cable: Cable, column: Option<(Letter, Letter)>) -> u8
     ensures cost { result ≡ costs.cable_cost cable column }

@@ -29,7 +29,7 @@ pub enum Refusal {
     BadHead,
     /// A line of a list or a card is missing, has a wrong form, or is out of order.
     BadLine,
-    /// A card has more than 192 settings.
+    /// A list or a card has more than 192 settings.
     TooMany,
     /// A card's prices are missing, too few or too many, or aren't for this machine and day.
     PriceMissing,
@@ -52,7 +52,7 @@ pub enum Refusal {
     NeedlessLine,
     /// A file isn't a TOML document.
     NotToml,
-    /// A file doesn't name a known model.
+    /// A file names no known model, or a machine file of version 1 names the M4.
     UnknownModel,
     /// A TOML key of a file is missing.
     Missing,
