@@ -22,8 +22,8 @@ abbrev pub head_prefix : Version → List ℕ
 head_prefix ByNumber = codes "CARD 1 DAY "
 head_prefix ByKind = codes "CARD 2 DAY "
 
--- The first line of `bytes` isn't a price line with the first word `word`. The fault is `fault` for any number of
--- expected prices above 0. `line` is the number of this line on the card.
+-- The first line of `bytes` isn't a price line with the first word `word`. The fault is `fault`, whether one price or
+-- more are expected. `line` is the number of this line on the card.
 abbrev pub IsNoPriceLine : List ℕ → ℕ → List ℕ → CardFault → Type 0
 IsNoPriceLine word line bytes fault =
     (number : ℕ) → 0 < number → IsPriceLineAnswer word number line bytes (Err fault)

@@ -1,4 +1,5 @@
-//! The things of a machine that aren't as the day says: their number, and the settings that they need.
+//! Loose things: slots, rings, letters and the like that aren't as the day says. Their number, and the settings that
+//! they need.
 
 pub(crate) mod count;
 pub(crate) mod pin;

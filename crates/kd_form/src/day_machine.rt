@@ -13,7 +13,7 @@ use kd_state::{Engine, Entry, SheetDay, own_engine};
 use kd_tables::Letter;
 use std::marker::Model;
 
-/// A machine set as the day says, whose windows are set anew for each text.
+/// A machine that is set as the day says. Its windows are set anew for each text.
 #[derive(Drop)]
 pub struct DayMachine<'day> {
     pub(crate) day: &'day SheetDay,

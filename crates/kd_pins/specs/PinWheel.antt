@@ -1,5 +1,5 @@
--- One pin wheel and its acting pin. The letter that the wheel shows decides which of its pins acts on the drum. Places
--- are counted from 0, in the wheel's own order.
+-- One pin wheel and its acting pin. The letter that the wheel shows decides which of the wheel's pins acts on the
+-- drum. Places are counted from 0, in the wheel's own order.
 -- Source: War Department TM 11-380.
 -- Code: `PinWheel` keeps the acting pin's place, and counts back from there to find the shown letter.
 -- Test: the_acting_pin_is_counted_in_the_wheels_own_order

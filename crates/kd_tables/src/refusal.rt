@@ -76,7 +76,7 @@ pub enum Refusal {
     EmptyText,
     /// An order has too few or too many lines of keys. The refusal says how many are needed, and how many there are.
     PartKeys,
-    /// A letter that a message gives for a pin wheel (an external letter) isn't on this wheel.
+    /// A message's external letter isn't on its pin wheel.
     KeyNotOnWheel,
     /// On an Enigma, a part's group isn't one of the day's groups. On the Converter, a part's two list letters aren't
     /// the day's.
