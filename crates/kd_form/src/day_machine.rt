@@ -1,5 +1,5 @@
-//! `DayMachine`: a machine set as the day says, with any letters in its windows. The function `slots_of` tells how many
-//! slots a day's machine has.
+//! `DayMachine`: a machine that is set as the day says, with any letters in its windows. The function `slots_of` tells
+//! how many slots a day's machine has.
 ghost use Rattle.std.specs.Prelude.{◌≡◌, ◌↔◌, ◌≤◌, ◌<◌, length, All, IsTrue, MatchOption};
 ghost use Rattle.std.specs.Bool.{OnTrue};
 ghost use Rattle.kd_state.specs.EngineKey.{IsWindow};

@@ -1,4 +1,5 @@
-//! Reads the items of an array one after another. The rule for an item may depend on the items before it.
+//! Reads the items of an array one after another. The rule for an item may depend on the items before it: for example,
+//! no letter may come twice.
 ghost use Rattle.std.specs.Prelude.{◌≡◌, nat_eq, nat_le, ◌<◌, ◌≤◌, List, Result, IfOk, map, length};
 ghost use Rattle.toml.specs.{Data.{Data}, View.{view, table_view}};
 ghost use Rattle.kd_sheet.specs.Document.{◌>>=◌ as ◌followed_by◌, value_at, read_items, read_array, result_map};

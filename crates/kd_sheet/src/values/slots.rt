@@ -60,7 +60,6 @@ fn wheel_for(
     Ok(wheel)
 }
 
-/// The wheel named `name`.
 fn wheel_by_name(name: &str) -> Option<Wheel>
     ensures { result ≡ find_by_text wheel_text (box_of M4) name.now }
 {
