@@ -1,5 +1,5 @@
--- A partial assignment: some rows have a column, and others don't have one yet. For each column, the list `holders` has
--- the row that has it, or `None` if the column is free. No public contract cites this file.
+-- A partial assignment: some rows have a column, and others don't have one yet. For each column, the list `holders`
+-- has the column's row, or `None` if the column is free. No public contract cites this file.
 use Rattle.std.specs.Prelude.{◌≡◌, ℕ, ◌*◌, ◌<◌, List, length, Option, Some, None, is_some, slice_index_or, count_by, ℤ}
 use Rattle.std.specs.Prelude.{pos, ◌+ℤ◌, ◌≤ℤ◌}
 use Rattle.kd_assign.specs.Prices.{cost_at, price_at}

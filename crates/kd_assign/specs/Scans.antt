@@ -7,7 +7,7 @@ pub record IsScanCount (n scans : ℕ) : Type 0 where
   pub least : n * n ≤ scans
   pub most : scans ≤ n * (n + 1) * (2 * n + 1) / 6
 
--- ---- Of one tree. No public contract cites this definition.
+-- ---- The comparisons for one tree. No public contract cites this definition.
 
 -- the number of comparisons for a tree of `rows` rows, in a table of `n` columns: `n` for the first row, `n - 1` for
 -- the second, and so on

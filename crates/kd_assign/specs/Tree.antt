@@ -1,6 +1,6 @@
--- A tree of rows and columns, as in the Hungarian method, grown from a row that has no column yet. A column's ceiling
--- is the lowest price that a row of the tree offers for it. The row that offers this price is the column's nearest row.
--- No public contract cites this file.
+-- A tree of rows and columns, as in the Hungarian method. It grows from a row that has no column yet. A column's
+-- ceiling is the lowest price that a row of the tree offers for it. The row that offers this price is the column's
+-- nearest row. No public contract cites this file.
 use Rattle.std.specs.Prelude.{◌≡◌, ℕ, ◌<◌, Bool, false, List, slice_index, slice_index_or, ◌⊎◌}
 use Rattle.std.specs.Prelude.{ℤ, pos, neg_ℤ, ◌+ℤ◌, ◌-ℤ◌, ◌≤ℤ◌}
 use Rattle.kd_assign.specs.Prices.{cost_at, price_at}

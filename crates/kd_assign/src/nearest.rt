@@ -58,7 +58,8 @@ impl<const N: usize> Nearest<N> {
         }
     }
 
-    /// If `offer` is below the ceiling of `column`, makes `row` its nearest row, and `offer` its ceiling.
+    /// If `offer` is below the ceiling of `column`, makes `offer` the column's ceiling, and `row` the column's nearest
+    /// row.
     ///
     /// A column of the tree (`reached`) stays as it is. A column's ceiling is the lowest offer so far.
     fn compare(&mut self, reached: bool, row: usize, column: usize, offer: i16, scans: &mut Scans)

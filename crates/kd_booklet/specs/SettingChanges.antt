@@ -1,4 +1,5 @@
--- Each setting of a day's list changes the thing that it sets, and the change lasts to the end of the list.
+-- Each setting of a day's list makes a change that lasts to the end of the list. For example, a ring gets another
+-- letter.
 use Rattle.std.specs.Prelude.{◌≡◌, ◌≢◌, ℕ, true, false, All, Option, Some, option_map}
 use Rattle.kd_tables.specs.declared.lug.Lug.{Lug}
 use Rattle.kd_tables.specs.declared.lug.Lug.TheVariants.{Left, Right}
@@ -22,8 +23,8 @@ abbrev pub lug_at : Parts → ℕ → Lug → Option Place
 lug_at m bar Left = option_map (λ standing. standing.0) (machine_standing m bar)
 lug_at m bar Right = option_map (λ standing. standing.1) (machine_standing m bar)
 
--- A thing's value is `before` at first, and `after` at the end of a list of settings. Only `after` equals the value
--- `due`, which a setting asks for.
+-- A value, such as the letter of a ring, is `before` at first, and `after` at the end of a list of settings. A setting
+-- asks for the value `due`: only `after` equals it.
 abbrev pub Becomes : {A : Type 0} → A → A → A → Type 0
 Becomes before after due = (before ≢ due) × (after ≡ due)
 
@@ -36,8 +37,8 @@ WindowTurns (Rotor m) n number letter =
 WindowTurns (Pin m) n number letter =
     Becomes (machine_pin_letter (Pin m) number) (machine_pin_letter n number) (Some letter)
 
--- On machine `m`, the thing that the setting sets isn't as the setting says. On machine `n`, it is. A page marks this
--- difference between `m` and `n`, unless the thing is a Converter's letter.
+-- Machine `m` isn't as the setting says, and machine `n` is. For example, a wheel's ring is at the setting's letter on
+-- `n`, but not on `m`. A page marks this difference between `m` and `n`, unless the setting turns a Converter's wheel.
 abbrev pub Changes : Parts → Parts → Setting → Type 0
 Changes m n (RingTo wheel letter) = Becomes (machine_ring m wheel) (machine_ring n wheel) (Some letter)
 Changes m n (SeatReflector reflector) = Becomes (machine_reflector m) (machine_reflector n) (Some reflector)
@@ -49,8 +50,8 @@ Changes m n (PinTo wheel letter effective) =
 Changes m n (LugTo bar lug place) = Becomes (lug_at m bar lug) (lug_at n bar lug) (Some place)
 Changes m n (Turn number letter) = WindowTurns m n number letter
 
--- Each setting of a day's list changes the thing that it sets, and the change lasts to the end of the list. Other lists
--- may have settings without a lasting change, such as the first of two turns of one wheel.
+-- Each setting of a day's list makes a change that lasts to the end of the list. In other lists, a setting may make no
+-- lasting change: for example, the first of two turns of one wheel.
 abbrev pub DaySettingsChangeThings : Type 0
 DaySettingsChangeThings =
     (m n : Parts) (s : Day) (plan : DayPlan) → IsMachine m → IsLegalDay s → IsDayPlan m s plan n

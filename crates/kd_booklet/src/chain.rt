@@ -15,10 +15,11 @@ use kd_state::{Machine, SheetDay};
 /// The plans of at most 31 days, one after another.
 pub type DayPlans = ArrayVec<DayPlan, 31>;
 
-/// Plans the days `numbers`. The first plan starts from `machine`. Each later plan starts from the machine to which the
-/// previous plan leads.
+/// Plans the days `numbers`. The first plan starts from `machine`. Each later plan starts from the machine to which
+/// the previous plan leads.
 ///
-/// The fault names the first day that the sheet doesn't have, or that is for another model than the machine's.
+/// The fault names the first day that can't be planned: the sheet doesn't have the day, or the day is for another
+/// model.
 pub fn plan_days(machine: &Machine, sheet: &Sheet, numbers: &[u8]) -> Result<DayPlans, DayFault>
     requires { length numbers.now ≤ 31 }
     ensures planned { IfOk result

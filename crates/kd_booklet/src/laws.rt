@@ -1,4 +1,4 @@
-//! Laws about the order of a day's settings, and about the things that the settings change.
+//! Laws about the order of a day's settings, and about the changes that the settings make.
 ghost use Rattle.kd_booklet.specs.HandOrder.{HandOrderIsPermutation, HandOrderLeads};
 ghost use Rattle.kd_booklet.specs.SettingChanges.{DaySettingsChangeThings};
 

@@ -131,8 +131,8 @@ pub record BeginsWithWord (word bytes : List ℕ) : Type 0 where
   pub rest : List ℕ
   pub has : HasLineWords bytes (word ∷ behind) rest
 
--- The lines with the first word `word` are a group. This group ends before `bytes`: `bytes` are empty, or their first
--- line ends with LF and has another first word.
+-- A group of lines with the first word `word` ends before `bytes`. Either `bytes` are empty, or their first line ends
+-- with LF and has another first word.
 pub data EndsGroup (word bytes : List ℕ) : Type 0 where
   AtNothing : bytes ≡ [] → EndsGroup word bytes
   AtOther : (other : List ℕ) → BeginsWithWord other bytes → other ≢ word → EndsGroup word bytes
@@ -155,8 +155,8 @@ last_of last [] = last
 last_of last (kind ∷ kinds) = last_of (Some kind) kinds
 
 -- `bytes` begin with the lines of `kinds`, and `rest` follows these lines. The kinds are valid and strictly ascending.
--- If there is a kind `last`, all of them come after `last`. No further kind can be read: `rest` doesn't begin with the
--- line of a valid kind that comes after `last` and after all of them.
+-- If there is a kind `last`, all of `kinds` come after it. No further kind can be read: `rest` doesn't begin with the
+-- line of a valid kind that could come next.
 pub record BeginsWithKinds {K X : Type 0} (format : KindFormat K X) (last : Option K) (bytes : List ℕ) (kinds : List K)
     (rest : List ℕ) : Type 0 where
   pub lines : bytes ≡ kinds_text format kinds ++ rest

@@ -112,7 +112,7 @@ pub record IsOnlyKey {K X : Type 0} (format : KindFormat K X) (text : List ℕ) 
 
 -- ---- kinds of a card
 
--- The kind `next` comes after the kind `last` in the order of a card's lines, if there is a kind `last`.
+-- If there is a kind `last`, the kind `next` comes after it in the order of a card's lines.
 abbrev pub ComesAfter : {K X : Type 0} → KindFormat K X → Option K → K → Type 0
 ComesAfter format None next = Unit {0}
 ComesAfter format (Some last) next = KeyComesBefore format (format.kind last).key (format.kind next).key
@@ -124,7 +124,7 @@ pub record IsKind {K X : Type 0} (format : KindFormat K X) (kind : K) : Type 0 w
   pub most : (format.kind kind).count ≤ 255
   pub in_range : unsigned_abs (format.kind kind).price ≤ 9999
 
--- The kinds are valid and strictly ascending. If there is a kind `last`, all of them come after `last`.
+-- The kinds are valid and strictly ascending. If there is a kind `last`, all of `kinds` come after it.
 abbrev pub AreKinds : {K X : Type 0} → KindFormat K X → Option K → List K → Type 0
 AreKinds format last [] = Unit {0}
 AreKinds format last (kind ∷ kinds) =
@@ -144,8 +144,8 @@ pub record IsGroup {K X : Type 0} (format : KindFormat K X) (number : ℕ) (kind
 abbrev pub expansion : {X : Type 0} → List (KindOf X) → List (X × ℤ)
 expansion kinds = flat_map (λ kind. replicate kind.count (kind.key, kind.price)) kinds
 
--- Each of `keys` has the price at the same place of `prices`. In some order, these are the keys and prices of `kinds`:
--- a kind with the count 3 stands for three equal keys with its price.
+-- Each of `keys` has the price at the same place of `prices`. The kinds `kinds` stand for exactly these keys and
+-- prices, in any order. For example, a kind with the count 3 stands for three equal keys with its price.
 -- Code: `kinds_of` sorts keys with their prices, and counts equal neighbours. For each key, `prices_of` takes the price
 -- of the key's kind, and lowers the kind's count.
 pub record AreKindsOf {K X : Type 0} (format : KindFormat K X) (keys : List X) (prices : List ℤ) (kinds : List K)

@@ -1,4 +1,4 @@
--- Laws of cards: their texts, how few settings can suffice, and cards that prove themselves.
+-- Laws about the texts of cards, the least number of settings, and cards that prove themselves.
 use Rattle.kd_card.specs.Proving.{AreSettingsNeeded, AreModelPrices, ProvesByNumber, Proves, priced_count}
 use Rattle.kd_card.specs.Shortest.{IsShortest, LeadsToTheDay, ShowShortest}
 use Rattle.kd_card.specs.declared.prices.Version.TheVariants.{ByKind}
@@ -26,17 +26,17 @@ FittingPricesBoundLists =
     → PricesFit (cost_table machine day) prices → LeadsToTheDay machine day settings
     → (pos (loose_count machine day) +ℤ price_sum prices) ≤ℤ pos (length settings)
 
--- Suppose that a list reaches the day, and has at most as many unpriced settings as the machine has loose things. Then
--- each unpriced setting lowers the number of loose things by one. A setting is unpriced if it changes no cable and no
--- bar.
+-- A setting is unpriced if it changes no cable and no bar. Suppose that a list reaches the day, and has at most as
+-- many unpriced settings as the machine has loose things. Then each unpriced setting lowers the number of loose things
+-- by one.
 abbrev pub AsFewAreNeeded : Type 0
 AsFewAreNeeded =
     (machine : Parts) (day : Day) (settings : List Setting) → IsLegalDay day → model_of machine ≡ day_model day
     → LeadsToTheDay machine day settings
     → length settings ≤ loose_count machine day + priced_count settings → AreSettingsNeeded machine day settings
 
--- If a card with prices by number proves itself, the number of settings is the sum of the prices plus the number of
--- loose things.
+-- Suppose that a card with prices by number proves itself. Its number of settings is the sum of its prices plus the
+-- number of loose things.
 abbrev pub ProvingCardsAreAsLong : Type 0
 ProvingCardsAreAsLong =
     (machine : Parts) (day : Day) (settings : List Setting) (prices : PriceParts)
@@ -50,9 +50,8 @@ ProvingCardsAreShortest =
     → ArePrices prices → Proves machine day settings prices
     → IsShortest machine day settings
 
--- Suppose that prices by kind fit, and that a list has as many settings as the prices' sum plus the number of loose
--- things. Then no shorter list reaches the day. A thing is loose if it isn't as the day says. Cables and bars are never
--- loose.
+-- Suppose that prices by kind fit, and that their sum plus the number of loose things is the length of a list. Then no
+-- shorter list reaches the day. A thing is loose if it isn't as the day says. Cables and bars are never loose.
 abbrev pub ShownListsAreShortest : Type 0
 ShownListsAreShortest =
     (machine : Parts) (day : Day) (settings : List Setting) (prices : PriceParts) → IsMachine machine → IsLegalDay day
@@ -97,7 +96,7 @@ CardsHaveNoFault =
     (bytes : List ℕ) (day : ℕ) (xs : List Setting) (prices : PriceParts) (fault : CardFault)
     → IsCard bytes day xs prices → ¬ (IsCardFault bytes fault)
 
--- Bytes that are read as a card have at most one first fault.
+-- If bytes are read as a card, they have at most one first fault.
 abbrev pub OneCardFault : Type 0
 OneCardFault =
     (bytes : List ℕ) (fault other : CardFault) → IsCardFault bytes fault → IsCardFault bytes other → fault ≡ other

@@ -12,7 +12,7 @@ use Rattle.std.specs.Prelude.{ℕ, nat_eq, Bool, false, not, List, [], ◌∷◌
 use Rattle.std.specs.Prelude.{if◌then◌else◌}
 use Rattle.std.specs.Option.{option_map_or}
 
--- a list of the setting `x` alone, or the empty list if the machine is `already` as `x` would set it
+-- the list with only the setting `x`. If `already` is true (the machine is as `x` would set it), the list is empty.
 abbrev pub setting_unless : Bool → Setting → List Setting
 setting_unless already x = if already then [] else x ∷ []
 
@@ -49,7 +49,8 @@ wheel_pin_lines wheel z = flat_map (pin_line wheel) (zip (ring_of wheel) (zip z.
 abbrev pub pin_wheel_turn_line : ℕ → ℕ × ℕ → List Setting
 pin_wheel_turn_line wheel z = setting_unless (nat_eq z.0 z.1) (Turn wheel z.1)
 
--- the settings for all loose things of a machine, in a fixed order; rings are ordered by wheel: I to VIII, Beta, Gamma
+-- a setting for each slot, reflector, ring, letter or pin that isn't as the day says. The order is fixed; rings are in
+-- the order of the wheels: I to VIII, Beta, Gamma.
 abbrev pub loose_lines : Parts → Day → List Setting
 loose_lines = by_model []
     (λ machine day. lines_from slot_seat_line 1 (zip machine.slots day.wheels)

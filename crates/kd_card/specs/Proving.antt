@@ -29,8 +29,8 @@ is_priced_setting _ = false
 abbrev pub priced_count : List Setting → ℕ
 priced_count settings = count_by is_priced_setting settings
 
--- The setting is needed. It changes a cable or a bar, or it lowers by one the number of things that aren't as the day
--- says. Cables and bars don't count among these things.
+-- The setting is needed: it changes a cable or a bar, or it lowers the number of loose things by one. A thing such as
+-- a ring is loose if it isn't as the day says. Cables and bars are never loose.
 abbrev pub IsSettingNeeded : Parts → Day → Setting → Type 0
 IsSettingNeeded machine day setting = IsFalse (is_priced_setting setting)
     → (after : Parts) × Carries machine setting after × (loose_count machine day ≡ loose_count after day + 1)
@@ -43,9 +43,9 @@ AreSettingsNeeded machine day (setting ∷ rest) = (after : Parts) × Carries ma
 
 -- ---- prices by kind, turned into prices by number
 
--- The first prices are by kind. The kinds, each as often as its count says, are the machine's cables and the day's
--- columns, or the machine's bars and the day's rows. The second prices are by number: each cable, column, bar or row
--- has the price of its kind.
+-- The first prices are by kind. A kind with the count 3 stands for three cables, columns, bars or rows. Together, the
+-- kinds stand for exactly the machine's cables and the day's columns, or the machine's bars and the day's rows. The
+-- second prices are by number: each cable, column, bar or row has the price of its kind.
 abbrev pub AreExpanded : Parts → Day → PriceParts → PriceParts → Type 0
 AreExpanded (Rotor machine) (Rotor day) (CableKinds cable_kinds column_kinds) (Cables cables columns) =
     AreKindsOf cable_format machine.cables cables cable_kinds.items

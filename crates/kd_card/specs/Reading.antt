@@ -13,7 +13,7 @@ abbrev pub words_after_first : Option (List ℕ) → List (List ℕ)
 words_after_first None = []
 words_after_first (Some text) = words_of text
 
--- The word is a price from -9999 to 9999, in the form that prices have on a card.
+-- The word is a price from -9999 to 9999, as a card writes it: for example, `-12`.
 abbrev pub IsPriceText : List ℕ → Type 0
 IsPriceText word = (price : ℤ) × (unsigned_abs price ≤ 9999) × (signed_decimal price ≡ word)
 
@@ -22,8 +22,8 @@ abbrev pub head_prefix : Version → List ℕ
 head_prefix ByNumber = codes "CARD 1 DAY "
 head_prefix ByKind = codes "CARD 2 DAY "
 
--- The first line of `bytes`, which is line `line` of the card, isn't a price line with the first word `word`. The fault
--- is `fault`, whatever number of prices (at least one) the line should have.
+-- The first line of `bytes` isn't a price line with the first word `word`. The fault is `fault`, whether one price or
+-- more are expected. `line` is the number of this line on the card.
 abbrev pub IsNoPriceLine : List ℕ → ℕ → List ℕ → CardFault → Type 0
 IsNoPriceLine word line bytes fault =
     (number : ℕ) → 0 < number → IsPriceLineAnswer word number line bytes (Err fault)
@@ -33,8 +33,8 @@ pub record EndsKindsAt {K X : Type 0} (format : KindFormat K X) (last : Option K
   pub ends : EndsGroup format.word bytes
   pub none_more : HasNoNext format last bytes
 
--- The group of kinds doesn't end before `bytes`, and the first line of `bytes` is bad. A bad line has no LF, isn't the
--- line of a valid kind, or has a kind that doesn't come after `last`.
+-- The group of kinds goes on at `bytes`, but the first line of `bytes` is bad. A bad line has no LF, isn't the line of
+-- a valid kind, or has a kind that doesn't come after `last`.
 pub record IsBadKindAt {K X : Type 0} (format : KindFormat K X) (last : Option K) (bytes : List ℕ) : Type 0 where
   pub goes_on : ¬ (EndsGroup format.word bytes)
   pub none_more : HasNoNext format last bytes

@@ -1,4 +1,4 @@
--- When a list of settings from a machine to a day is shortest, and how prices by kind show this.
+-- Shortest lists of settings from a machine to a day, and how prices by kind prove a list shortest.
 use Rattle.kd_card.specs.{declared.prices.PriceParts.PriceParts, Prices.price_sum}
 use Rattle.kd_card.specs.declared.prices.PriceParts.TheVariants.{CableKinds, BarKinds}
 use Rattle.kd_state.specs.{declared.setting.Setting.Setting, declared.machine.parts.Parts.Parts}
@@ -16,9 +16,9 @@ abbrev pub IsShortest : Parts → Day → List Setting → Type 0
 IsShortest machine day settings =
     (others : List Setting) → LeadsToTheDay machine day others → length settings ≤ length others
 
--- The prices are by kind. The kinds, each as often as its count says, are the machine's cables and the day's columns,
--- or the machine's bars and the day's rows. The prices fit: the prices of a cable and a column, or of a bar and a row,
--- add up to at most the cost in their cell of the table of costs.
+-- The prices are by kind, and they fit. A kind with the count 3 stands for three cables, columns, bars or rows.
+-- Together, the kinds stand for exactly the machine's cables and the day's columns, or the machine's bars and the
+-- day's rows. In each cell of the table of costs, the prices of row and column add up to at most the cost.
 abbrev pub KindPricesFit : Parts → Day → PriceParts → Type 0
 KindPricesFit (Rotor machine) (Rotor day) (CableKinds cables columns) =
     IsPermutation machine.cables (flat_map (λ k. replicate k.count k.ends) cables.items)

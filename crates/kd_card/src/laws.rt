@@ -1,4 +1,4 @@
-//! Laws of cards: their texts, how few settings can suffice, and cards that prove themselves.
+//! Laws about the texts of cards, the least number of settings, and cards that prove themselves.
 ghost use Rattle.kd_card.specs.Laws.{TextsDetermineCards, NoCardBeginsAnother, ReadingGivesCards, CardsHaveNoFault};
 ghost use Rattle.kd_card.specs.Laws.{OneCardFault, LooseThingsAreCounted, AsFewAreNeeded, FittingPricesBoundLists};
 ghost use Rattle.kd_card.specs.Laws.{ProvingCardsAreAsLong, ProvingCardsAreShortest, ProvingPricesAreTight};
@@ -43,8 +43,8 @@ pub fn as_few_are_needed()
     ensures { AsFewAreNeeded }
 {}
 
-/// If a card with prices by number proves itself, the number of settings is the sum of the prices plus the number of
-/// loose things.
+/// Suppose that a card with prices by number proves itself. Its number of settings is the sum of its prices plus the
+/// number of loose things.
 ///
 /// Prices are *by number* if each cable and each column, or each bar and each row, has its own price. A thing is
 /// *loose* if it isn't as the day says. Cables and bars are never loose.

@@ -1,4 +1,5 @@
-//! The things of a machine that aren't as the day says: their number, and the settings that they need.
+//! Loose things: slots, rings, letters and the like that aren't as the day says. Their number, and the settings that
+//! they need.
 
 pub(crate) mod count;
 pub(crate) mod pin;
@@ -10,7 +11,7 @@ ghost use Rattle.kd_card.specs.Loose.{setting_unless};
 
 use kd_state::{Setting, Settings};
 
-/// Appends `setting`, unless `already` is true: then the machine is already as `setting` would set it.
+/// Appends `setting` if `already` is false. If `already` is true, the machine is as `setting` would set it.
 pub fn push_unless(settings: &mut Settings, already: bool, setting: Setting)
     requires { array_vec_len settings.old + 1 ≤ 192 }
     ensures items { settings.new.items ≡ settings.old.items ++ setting_unless already setting }

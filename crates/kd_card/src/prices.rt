@@ -255,7 +255,6 @@ fn copy_if_group<K: Kind, const N: usize>(kinds: &[K]) -> Option<ArrayVec<K, N>>
     }
 }
 
-/// Copies `elements` to an `ArrayVec`.
 fn copy_list<K: Copy + Default, const N: usize>(elements: &[K]) -> ArrayVec<K, N>
     requires { length elements.now ≤ N }
     ensures { result.items ≡ elements.now }

@@ -57,7 +57,7 @@ desk_grammar = record {
   subs = type_shape ∷ apply_shape ∷ card_shape ∷ check_shape ∷ direction_shape Send ∷ direction_shape Receive ∷ [];
 }
 
--- ---- A command with other values in place of its files.
+-- ---- A command whose files are replaced by other values, such as their bytes.
 -- Code: `Command` has two type parameters: one for files that are read whole, and one for a file that is streamed.
 -- Test: tests/cases/desk-program.toml
 

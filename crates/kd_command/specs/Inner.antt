@@ -13,7 +13,7 @@ use Rattle.kd_command.specs.CommandLine.{NamedCommand, IsCommandOf, command_shap
 abbrev pub app_without_subcommands : Shape → App
 app_without_subcommands shape = record { top = shape; subs = [] }
 
--- `command_shape` of `name` and `words`, where the arguments' names in `words` are borrowed
+-- `command_shape name words`, for argument names `words` that are borrowed
 abbrev pub borrowed_shape : List ℕ → List (Bor (List ℕ)) → Shape
 borrowed_shape name words = command_shape name (map (λ word. word.now) words)
 
@@ -29,11 +29,11 @@ pub record IsMadeOf (grammar : Grammar) (name : List ℕ) (words : List (Bor (Li
   pub shape : app_of grammar ≡ app_without_subcommands (borrowed_shape name words)
   pub local : (out-Command grammar).has_globals ≡ false
 
--- No command is meant by the name and the argument values in `said`.
+-- The name and the argument values in `said` mean no command.
 abbrev pub IsNoCommand : List ℕ × List Row → Type 0
 IsNoCommand said = (command : NamedCommand) → ¬ (IsCommandOf said command)
 
--- the task, with its borrowed file name, if it has one, replaced by the name itself
+-- the task, with its borrowed file name (if it has a file) replaced by the name itself
 abbrev pub unborrowed_task : Task (Bor (List ℕ)) (Bor (List ℕ)) → Task (List ℕ) (List ℕ)
 unborrowed_task task = with_task_files (λ name. name.now) (λ name. name.now) task
 

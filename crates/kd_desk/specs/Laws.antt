@@ -21,22 +21,23 @@ abbrev pub SettingsHaveNoFault : Type 0
 SettingsHaveNoFault =
     (bytes : List ℕ) (xs : List Setting) (fault : DeskFault) → AreSettings bytes xs → ¬ (IsSettingsFault bytes fault)
 
--- Bytes have at most one fault if they are read as a list or a card.
+-- If bytes are read as a list or a card, they have at most one fault.
 abbrev pub SettingsHaveOneFault : Type 0
 SettingsHaveOneFault =
     (bytes : List ℕ) (fault other : DeskFault) → IsSettingsFault bytes fault → IsSettingsFault bytes other
     → fault ≡ other
 
--- ---- The laws of a month: its cards set the machine to each day, on an Enigma by the fewest settings in all.
+-- ---- The laws of a month: its cards set the machine to each day. On an Enigma, these cards have the fewest settings
+-- in all.
 
--- Cards and machine files that are written for one day after another set the machine to each of these days.
+-- If cards and machine files are written for one day after another, they set the machine to each of these days.
 abbrev pub MonthsSetTheMachine : Type 0
 MonthsSetTheMachine =
     (file sheet numbers : List ℕ) (papers : List CardAndFile) → AreWrittenInTurn file sheet numbers papers
     → SetTheMachineInTurn file sheet numbers papers
 
--- On a rotor machine, cards written for one day after another have the fewest settings in all. Other lists that reach
--- these days, in this order and from the same machine, have no fewer settings.
+-- Suppose that cards for a rotor machine are written for one day after another. These cards have the fewest settings
+-- in all. Other lists that reach these days, in this order and from the same machine, have no fewer settings.
 abbrev pub MonthsAreFewest : Type 0
 MonthsAreFewest =
     (file sheet numbers : List ℕ) (papers : List CardAndFile) (m : Parts) (month : List (Option Day)) (days : List Day)

@@ -21,7 +21,7 @@ use Rattle.kd_desk.specs.RunCard.{IsChosenCard, Prints}
 use Rattle.kd_desk.specs.CallAnswers.{LacksMemory}
 use Rattle.kd_desk.specs.Settings.{AreSettings}
 
--- The texts written for a day: a card, and the file of the machine that the card's settings lead to.
+-- Two texts for a day: a card, and the file of the machine that the card's settings lead to.
 pub record CardAndFile : Type 0 where
   pub card : List ℕ
   pub file : List ℕ
@@ -33,8 +33,8 @@ sink_with text = record { had = Some []; has = Some text; had_failed = false; ha
 abbrev pub success : Result (Unit {0}) DeskFault
 success = Ok tt
 
--- `run_card` writes the card, from the machine file `file` and for day `number`. `run_apply` writes the next
--- machine file, from `file` and this card.
+-- For day `number`, `run_card` writes the card from the machine file `file`. `run_apply` writes the next machine file
+-- from `file` and this card.
 pub record AreWritten (file sheet : List ℕ) (number : ℕ) (papers : CardAndFile) : Type 0 where
   pub printed : IsAnswerOnDay file sheet number
       (λ m s. Prints (IsChosenCard m s number) m s number (sink_with papers.card) success) success

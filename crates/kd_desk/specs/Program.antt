@@ -43,12 +43,12 @@ KnownAction = Action (List ℕ) KnownFile
 abbrev pub KnownCommand : Type 0
 KnownCommand = Command (List ℕ) KnownFile
 
--- the function `made` applied to the file, or the fault if the file couldn't be read or opened
+-- what `made` gives for the file, or the fault if the file couldn't be read or opened
 abbrev pub with_file : {F X : Type 0} → Result F FileFault → (F → Result X FileFault) → Result X FileFault
 with_file (Ok file) made = made file
 with_file (Err fault) made = Err fault
 
--- the task with its file read or opened, or the fault if the file can't be read or opened
+-- the task with the content of its file, or the fault if the file can't be read or opened
 abbrev pub known_task : (List ℕ → Option (List ℕ)) → NamedTask → Result KnownTask FileFault
 known_task held tasks.Card = Ok tasks.Card
 known_task held (tasks.Check card) = with_file (content_of (held card)) (λ bytes. Ok (tasks.Check bytes))
@@ -129,7 +129,7 @@ CarriesOut left (Ok command) source sink answer =
     IsCommandDone left command source sink answer ⊎ StopsForMemory answer
 CarriesOut left (Err fault) source sink answer = (answer ≡ Err (Unread fault)) ⊎ StopsForMemory answer
 
--- ---- What holds of the program's answer: the command's answer, the files asked for, and the ports.
+-- ---- Conditions on the program's answer, on the files that it asked for, and on the ports.
 
 -- whether the program stopped before it read a message (a text, an order or a form) or wrote anything
 abbrev pub is_stopped_before_message : Result (Unit {0}) Stop → Bool

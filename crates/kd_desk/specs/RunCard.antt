@@ -21,9 +21,9 @@ use Rattle.kd_desk.specs.EquallySet.{EquallySetDecipherOn}
 use Rattle.kd_tables.specs.Ports.{Port}
 use Rattle.kd_host.specs.Writing.{WritesText}
 
--- A shortest card: its settings lead from the machine to a machine that is set as the day says. No shorter list leads
--- to a machine that is set as the day says, and the card's prices show this. `deciphers` doesn't depend on the card:
--- machines that are equally set for the day decipher each other's texts.
+-- A shortest card: its settings turn the machine into one that is set as the day says, and enciphers as the day asks.
+-- No shorter list leads to the day, and the card's prices show this. `deciphers` doesn't depend on the card: machines
+-- that are equally set for the day decipher each other's texts.
 pub record IsShortestCard (machine : Parts) (day : Day) (settings : List Setting) (prices : PriceParts) : Type 0 where
   pub leaves : (after : Parts) × Leads machine settings after × IsSheetsMachine after day
   pub shortest : IsShortest machine day settings
@@ -49,7 +49,7 @@ pub data Prints (Promise : List Setting → PriceParts → Type 0) (machine : Pa
       → Prints Promise machine day number sink answer
   Card : WritesCard Promise number sink answer → Prints Promise machine day number sink answer
 
--- ---- Which shortest card it is.
+-- ---- Which of several shortest cards the planner chooses.
 
 -- A shortest card for day `number`, as the planner chooses it. Its values are valid, and it proves itself. Its lines
 -- carry out a cheapest assignment, in the planner's order, and leave spare cables free.

@@ -21,8 +21,8 @@ use Rattle.kd_host.specs.Writing.{WritesText}
 abbrev pub verdict_text : ℕ → List ℕ
 verdict_text number = codes "SHORTEST " ++ decimal number ++ 10 ∷ []
 
--- The card proves itself, so no shorter list of settings reaches the day. The line that says SHORTEST was written, or
--- only a prefix of the line if the device failed.
+-- The card proves itself, so no shorter list of settings reaches the day. The line that says SHORTEST was written. If
+-- the sink failed, only a prefix of this line was written.
 pub record IsVerdictWritten (m : Parts) (s : Day) (settings : List Setting) (prices : PriceParts) (sink : Port)
     (answer : Result (Unit {0}) DeskFault)
     : Type 0 where

@@ -17,7 +17,7 @@ use Rattle.kd_desk.specs.declared.fault.DeskFault.TheVariants as faults
 abbrev pub begins_as_card : List ℕ → Bool
 begins_as_card bytes = starts_with nat_eq bytes (codes "CARD ")
 
--- The bytes are a card with the settings `settings`, for any day and any prices, or they are a list of `settings`.
+-- `bytes` are a list of `settings`, or a card with these settings, for any day and with any prices.
 pub data AreSettings (bytes : List ℕ) (settings : List Setting) : Type 0 where
   OfCard : IsTrue (begins_as_card bytes) → (day : ℕ) (prices : PriceParts) → IsCard bytes day settings prices
       → AreSettings bytes settings

@@ -21,8 +21,8 @@ abbrev pub stop_of_kind : ErrorKind → Stop
 stop_of_kind OutOfMemory = Refused (File NoMemory)
 stop_of_kind _ = Usage
 
--- The program's answer, made from a command's answer. Each fault becomes a `Stop`. The fault `Device` becomes
--- `ReadFailed` if a read of the opened file failed.
+-- The program's answer for a command's answer: each fault becomes a `Stop`. The fault `Device` becomes `ReadFailed` if
+-- a read of the opened file failed.
 abbrev pub stop_after : Bool → Result (Unit {0}) DeskFault → Result (Unit {0}) Stop
 stop_after file_failed (Ok done) = Ok done
 stop_after true (Err Device) = Err ReadFailed

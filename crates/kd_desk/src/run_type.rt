@@ -17,8 +17,8 @@ use std::alloc::Global;
 /// The text has capital letters; spaces, CR and LF between them are skipped. The ciphertext is written in capital
 /// letters. The faults of the machine file are tested first, then `NotReady`. At these faults, no text is read, and
 /// nothing is written. Then the text is read. The text is refused at the first byte that isn't allowed, or if it has
-/// more than 1,048,576 bytes. If the text is refused, or a read fails, the ciphertext of the letters read until then is
-/// written, without LF. If a write fails, only a prefix of the ciphertext is written.
+/// more than 1,048,576 bytes. If the text is refused, or a read fails, the letters before this point are still written
+/// as ciphertext, without LF. If a write fails, only a prefix of the ciphertext is written.
 pub fn run_type<R: Source, W: Sink>(
     alloc: Global,
     machine: &[u8],

@@ -29,8 +29,8 @@ abbrev pub IsEachOnItsWheel : List ℕ → Type 0
 IsEachOnItsWheel letters = (wheel : ℕ) → 1 ≤ wheel → wheel ≤ 6
     → Contains (ring_of wheel) (slice_index letters (wheel - 1))
 
--- At which place of wheel `wheel` its shown letter is, counted from 0. `letters` are the letters that the six wheels
--- show, from wheel 1 on. The result is 0 if the wheel lacks its letter.
+-- the place of the letter that wheel `wheel` shows, counted from 0; or 0 if the wheel lacks this letter. `letters` are
+-- the letters that the six wheels show, from wheel 1 on.
 abbrev pub shown_place : List ℕ → ℕ → ℕ
 shown_place letters wheel = unwrap_or (place_on (ring_of wheel) (slice_index letters (wheel - 1))) 0
 

@@ -1,4 +1,4 @@
--- The six pin wheels as the code has them, and the key of a Converter with these wheels. No public contract cites this
+-- The code's six pin wheels, `w1` to `w6`, and the key of a Converter with these wheels. No public contract cites this
 -- file.
 use Rattle.std.specs.Prelude.{◌≡◌, ℕ, List, [], ◌∷◌}
 use Rattle.kd_tables.specs.Rings.{ring_of}

@@ -34,7 +34,8 @@ key_after key n = key_turned key (window_after key.wheels key.window n)
 
 -- ---- The current's path as a product of permutations, and the cipher that steps the wheels before each letter.
 -- Source: the published accounts of the current's path.
--- Code: `Enigma` keeps the whole path at the letters that show as one table. Each step makes this table anew.
+-- Code: `Enigma` keeps one table: the whole path while the windows show their present letters. Each step makes this
+-- table anew.
 -- Test: tests/refusals
 
 -- for each wheel, its permutation at the given ring letter and window letter; all lists are in order from the left

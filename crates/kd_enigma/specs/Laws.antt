@@ -41,7 +41,7 @@ EnigmaTwiceGivesBack =
     (key : RotorKey) (text : List ℕ) → IsPlugboard key.plugs → All (λ letter. letter < 26) text
     → enigma_cipher key (enigma_cipher key text) ≡ text
 
--- ---- The same of a key whose plugboard is given by its pairs.
+-- ---- The laws of the path and of the cipher if the plugboard is made from pairs of letters.
 
 -- The pairs can be plugged: their letters are letters from A to Z, and no letter occurs twice.
 pub record ArePairs (pairs : List (ℕ × ℕ)) : Type 0 where
@@ -66,8 +66,8 @@ PairedKeysGiveBack =
 
 -- ---- A text in chunks.
 
--- The text `first ++ rest` can be enciphered in two chunks. After the chunk `first`, the machine enciphers the chunk
--- `rest` with the key that it then has.
+-- The text `first ++ rest` can be enciphered in two chunks. The key for `rest` is the key after the letters of
+-- `first`.
 abbrev pub EnigmaCipherOfChunks : Type 0
 EnigmaCipherOfChunks =
     (key : RotorKey) (first rest : List ℕ)

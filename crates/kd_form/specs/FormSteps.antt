@@ -119,7 +119,7 @@ IsHeadingAnswer number expected found = do
 abbrev pub current_part_start : FormReader → List ℕ → PartStart
 current_part_start r front = record { number = r.number; expected = r.expected; bytes_before = length front }
 
--- All parts have been read, and the next part would start at `q`.
+-- All parts have been read. A further part would start at `q`.
 abbrev pub IsAtPartStart : PartStart → PartsProperty
 IsAtPartStart q p parts = (p ≡ q) × (parts ≡ [])
 

@@ -26,7 +26,8 @@ abbrev pub next_part_start : PartStart → ℕ → List ℕ → PartStart
 next_part_start p count part = record
     { number = p.number + 1; expected = Some count; bytes_before = p.bytes_before + length part }
 
--- a statement about the unread parts of a form, such as `IsAnswerAt`: about where these parts start, and their bytes
+-- a condition on the unread parts of a form: on the start of the first one, and on the bytes of each. For example,
+-- `IsLastPart` says that one part is unread.
 abbrev pub PartsProperty : Type 1
 PartsProperty = PartStart → List (List ℕ) → Type 0
 
@@ -67,7 +68,7 @@ IsFormReadTo s Holds form text =
 
 -- The answer for a whole form whose parts before `p` have no fault:
 -- - If parts are left, the first of them has a fault, and `answer` is this fault.
--- - If no parts are left, `answer` is success if the form has as many parts as its headings say. Otherwise, it is
+-- - If no parts are left: `answer` is success if the form has as many parts as its headings say, otherwise
 --   `PartOrder`.
 abbrev pub IsAnswerAt : Day → Result (Unit {0}) FormFault → PartsProperty
 IsAnswerAt s answer p [] = (count : ℕ) × (p.expected ≡ Some count) × Demands (p.number ≡ count + 1) PartOrder answer
@@ -91,11 +92,12 @@ IsTextOf s form text = IsFormAnswer s form (Ok text)
 abbrev pub IsReceiveFault : Day → List ℕ → FormFault → Type 0
 IsReceiveFault s form fault = IsFormAnswer s form (Err fault)
 
--- ---- Which faults no further bytes can change, and what is written before a fault.
+-- ---- Faults that no further bytes can change, and what is written before a fault.
 -- Test: tests/cases/desk-messages.toml, tests/refusals
 
--- The first unread part begins at `p`, and has the fault `fault`. No further bytes can change this. If the part is the
--- last one so far, its heading line has ended with LF, and the fault is in this line or in a byte of the body.
+-- The first unread part begins at `p`, and has the fault `fault`, which no further bytes can change. If this part is
+-- the last one so far, its heading line has ended with LF. The fault is then in the heading line, or in a byte of the
+-- body.
 abbrev pub IsPartFaultForGood : Day → FormFault → PartsProperty
 IsPartFaultForGood s fault p [] = ⊥
 IsPartFaultForGood s fault p (part ∷ []) =
@@ -114,8 +116,8 @@ pub data IsRefusedForGood (s : Day) (form text : List ℕ) (fault : FormFault) :
 abbrev pub IsLastPart : PartsProperty
 IsLastPart p parts = (part : List ℕ) × (parts ≡ part ∷ [])
 
--- `text` is what has been written of the form's text. If there is a fault, `text` is the text of the parts before the
--- fault. If there is no fault yet, `text` is the text of all parts but the last.
+-- What a call has written after it has read the bytes of a form. With a fault, `text` is the text of the parts before
+-- the fault. Without a fault so far, `text` is the text of all parts but the last.
 abbrev pub IsTextBefore : Day → Option FormFault → List ℕ → List ℕ → Type 0
 IsTextBefore s None form text = IsFormReadTo s IsLastPart form text
 IsTextBefore s (Some fault) form text = IsAnswerAfter s form text (Err fault)

@@ -1,9 +1,10 @@
--- A rule for a list whose items are tested in turn: the first item that fails gives the fault.
+-- How a list is tested item by item: the first item that fails gives the fault.
 use Rattle.std.specs.Prelude.{ℕ, ◌+◌, List, [], ◌∷◌}
 use Rattle.kd_state.specs.AnswerRules.{AnswerRule, ◌>>=◌, Yields}
 
--- The result of testing the items of a list in turn: success, or the fault of the first item that fails. `Test` gives
--- the rule for one item, from its number and the item. The first item has the number `number`.
+-- The result of testing the items of a list in turn: success, or the fault of the first item that fails.
+-- `Test number item` is the rule for one item. The first item has the number `number`, and the next items count on
+-- from it.
 abbrev pub InTurn : {F X : Type 0} → (ℕ → X → AnswerRule F (Unit {0})) → ℕ → List X → AnswerRule F (Unit {0})
 InTurn Test number [] = Yields tt
 InTurn Test number (item ∷ items) = do

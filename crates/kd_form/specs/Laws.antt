@@ -35,7 +35,7 @@ FormsStayRefused =
 abbrev pub FormIsAnswered : Day → List ℕ → Type 0
 FormIsAnswered s form = (answer : Result (List ℕ) FormFault) × IsFormAnswer s form answer
 
--- If an order becomes a form, there is a text that the form's receiver must get.
+-- Each order that becomes a form has a plaintext: the text that the form's receiver must get.
 abbrev pub OrdersGiveLetters : Type 0
 OrdersGiveLetters = (s : Day) (order form : List ℕ) → IsFormOf s order form → (given : List ℕ)
     × IsPlaintextOf s order given

@@ -18,7 +18,7 @@ pub record IsReadyOnKey (m : Parts) (s : Day) : Type 0 where
 abbrev pub IsKeyFault : Parts → Day → FormFault → Type 0
 IsKeyFault m s fault = (¬ (IsReady m) × (fault ≡ NotReady)) ⊎ (IsReady m × ¬ (OnKey m s) × (fault ≡ NotOnKey))
 
--- `fault` satisfies `is_fault`. Or it is `NoMemory`, which is possible only if the statement `takes_memory` is true.
+-- `fault` satisfies `is_fault`, or is `NoMemory`. `NoMemory` is possible only if the condition `takes_memory` is true.
 abbrev pub IsFaultOrNoMemory : (FormFault → Type 0) → Type 0 → FormFault → Type 0
 IsFaultOrNoMemory is_fault takes_memory fault = (takes_memory × (fault ≡ NoMemory)) ⊎ is_fault fault
 

@@ -46,9 +46,9 @@ abbrev pub IsPatternFault : (List ℕ → Type 0) → List ℕ → PatternFault 
 IsPatternFault Is bytes Incomplete = (more : List ℕ) × (more ≢ []) × Is (bytes ++ more)
 IsPatternFault Is bytes Mismatch = (more : List ℕ) → ¬ (Is (bytes ++ more))
 
--- The byte at `position`, counted from 1, is the first wrong byte in the order's head. A head can begin with the bytes
--- before this byte, but not with these bytes and this byte. If the order ends within its head, `position` is one past
--- the order's last byte.
+-- The byte at `position`, counted from 1, is the first wrong byte in the order's head. Some head begins with the bytes
+-- before this byte, but none begins with the bytes up to and including it. If the order ends within its head,
+-- `position` is one past the order's last byte.
 pub record IsOrderHeadFault (s : Day) (order : List ℕ) (position : ℕ) : Type 0 where
   pub before : List ℕ
   pub rest : List ℕ

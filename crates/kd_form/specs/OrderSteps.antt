@@ -39,7 +39,7 @@ IsHeadStep s keys line order Open = IsHeadBegun s keys line order
 IsHeadStep s keys line order Text = IsOrder s order keys order []
 IsHeadStep s keys line order Bad = IsOrderHeadFault s order (length order)
 
--- ---- The text behind the head. No public contract cites these definitions.
+-- ---- The text after the head. No public contract cites these definitions.
 
 -- There are keys for at most 99 parts. All keys are for the day's model, and suit the day (`IsKeysAnswer`).
 pub record AreSuitedKeys (s : Day) (keys : List Keys) : Type 0 where
@@ -57,7 +57,8 @@ pub record AreLettersTaken (s : Day) (keys : List Keys) (w : PartWriter) (letter
   pub made : ArePartTextsMade s 1 (length keys) (take w.written keys)
       (pieces (part_size s) (take (part_size s * w.written) letters)) sent
 
--- At the end of the text, the writer writes the last part `made` after `sent`, or refuses the text.
+-- The answer at the end of the text. After a success, the parts `sent`, followed by the last part `made`, are the
+-- whole form. With a fault, the text is refused, and `made` is empty.
 abbrev pub IsTextEndAnswer : Day → List Keys → List ℕ → List ℕ → List ℕ → Result (Unit {0}) FormFault → Type 0
 IsTextEndAnswer s keys letters sent made (Ok _) = IsMadeAnswer s keys letters (Ok (sent ++ made))
 IsTextEndAnswer s keys letters sent made (Err fault) = IsMadeAnswer s keys letters (Err fault) × (made ≡ [])

@@ -1,4 +1,4 @@
--- How a part is made on a machine that is set as the day says, and how many letters of text a part can have.
+-- How a machine on the day's key makes a part, and how many letters of text a part can have.
 -- Code: `DayMachine` has one engine, and sets its windows anew for each text.
 use Rattle.std.specs.Prelude.{◌≡◌, ℕ, ◌-◌, ◌%◌, List, [], ◌∷◌, ◌++◌, length, Option, Some, None, replicate}
 use Rattle.kd_state.specs.SheetDay.{Day, Rotor, Pin, AreADaysGroup}
@@ -75,7 +75,7 @@ abbrev pub pin_letters : Day → PinKeys → List ℕ → List ℕ → List ℕ
 pin_letters s k internal text = pin_indicators s k ++ cipher_from s internal (fill_last_group text)
     ++ pin_indicators s k
 
--- ---- Which keys suit a day, and the part of a form that a text becomes with them.
+-- ---- Keys that suit a day, and the part of a form that is made from a text with these keys.
 -- Test: tests/cases/desk-messages.toml
 
 -- The result of testing whether the keys of part `part` suit the day. On a rotor machine, the keys' group must be one

@@ -16,7 +16,7 @@ pub record HasReadSoFar (m : Message) (holds : List ℕ → List ℕ → Type 0)
   pub is : holds bytes text
   pub open_yet : IsOpen m bytes text
 
--- The reader has read some bytes, and can read `room` more bytes: their total number stays below 2^63.
+-- The reader has read some bytes. Even with `room` more bytes, their number stays below 2^63.
 pub record HasRoom (m : Message) (holds : List ℕ → List ℕ → Type 0) (room : ℕ) : Type 0 where
   pub bytes : List ℕ
   pub text : List ℕ
@@ -137,8 +137,8 @@ pub data IsReadStopped (m : Message) (new : List ℕ → List ℕ → Type 0) (s
       → sink.has_failed ≡ (sink.had_failed || is_device_interruption {T = Unit {0}} (Err stop))
       → IsReadStopped m new source sink read text stop
 
--- A call has taken the bytes `more` from the source. Either the reader has read them, and the answer is their number,
--- which is 0 only at the source's end. Or reading was interrupted, as `IsReadStopped` says.
+-- A call has taken the bytes `more` from the source. With the answer `Ok`, the reader has read them, and the answer is
+-- their number; it is 0 only at the source's end. With `Err`, reading was interrupted, as `IsReadStopped` says.
 abbrev pub HasBeenRead : Message → (List ℕ → List ℕ → Type 0) → Port → Port → List ℕ → List ℕ → List ℕ
     → Result ℕ Interruption
     → Type 0

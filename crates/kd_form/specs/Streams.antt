@@ -28,8 +28,8 @@ pub record IsOpen (m : Message) (bytes text : List ℕ) : Type 0 where
   pub unrefused : (fault : FormFault) → ¬ (m.stands bytes fault)
   pub written : m.written_before None bytes text
 
--- The bytes are the whole message. Either the message's result is `text`, or the message has a fault. With a fault, a
--- call writes `text` and then returns the fault.
+-- The answer of a call that has read the whole message `bytes`. After a success, `text` is the message's result. With
+-- a fault, the message has this fault, and `text` is what a call must write before it returns the fault.
 abbrev pub IsMessageAnswer : Message → List ℕ → List ℕ → Result (Unit {0}) FormFault → Type 0
 IsMessageAnswer m bytes text answer =
     MatchResult answer (λ _. m.becomes bytes text)
@@ -99,7 +99,7 @@ abbrev pub is_device : Result (Unit {0}) FormFault → Bool
 is_device (Err Device) = true
 is_device _ = false
 
--- ---- What a call does only for a machine on the day's key.
+-- ---- Calls that need a machine on the day's key.
 -- Test: tests/cases/desk-messages.toml
 
 -- whether the answer is the fault `NotReady` or `NotOnKey`
@@ -113,9 +113,9 @@ pub record IsUntouched (p : Port) : Type 0 where
   pub has : p.has ≡ p.had
   pub well : KeepsFailureFlag p
 
--- A call that may find a fault before it streams a message:
+-- The answer of a call that either refuses a message at once, or streams it:
 -- - `FaultBefore`: the answer is a fault that satisfies `is_fault`. Source and sink are left as they were.
--- - `NoFaultBefore`: the statement `may` is true, and the call streams the message, as `IsStreamed` says.
+-- - `NoFaultBefore`: the condition `may` is true, and the call streams the message, as `IsStreamed` says.
 pub data StreamsUnlessFault (is_fault : FormFault → Type 0) (may : Type 0) (message : Message) (source sink : Port)
     (answer : Result (Unit {0}) FormFault) : Type 0 where
   FaultBefore : (fault : FormFault) → is_fault fault → answer ≡ Err fault → IsUntouched source → IsUntouched sink

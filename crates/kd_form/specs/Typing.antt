@@ -46,8 +46,8 @@ TypesIfReady m source sink answer =
 
 -- ---- What the code holds. No public contract cites these definitions.
 
--- `lamps` is the ciphertext of the letters in `bytes`, enciphered from the key `key`. After these letters, the
--- machine's key is `left`.
+-- `lamps` is the ciphertext of the letters in `bytes`. The machine's key is `key` before these letters, and `left`
+-- after them.
 pub record IsTypedChunk (key left : EngineKey) (bytes lamps : List ℕ) : Type 0 where
   pub cipher : lamps ≡ cipher_text (cipher key) bytes
   pub after : left ≡ engine_key_after key (length (typed_letters bytes))

@@ -1,5 +1,5 @@
-//! `DayMachine`: a machine set as the day says, with any letters in its windows. The function `slots_of` tells how many
-//! slots a day's machine has.
+//! `DayMachine`: a machine that is set as the day says, with any letters in its windows. The function `slots_of` tells
+//! how many slots a day's machine has.
 ghost use Rattle.std.specs.Prelude.{◌≡◌, ◌↔◌, ◌≤◌, ◌<◌, length, All, IsTrue, MatchOption};
 ghost use Rattle.std.specs.Bool.{OnTrue};
 ghost use Rattle.kd_state.specs.EngineKey.{IsWindow};
@@ -13,7 +13,7 @@ use kd_state::{Engine, Entry, SheetDay, own_engine};
 use kd_tables::Letter;
 use std::marker::Model;
 
-/// A machine set as the day says, whose windows are set anew for each text.
+/// A machine that is set as the day says. Its windows are set anew for each text.
 #[derive(Drop)]
 pub struct DayMachine<'day> {
     pub(crate) day: &'day SheetDay,

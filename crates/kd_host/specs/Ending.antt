@@ -10,8 +10,8 @@ use Rattle.kd_tables.specs.Writing.{Writes}
 abbrev pub refused_line : List ℕ → List ℕ
 refused_line text = codes "refused " ++ text ++ 10 ∷ []
 
--- The program ends with the exit status `due`. Standard error takes the whole line, or only a prefix of the line if
--- standard error fails.
+-- The program ends with the exit status `due`. Standard error takes the whole line. If standard error fails, it takes
+-- only a prefix of the line.
 pub record EndsWithLine (line : List ℕ) (due : ℕ) (errors : Port) (status : ℕ) : Type 0 where
   pub ends : status ≡ due
   pub written : Result (Unit {0}) Device

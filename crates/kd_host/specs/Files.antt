@@ -84,7 +84,7 @@ abbrev pub AreAskedFor : List (List ℕ) → List AskedName → List AskedName �
 AreAskedFor names old new true = new ≡ old ++ map asked_and_had names
 AreAskedFor names old new false = MissesOne names old new
 
--- ---- What an inner function answers that reads or opens several files. No public contract cites this definition.
+-- ---- The answers of inner functions that read or open several files. No public contract cites this definition.
 
 -- `meant` is the expected result of reading files, and `answer` fits it. One of three things holds:
 -- - `answer` is `NoMemory`.

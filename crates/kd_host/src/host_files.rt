@@ -67,7 +67,6 @@ fn read_file(rt: &HostRuntime, alloc: Global, name: &str) -> Result<Content, Fil
     }
 }
 
-/// Opens the file `name`.
 fn open_file(rt: &HostRuntime, name: &str) -> Result<HostFile, FileFault>
     ensures { IfOk result (λ file. file.source.fault ≡ None) }
 {
@@ -82,7 +81,6 @@ pub struct HostFile {
 }
 
 impl HostFile {
-    /// Wraps an opened `file`.
     fn new(file: File) -> Self
         ensures { result.source.fault ≡ None }
     {

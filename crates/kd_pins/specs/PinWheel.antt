@@ -1,5 +1,5 @@
--- One pin wheel and its acting pin. The letter that the wheel shows decides which of its pins acts on the drum. Places
--- are counted from 0, in the wheel's own order.
+-- One pin wheel and its acting pin. The letter that the wheel shows decides which of the wheel's pins acts on the
+-- drum. Places are counted from 0, in the wheel's own order.
 -- Source: War Department TM 11-380.
 -- Code: `PinWheel` keeps the acting pin's place, and counts back from there to find the shown letter.
 -- Test: the_acting_pin_is_counted_in_the_wheels_own_order
@@ -46,8 +46,8 @@ wheel_showing wheel letter = wheel_at_place wheel (unwrap_or (place_on wheel.rin
 
 -- ---- What the code keeps. No public contract cites these definitions.
 
--- the place of the shown letter while the acting pin is at place `acting`: `offset` places before `acting`. The last
--- place comes before place 0.
+-- the place of the shown letter, `offset` places before the acting pin's place `acting`. The last place comes before
+-- place 0. For example, on 26 places, with the acting pin at place 3 and the offset 15, it is place 14.
 abbrev pub shown_place_at_acting : ℕ → ℕ → ℕ → ℕ
 shown_place_at_acting size acting offset = place_past size acting (size - offset)
 

@@ -1,4 +1,5 @@
-//! One pin wheel and its acting pin. The letter that the wheel shows decides which of its pins acts on the drum.
+//! One pin wheel and its acting pin. The letter that the wheel shows decides which of the wheel's pins acts on the
+//! drum.
 ghost use Rattle.std.specs.Prelude.{◌≡◌, ◌↔◌, ◌<◌, ◌≤◌, ◌+◌, ◌%◌, IsOk, IsTrue, OnOk, Contains};
 ghost use Rattle.kd_tables.specs.Refusals.{refusal_name};
 ghost use Rattle.kd_tables.specs.Rings.{IsRing};

@@ -1,4 +1,4 @@
--- A day of at most `number` pairs needs only the first `number` cables, if no other cable is in use.
+-- If only the first `number` cables are in use, a day with at most `number` pairs needs no others.
 use Rattle.std.specs.Prelude.{ℕ, ◌<◌, ◌≤◌, All, List, length}
 use Rattle.kd_state.specs.declared.machine.parts.Parts.{Parts, TheVariants.{Pin, Rotor}}
 use Rattle.kd_state.specs.{Setting.Leads, declared.setting.Setting.{Setting, TheVariants.{Pull, Put}}}

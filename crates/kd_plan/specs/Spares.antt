@@ -14,9 +14,9 @@ is_spare cable = is_none cable.0 && is_none cable.1
 abbrev pub IsSpareCable : List (Option ℕ × Option ℕ) → ℕ → Type 0
 IsSpareCable cables number = IfSome (numbered_item cables number) (λ cable. IsTrue (is_spare cable))
 
--- The settings put letters into cables in use, and otherwise only into the first spare cables. If the day has `p`
--- pairs, and `c` cables are in use, at most `p - c` spare cables get letters. If `c` is above `p`, no spare cable gets
--- letters.
+-- Settings may put letters into all cables in use, but only into the first spare cables. If the day has `p` pairs, and
+-- `c` cables are in use, these are the first `p - c` spare cables. For example, with ten pairs and eight cables in
+-- use, two spare cables may get letters. If `c` is `p` or more, no spare cable gets letters.
 abbrev pub SparesStayFree : Parts → Day → List Setting → Type 0
 SparesStayFree = by_model (λ settings. ⊥)
     (λ machine day settings. (cable letter : ℕ) → Contains settings (Put cable letter)

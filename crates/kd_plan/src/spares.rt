@@ -29,7 +29,7 @@ pub(crate) fn keep_spares_free(cables: &[Cable; 13], pairs: &[(Letter, Letter)],
     }
 }
 
-/// Finds the first cable without an assigned pair among the cables that come before the spare cable `spare`.
+/// Of the cables that come before the spare cable `spare`, finds the first that gets no pair.
 ///
 /// A cable comes before `spare` if it is in use, or has a lower number. Cables are counted from 0. `pairs` is the
 /// number of pairs.

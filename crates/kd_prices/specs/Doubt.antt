@@ -89,9 +89,9 @@ IsDoubt machine day settings prices doubt = IsCheckedAnswer machine day settings
 
 -- ---- The steps of finding the first doubt. No public contract cites these definitions.
 
--- The result of checking settings by prices: success if the settings lead to the day and are proved shortest, otherwise
--- the first doubt. The lists `rows` and `columns` have `number` prices each, for the rows and columns of the table of
--- costs.
+-- The result of checking settings with the prices in two lists. Success means that the settings lead to the day, and
+-- that the prices prove them shortest. Otherwise, the result is the first doubt. The lists `rows` and `columns` have
+-- `number` prices each, for the rows and columns of the table of costs.
 abbrev pub IsByPricesAnswer : Parts → Day → List Setting → ℕ → List ℤ → List ℤ → AnswerRule Doubt (Unit {0})
 IsByPricesAnswer machine day settings number rows columns answer =
     (prices : PriceParts) → machine_prices prices ≡ rows → day_prices prices ≡ columns → table_size prices ≡ number

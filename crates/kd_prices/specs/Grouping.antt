@@ -14,7 +14,7 @@ HaveOnePriceEach {X} pairs =
 abbrev pub IsValidKeyAndPrice : {K X : Type 0} → KindFormat K X → X × ℤ → Type 0
 IsValidKeyAndPrice format pair = format.InForm pair.0 × (unsigned_abs pair.1 ≤ 9999)
 
--- the kind with the key and the price of `pair`, and with the count 1
+-- a kind with the count 1, made from `pair`: a key and its price
 abbrev pub kind_of_one : {X : Type 0} → X × ℤ → KindOf X
 kind_of_one pair = record { key = pair.0; count = 1; price = pair.1 }
 
@@ -29,12 +29,12 @@ pub record CanBeKinds {K X : Type 0} (format : KindFormat K X) (pairs : List (X 
   pub one_price : HaveOnePriceEach pairs
   pub fine : All (IsValidKeyAndPrice format) pairs
 
--- The list `new` is the list `old`, followed by added kinds. To expand a kind is to repeat its key and price as often
--- as its count says.
+-- The list `new` is the list `old`, followed by added kinds. A kind is expanded by repeating its key and price as
+-- often as its count says.
 -- - Expanded, the added kinds are the expansion of `kind`, and then `pairs`.
 -- - If the keys of `kind` and `pairs` can be grouped into valid kinds, the added kinds are valid and strictly
 --   ascending.
--- - If, besides, the key of `kind` comes after the kind `last`, so do all added kinds.
+-- - If the key of `kind` also comes after a kind `last`, all added kinds come after `last`.
 pub record AppendsKinds {K X : Type 0} (format : KindFormat K X) (kind : KindOf X) (pairs : List (X × ℤ))
     (old new : List K) : Type 0 where
   pub made : List K
@@ -44,13 +44,13 @@ pub record AppendsKinds {K X : Type 0} (format : KindFormat K X) (kind : KindOf 
       → ((first : K) → (format.kind first).key ≡ kind.key → ComesAfter format last first)
       → AreKinds format last made
 
--- ---- the price of each key of a kind
+-- ---- how the price of a key is found among kinds
 
 -- No kind in `kinds` has both the key `key` and a count above 0.
 abbrev pub HasNoneLeft : {X : Type 0} → List (KindOf X) → X → Type 0
 HasNoneLeft kinds key = All (λ pair. pair.0 ≢ key) (expansion kinds)
 
--- A kind stands for as many copies of its key and price as its count says. The kinds `left` stand for the copies of
--- `kinds`, less one copy of `key` and `price`.
+-- Taking one `key` with the price `price` away from `kinds` leaves the kinds `left`. For example, a kind with the
+-- count 3 is left with the count 2.
 abbrev pub TakesOne : {X : Type 0} → List (KindOf X) → X → ℤ → List (KindOf X) → Type 0
 TakesOne kinds key price left = IsPermutation (expansion kinds) ((key, price) ∷ expansion left)

@@ -30,7 +30,8 @@ pub record AreShortest (machine : Parts) (day : Day) (settings : List Setting) (
   pub shortest : IsShortest machine day settings
   pub count : length settings ≡ number
 
--- After the first `lines` settings of a card that proves itself, the remaining settings are a shortest list to the day.
+-- Suppose that a card proves itself, and that its first `lines` settings are carried out. The remaining settings are
+-- then a shortest list to the day.
 abbrev pub RestIsShortest : Type 0
 RestIsShortest =
     (machine between : Parts) (day : Day) (settings : List Setting) (prices : PriceParts) (lines : ℕ)

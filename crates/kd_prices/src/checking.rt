@@ -98,7 +98,8 @@ fn bar_prices(
     }
 }
 
-/// Finds the first doubt about a card's `settings`, given the prices of the table's rows and columns.
+/// Finds the first doubt about a card's `settings`. `prices` are the prices of the rows and columns of the table of
+/// costs.
 ///
 /// If `prices` is an error, returns this error's doubt.
 fn check_by_prices<const N: usize>(

@@ -27,8 +27,9 @@ pub enum Doubt {
     PriceTooHigh(u8, u8),
     /// The sum of the prices isn't the number of lines that change a cable or a bar.
     SumDiffers,
-    /// This line is the first that isn't needed. It changes no cable and no bar, and doesn't lower the number of loose
-    /// things by one. A thing is loose if it isn't as the day says; cables and bars are never loose.
+    /// The first line that isn't needed. A line is needed if it changes a cable or a bar, or if it lowers the number
+    /// of loose things by one. A ring, for example, is loose if it isn't as the day says; cables and bars are never
+    /// loose.
     NeedlessLine(usize),
 }
 

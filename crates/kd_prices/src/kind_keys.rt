@@ -7,7 +7,6 @@ use kd_card::Kind;
 use kd_state::{column_at, letters_in_order};
 use kd_tables::Letter;
 
-/// Whether two keys of kinds are the same.
 pub(crate) fn is_same_key<K: Kind>(one: &K::Key, other: &K::Key) -> bool
     ensures { IsTrue result ↔ (one.now ≡ other.now) }
 {

@@ -7,7 +7,8 @@ pub fn a_card_is_in_one_doubt_at_most()
     ensures one { OneDoubt }
 {}
 
-/// After any number of lines of a card that proves itself, the remaining lines are a shortest list to the day.
+/// Suppose that a card proves itself, and that its first lines are carried out. The remaining lines are then a
+/// shortest list to the day.
 pub fn rest_of_a_card_is_shortest()
     ensures { RestIsShortest }
 {}

@@ -12,15 +12,16 @@ use Rattle.kd_sheet.specs.Sheet.{day_of, month_of}
 use Rattle.kd_sheet.specs.SheetFile.{day_for, sheet_of}
 use Rattle.kd_sheet.specs.SheetText.{AreSheetDays, sheet_text}
 
--- The file written for legal parts is read as the same parts, but with each cable's letters in alphabetical order.
+-- If legal parts are written to a file, it is read as the same parts, but with each cable's letters in alphabetical
+-- order.
 abbrev pub LegalPartsAreReadBack : Type 0
 LegalPartsAreReadBack = (m : Parts) → IsLegal m → machine_of (machine_text m) ≡ Ok (with_cables_in_order m)
 
--- The file written for a machine is read as the same machine.
+-- If a machine is written to a file, this file is read as the same machine.
 abbrev pub WrittenFilesAreReadBack : Type 0
 WrittenFilesAreReadBack = (m : Parts) → IsMachine m → machine_of (machine_text m) ≡ Ok m
 
--- The sheet written for one or more legal days with different numbers is read as exactly these days.
+-- If one or more legal days with different numbers are written as a sheet, the sheet is read as exactly these days.
 abbrev pub WrittenSheetsAreReadBack : Type 0
 WrittenSheetsAreReadBack = (day : Day) (days : List Day) → AreSheetDays [] (day ∷ days)
     → sheet_of (sheet_text (day ∷ days)) ≡ Ok (month_of (day ∷ days))

@@ -1,4 +1,4 @@
--- A key sheet as a month, in which some days have an entry.
+-- A key sheet: a month in which some days have an entry.
 -- Code: `Sheet` has an array of 31 places, and puts each day at the place of its number.
 -- Test: tests/cases/desk-files.toml
 use Rattle.std.specs.Prelude.{◌≡◌, ℕ, ◌==◌, Bool, false, List, length, map, find, Option, Some}

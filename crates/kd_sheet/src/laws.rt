@@ -2,16 +2,17 @@
 ghost use Rattle.kd_sheet.specs.Laws.{LegalPartsAreReadBack, WrittenFilesAreReadBack, WrittenSheetsAreReadBack};
 ghost use Rattle.kd_sheet.specs.Laws.{LegalDaysAreDescribed, DaysAreTheEntries};
 
-/// The file written for a machine is read as the same machine.
+/// If a machine is written to a file, this file is read as the same machine.
 ///
-/// The file written for legal parts is read as these parts, but with each cable's letters in alphabetical order.
+/// If legal parts are written to a file, it is read as these parts, but with each cable's letters in alphabetical
+/// order.
 #[tactic(auto, using(crate::proofs::ReadBack::parts_are_read_back))]
 pub fn written_files_are_read_back()
     ensures machines { WrittenFilesAreReadBack }
     ensures parts { LegalPartsAreReadBack }
 {}
 
-/// The sheet written for one or more legal days with different numbers is read as exactly these days.
+/// If one or more legal days with different numbers are written as a sheet, the sheet is read as exactly these days.
 #[tactic(auto, using(crate::proofs::Days::sheet_again))]
 pub fn written_sheets_are_read_back()
     ensures { WrittenSheetsAreReadBack }
@@ -19,7 +20,7 @@ pub fn written_sheets_are_read_back()
 
 /// A day is legal exactly if a key sheet with only one entry can describe this day.
 ///
-/// If a key sheet is read without a fault, its day `number` is the day that its entry for this number describes.
+/// If a key sheet is read without a fault, its days are exactly those that its entries describe.
 pub fn days_are_the_entries()
     ensures legal { LegalDaysAreDescribed }
     ensures sheet { DaysAreTheEntries }

@@ -1,4 +1,4 @@
-//! A key sheet: a month, in which some days have an entry.
+//! A key sheet: a month in which some days have an entry.
 ghost use Rattle.std.specs.Prelude.{◌≡◌, ◌↔◌, option_copied, slice_set, ◌-◌, IfSome, IsTrue, List, [], Option, Some};
 ghost use Rattle.kd_state.specs.SheetDay.{Day, day_number};
 ghost use Rattle.kd_sheet.specs.Sheet.{day_of, has_day_of, has_days_of, month_of, HasDayOf, IsMonth};

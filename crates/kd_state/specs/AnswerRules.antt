@@ -3,7 +3,7 @@
 -- don't matter.
 use Rattle.std.specs.Prelude.{◌≡◌, Result, Ok, Err}
 
--- a rule: it says of each value and of each fault whether it is a right answer of a function
+-- a rule for the answers of a function: it says which values `Ok x` and which faults `Err fault` are right
 abbrev pub AnswerRule : Type 0 → Type 0 → Type 1
 AnswerRule F X = Result X F → Type 0
 
@@ -14,27 +14,28 @@ pub data ThenNext {F X Y : Type 0} (First : Result X F → Type 0) (Next : X →
   HasFault : (fault : F) → First (Err fault) → answer ≡ Err fault → ThenNext First Next answer
   GoesOn : (x : X) → First (Ok x) → Next x answer → ThenNext First Next answer
 
--- The rule for two successive steps. The left operand is the rule for the first step. The right operand is a function:
--- from the value that the first step finds, it makes the rule for the second step.
+-- Joins the rules of two steps: `says >>= next` is `ThenNext says next`. From the value `x` that the first step finds,
+-- `next x` makes the rule for the second step.
 infixl 10 ◌>>=◌
 abbrev pub ◌>>=◌ : {F X Y : Type 0} → AnswerRule F X → (X → AnswerRule F Y) → AnswerRule F Y
 says >>= next = ThenNext says next
 
--- the rule for a step that gives the value `x`: only `x` is right
+-- the rule by which only the answer `Ok x` is right
 abbrev pub Yields : {F X : Type 0} → X → AnswerRule F X
 Yields x answer = answer ≡ Ok x
 
--- the rule of a search: each value for which `Holds` is true is right. If there is no such value, only the fault `due`
--- is right.
+-- the rule of a search for a value that satisfies `Holds`. If there are such values, each of them is right. If there
+-- are none, only the fault `due` is right.
 abbrev pub Finds : {F X : Type 0} → (X → Type 0) → F → AnswerRule F X
 Finds Holds due (Ok x) = Holds x
 Finds {X} Holds due (Err fault) = ((x : X) → ¬ (Holds x)) × (fault ≡ due)
 
--- The rule for a test: if `Holds` is true, success is right. Otherwise, the fault `due` is right.
+-- The rule of a test. If `Holds` is true, only success is right. Otherwise, only the fault `due` is right.
 abbrev pub Demands : {F : Type 0} → Type 0 → F → AnswerRule F (Unit {0})
 Demands Holds due = Finds (λ _. Holds) due
 
--- The rule for a step that always finds a value: each value for which `Holds` is true is right, and no fault is right.
+-- The rule of a step without faults: each value that satisfies `Holds` is right. For example, a step reads all kinds
+-- at the beginning of some bytes; there may be none.
 abbrev pub FindsAlways : {F X : Type 0} → (X → Type 0) → AnswerRule F X
 FindsAlways Holds (Ok x) = Holds x
 FindsAlways Holds (Err fault) = ⊥

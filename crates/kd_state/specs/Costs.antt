@@ -1,5 +1,4 @@
--- Costs: how many settings it takes, at least, to give a cable the letters of a day's pair, or to give a bar a day's
--- reading.
+-- Costs: the least number of settings that give a cable the letters of a day's pair, or give a bar a day's reading.
 -- Code: `cable_cost` goes through the alphabet; `bar_cost` tries each standing with the reading.
 -- Test: kd_trials/src/state.rt
 use Rattle.std.specs.Prelude.{ℕ, ◌+◌, ◌-◌, nat_eq, nat_lt, min, Bool, false, not, ◌&&◌, List, [], ◌∷◌, ◌++◌, length}
@@ -31,7 +30,8 @@ one_unless same = if same then 0 else 1
 abbrev pub column_letters : Option (ℕ × ℕ) → List ℕ
 column_letters column = option_map_or (λ pair. pair.0 ∷ pair.1 ∷ []) column []
 
--- the cost of giving a cable the pair of a column: how many letters only the cable has, plus how many only the pair has
+-- the cost of giving a cable the letters of a column: how many letters are in the cable or in the column, but not in
+-- both. For example, it is 2 for the cable AB and the column AC.
 abbrev pub cable_cost : Option ℕ × Option ℕ → Option (ℕ × ℕ) → ℕ
 cable_cost cable column =
     count_by (λ l. exactly_one (has_letter (cable_letters cable) l) (has_letter (column_letters column) l)) alphabet
@@ -40,8 +40,8 @@ cable_cost cable column =
 abbrev pub lugs_moved : Place × Place → Place × Place → ℕ
 lugs_moved bar other = one_unless (is_same_place bar.0 other.0) + one_unless (is_same_place bar.1 other.1)
 
--- the standings with the reading `row`, in the order of the list `standings`; a standing is the places of a bar's two
--- lugs
+-- the standings with the reading `row`, in the order of the list `standings`: for example, `1-0L` and `1-0R` for the
+-- reading `0-1`
 unfoldable pub standings_as : ℕ × ℕ → List (Place × Place)
 standings_as row =
     filter (λ bar. let reading = reading_of bar in nat_eq reading.0 row.0 && nat_eq reading.1 row.1) standings
@@ -50,8 +50,8 @@ standings_as row =
 abbrev pub bar_cost : Place × Place → ℕ × ℕ → ℕ
 bar_cost standing row = fold min 2 (map (lugs_moved standing) (standings_as row))
 
--- the standing with the reading `row` that takes the fewest lug moves from the standing `bar`. If two standings take
--- equally many moves, it is the first of them in the list `standings`.
+-- of all standings with the reading `row`, the one nearest to the standing `bar`: the fewest lugs have to move. If two
+-- are equally near, it is the first of them in the list `standings`.
 abbrev pub nearest_standing : Place × Place → ℕ × ℕ → Option (Place × Place)
 nearest_standing bar row = find (λ other. nat_eq (lugs_moved bar other) (bar_cost bar row)) (standings_as row)
 
@@ -72,7 +72,8 @@ abbrev pub cost_table : Parts → Day → List (List ℕ)
 cost_table = by_model [] (λ machine day. costs_by cable_cost machine.cables (columns_of day.pairs))
     (λ machine day. costs_by bar_cost machine.bars day.rows)
 
--- ---- Loose things: all things that differ from the day, except cables and bars.
+-- ---- Loose things: a slot, reflector, ring, letter or pin that isn't as the day says. Cables and bars are never
+-- loose.
 
 -- how many things on the machine aren't as the day says; cables and bars don't count. A rotor machine's things are its
 -- slots, its reflector, and the rings and window letters of the day's wheels. A Converter's things are its pins, and

@@ -66,7 +66,7 @@ abbrev pub ListsHaveNoFault : Type 0
 ListsHaveNoFault =
     (bytes : List ℕ) (xs : List Setting) (fault : ListFault) → IsListText bytes xs → ¬ (IsListFault bytes fault)
 
--- A text, read as a list of settings, has at most one fault.
+-- If a text is read as a list of settings, it has at most one fault.
 abbrev pub OneListFault : Type 0
 OneListFault =
     (bytes : List ℕ) (fault other : ListFault) → IsListFault bytes fault → IsListFault bytes other → fault ≡ other

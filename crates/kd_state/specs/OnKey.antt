@@ -50,7 +50,7 @@ pub record ReadsAs (machine : Parts) (day : Day) : Type 0 where
   pub key : OnKey machine day
   pub window : ShowsWindow machine day
 
--- ---- The cables by columns. No public contract cites this definition.
+-- ---- The cable for each column. No public contract cites this definition.
 
 -- the cable for a column, with the letters of the column's pair in alphabetical order; empty for a column without a
 -- pair

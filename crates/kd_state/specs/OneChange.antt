@@ -23,9 +23,9 @@ pub record IsItemChanged {X : Type 0} (before : List X) (number : ℕ) (value : 
   pub item : numbered_item after number ≡ Some value
   pub others : (other : ℕ) → other ≢ number → numbered_item after other ≡ numbered_item before other
 
--- The machine has no reason to refuse the setting, and becomes `after`. One item changes, such as a cable or a ring.
--- Nothing else changes, not even the rings and letters of wheels in the box. But `Seat` also empties the wheel's old
--- slot.
+-- The machine has no reason to refuse the setting, and becomes `after`. The setting sets one item, such as a cable or
+-- a ring. Nothing else changes, not even the rings and letters of wheels in the box. But `Seat` also empties the
+-- wheel's old slot.
 abbrev pub MakesOneChange : Parts → Setting → Parts → Type 0
 MakesOneChange (Rotor m) (Pull cable letter) after =
     (held : Option ℕ × Option ℕ) × (numbered_item m.cables cable ≡ Some held) × Contains (cable_letters held) letter

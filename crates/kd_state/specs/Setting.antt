@@ -42,7 +42,7 @@ with_lug Right place bar = (bar.0, place)
 abbrev pub cable_without : ℕ → Option ℕ × Option ℕ → Option ℕ × Option ℕ
 cable_without letter cable = if option_map_or (nat_eq letter) cable.0 false then (cable.1, None) else (cable.0, None)
 
--- `cable` after `letter` is put at an empty end of it; the letters are then in alphabetical order
+-- the letters of `cable` and `letter`, in alphabetical order; `cable` must have an empty end
 abbrev pub cable_with : ℕ → Option ℕ × Option ℕ → Option ℕ × Option ℕ
 cable_with letter cable = cable_in_order (option_or cable.0 cable.1) (Some letter)
 
@@ -106,7 +106,7 @@ Carries machine setting after = outcome machine setting ≡ Ok after
 abbrev pub Refuses : Parts → Setting → Why → Type 0
 Refuses machine setting why = outcome machine setting ≡ Err why
 
--- ---- Settings carried out one after another, and the first that is refused.
+-- ---- Settings that are carried out one after another, and the first one that is refused.
 -- Code: `carry_all` is a loop that stops at the first setting that is refused.
 -- Test: tests/cases/desk-cards.toml
 

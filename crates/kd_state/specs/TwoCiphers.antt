@@ -34,7 +34,7 @@ abbrev pub window_of : Parts → List ℕ
 window_of (Rotor machine) = filter_map (letter_at machine) (seated_wheels machine)
 window_of (Pin machine) = machine.letters
 
--- ---- The cipher of a machine, by its slots, cables and lugs, and of a day, by its wheels, pairs and rows.
+-- ---- Two ciphers: a machine's, by its slots, cables and lugs; and a day's, by its wheels, pairs and rows.
 -- Source: the published accounts of the current's path; War Department TM 11-380.
 -- Code: a Converter's engine is made from the bars' readings, not from their lugs.
 

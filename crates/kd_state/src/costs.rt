@@ -1,4 +1,4 @@
-//! Costs: how many settings it takes, at least, to give a cable a day's pair, or to give a bar a day's reading.
+//! Costs: the least number of settings that give a cable a day's pair, or give a bar a day's reading.
 
 pub(crate) mod tables;
 
@@ -14,7 +14,7 @@ use kd_tables::{Letter, Place, Reading, Standing};
 
 /// The cost of giving `cable` the pair `column`, or of emptying the cable if `column` is `None`.
 ///
-/// The cost is the number of letters that only the cable or only the pair has.
+/// The cost is the number of letters that are in the cable or in the pair, but not in both.
 #[tactic(auto, using(crate::proofs::CostTable::at_most_four, crate::proofs::CostTable::counted_more))]
 pub fn cable_cost(cable: Cable, column: Option<(Letter, Letter)>) -> u8
     ensures cost { result ≡ costs.cable_cost cable column }
@@ -47,9 +47,9 @@ pub fn bar_cost(standing: Standing, row: Reading) -> u8
     lugs_moved(standing, nearest_standing(standing, row))
 }
 
-/// The standing that reads as `row` and takes the fewest lug moves from `standing`.
+/// Of all standings with the reading `row`, the one nearest to `standing`: the fewest lugs have to move.
 ///
-/// If two standings take equally many moves, the result is the first in the order of standings.
+/// If two standings are equally near, the result is the first of them in the order of standings.
 #[tactic(auto, using(crate::proofs::Prelude::nat_tests))]
 pub fn nearest_standing(standing: Standing, row: Reading) -> Standing
     ensures nearest { costs.nearest_standing standing row ≡ Some result }
@@ -63,7 +63,7 @@ pub fn nearest_standing(standing: Standing, row: Reading) -> Standing
     }
 }
 
-/// The standings that read as `row`, in order: two if exactly one number of `row` is 0, otherwise one.
+/// The standings with the reading `row`, in order: two if exactly one number of `row` is 0, otherwise one.
 #[tactic(auto, using(crate::proofs::CostTable::standings_of_zeros, crate::proofs::CostTable::one_zero, crate::proofs::CostTable::no_zero))]
 fn standings_of(row: Reading) -> (Standing, Option<Standing>)
     ensures { costs.standings_as row ≡ result.0 ∷ option_to_list result.1 }

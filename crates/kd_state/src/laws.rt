@@ -30,7 +30,8 @@ pub fn settings_keep_machines()
     ensures lists { ListsKeepMachines }
 {}
 
-/// A machine carries a setting out exactly if it has no reason to refuse the setting. Then only one thing changes.
+/// A machine carries a setting out exactly if it has no reason to refuse the setting. The setting then sets one item,
+/// such as a ring.
 ///
 /// Nothing else changes, not even the rings and letters of wheels in the box. The exception is `Setting::Seat`, which
 /// also empties the wheel's old slot.

@@ -39,7 +39,7 @@ pub record IsStep (wheels : List Wheel) (before after : List ℕ) : Type 0 where
   pub from_no_notch : IsFalse (stands_at_notch wheels before 1) → IsFalse (stands_at_notch wheels before 0)
       → after ≡ with_last_moved 1 before
 
--- ---- Several steps: as a chain of steps, and as a function, which the ciphers need.
+-- ---- Several steps: a relation between the first and the last window, and a function for the ciphers.
 -- Code: `Stepper` overwrites the letters of its window at each step.
 
 -- `n` steps, one after another, change the window from `first` to `last`.

@@ -64,7 +64,7 @@ InversesOfProducts =
     (p q : List ℕ) → IsPermutation26 p → IsPermutation26 q
     → inverse (followed_by p q) ≡ followed_by (inverse q) (inverse p)
 
--- The inverse of a shift by `k` is the shift by 26 - `k`.
+-- If `k` is at most 26, the inverse of the shift by `k` is the shift by `26 - k`.
 abbrev pub InversesOfShifts : Type 0
 InversesOfShifts = (k : ℕ) → k ≤ 26 → inverse (shift k) ≡ shift (26 - k)
 

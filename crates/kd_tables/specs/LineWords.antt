@@ -11,7 +11,7 @@ words_of line = slice_split (λ byte. byte == 32) line
 abbrev pub line_of : List (List ℕ) → List ℕ
 line_of words = join_with_byte 32 words
 
--- the line of `words`, then a line feed, then `rest`
+-- `words` with single spaces between them, then LF, then `rest`
 abbrev pub line_then : List (List ℕ) → List ℕ → List ℕ
 line_then words rest = line_of words ++ 10 ∷ rest
 

@@ -60,8 +60,8 @@ pub record Port : Type 0 where
   pub had_failed : Bool
   pub has_failed : Bool
 
--- The record `Port` of a source or a sink whose state a call changes from `old` to `new`. The functions `bytes` and
--- `failed` read a state: they give the bytes, and whether a `get` or a `put` has failed.
+-- The `Port` of a source or a sink, whose state is `old` before a call, and `new` after it. From a state, `bytes`
+-- gives the bytes, and `failed` says whether a `get` or a `put` has failed.
 abbrev pub port : {P : Type 0} → (P → Option (List ℕ)) → (P → Bool) → P → P → Port
 port bytes failed old new =
     record { had = bytes old; has = bytes new; had_failed = failed old; has_failed = failed new }

@@ -13,7 +13,7 @@ use Rattle.kd_tables.specs.declared.model.Family.TheVariants as families
 use Rattle.kd_tables.specs.declared.model.Model.{Model}
 use Rattle.kd_tables.specs.declared.model.Model.TheVariants.{EnigmaI, M3, M4, M209}
 
--- the letters of a text of capital letters, as numbers: A is 0, and Z is 25
+-- the letters of `text`, which has only capital letters, as numbers: A is 0, and Z is 25
 abbrev pub letters_of : List ℕ → List ℕ
 letters_of text = map (λ byte. byte - 65) text
 
@@ -95,7 +95,7 @@ family_of M3 = families.Rotor
 family_of M4 = families.Rotor
 family_of M209 = families.Pin
 
--- the value for a model's family: `rotor` for rotor machines, and `pin` for pin machines
+-- `by_family rotor pin family` is `rotor` for rotor machines, and `pin` for pin machines.
 abbrev pub by_family : {X : Type 0} → X → X → Family → X
 by_family rotor pin families.Rotor = rotor
 by_family rotor pin families.Pin = pin

@@ -5,9 +5,9 @@ ghost use Rattle.kd_tables.specs.Direction.{direction_word};
 /// Whether a message is sent or received.
 #[derive(Clone, Copy, Debug, PartialEq, Eq)]
 pub enum Direction {
-    /// The message's file is an order: keys and a plaintext, from which a form with the ciphertext is made.
+    /// The message's file is an order: keys and a plaintext. The order becomes a form.
     Send,
-    /// The message's file is a form, with the ciphertext, from which the plaintext is read.
+    /// The message's file is a form. Its ciphertext becomes the plaintext.
     Receive,
 }
 

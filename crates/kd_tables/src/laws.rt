@@ -43,8 +43,8 @@ pub fn products_are_permutations()
 
 /// A permutation and its inverse, one after the other, map each letter to itself.
 ///
-/// The inverse of a product is the product of the inverses in reverse order. The inverse of a shift by `k` is the
-/// shift by 26 - `k`.
+/// The inverse of a product is the product of the inverses in reverse order. If `k` is at most 26, the inverse of the
+/// shift by `k` is the shift by `26 - k`.
 #[tactic(auto, using(crate::proofs::Products::product_inverse, crate::proofs::Products::inverse_product, crate::proofs::Products::inverse_of_product, crate::proofs::Products::inverse_of_shift))]
 pub fn inverse_undoes()
     ensures after { InverseUndoesAfter }

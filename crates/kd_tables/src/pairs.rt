@@ -24,7 +24,6 @@ pub fn is_apart(pair: (Letter, Letter), pairs: &[(Letter, Letter)]) -> bool
     !(other == one || is_in_pairs(pair.0, pairs)) && !is_in_pairs(pair.1, pairs)
 }
 
-/// Whether `letter` is in one of `pairs`.
 fn is_in_pairs(letter: Letter, pairs: &[(Letter, Letter)]) -> bool
     ensures { result ≡ has_letter (letters_in_pairs pairs.now) letter }
 {

@@ -29,7 +29,7 @@ pub enum Refusal {
     BadHead,
     /// A line of a list or a card is missing, has a wrong form, or is out of order.
     BadLine,
-    /// A card has more than 192 settings.
+    /// A list or a card has more than 192 settings.
     TooMany,
     /// A card's prices are missing, too few or too many, or aren't for this machine and day.
     PriceMissing,
@@ -45,14 +45,14 @@ pub enum Refusal {
     PriceTooHigh,
     /// The sum of a card's prices isn't the number of the card's lines that change a cable or a bar.
     SumDiffers,
-    /// A line of a card isn't needed: it doesn't lower the number of things, such as slots or rings, that differ from
-    /// the day.
+    /// A line of a card isn't needed.
     ///
-    /// Lines for cables and bars aren't refused for this reason.
+    /// A line is needed if it changes a cable or a bar, or if it lowers the number of things, such as slots or rings,
+    /// that differ from the day.
     NeedlessLine,
     /// A file isn't a TOML document.
     NotToml,
-    /// A file doesn't name a known model.
+    /// A file names no known model, or a machine file of version 1 names the M4.
     UnknownModel,
     /// A TOML key of a file is missing.
     Missing,
@@ -76,13 +76,13 @@ pub enum Refusal {
     EmptyText,
     /// An order has too few or too many lines of keys. The refusal says how many are needed, and how many there are.
     PartKeys,
-    /// A letter that a message gives for a pin wheel (an external letter) isn't on this wheel.
+    /// A message's external letter isn't on its pin wheel.
     KeyNotOnWheel,
     /// On an Enigma, a part's group isn't one of the day's groups. On the Converter, a part's two list letters aren't
     /// the day's.
     WrongGroup,
     /// A part of a Converter's message has no internal key. The key's six letters are picked from twelve enciphered
-    /// letters, but for some wheel no letter on this wheel is left.
+    /// letters, wheel by wheel, but the twelve letters run out too early.
     IndicatorSpent,
     /// A part doesn't begin with a heading of the day's model.
     BadHeading,

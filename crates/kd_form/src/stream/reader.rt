@@ -22,7 +22,7 @@ pub(crate) trait ChunkReader<Context> {
     /// The kind of message.
     ghost message: { Context → Message };
 
-    /// The invariant: how the reader's state fits the bytes read so far, and the output for these bytes.
+    /// The invariant: it relates the reader's state to the bytes read so far, and to the output for these bytes.
     ghost holds: { Context → Self → List ℕ → List ℕ → Type 0 };
 
     /// Reads the next bytes of the message, and writes the result's next bytes to `sink`.
@@ -59,7 +59,7 @@ pub(crate) trait MessageReader {
     /// The kind of message.
     ghost message: { Day → Message };
 
-    /// The invariant: how the reader's state fits the bytes read so far, and the output for these bytes.
+    /// The invariant: it relates the reader's state to the bytes read so far, and to the output for these bytes.
     ghost holds: { Day → Self → List ℕ → List ℕ → Type 0 };
 
     /// Creates a reader that has read nothing.

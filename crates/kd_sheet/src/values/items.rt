@@ -1,4 +1,5 @@
-//! Reads the items of an array one after another. The rule for an item may depend on the items before it.
+//! Reads the items of an array one after another. The rule for an item may depend on the items before it: for example,
+//! no letter may come twice.
 ghost use Rattle.std.specs.Prelude.{◌≡◌, nat_eq, nat_le, ◌<◌, ◌≤◌, List, Result, IfOk, map, length};
 ghost use Rattle.toml.specs.{Data.{Data}, View.{view, table_view}};
 ghost use Rattle.kd_sheet.specs.Document.{◌>>=◌ as ◌followed_by◌, value_at, read_items, read_array, result_map};
@@ -11,7 +12,8 @@ use toml::{Table, Value};
 
 /// A type whose values can be read from the items of an array.
 ///
-/// `Given` is the type of what the reader needs besides the items. For wheels in slots, this is the key and the model.
+/// `Given` is the type of a value that reading needs besides the items. For wheels in slots, it is the key and the
+/// model.
 pub trait FromItem<Given> {
     /// How an item is read. The arguments are the value of type `Given`, the values of the earlier items, and the item.
     /// The result is the item's value or a fault.

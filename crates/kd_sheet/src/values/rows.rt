@@ -18,7 +18,7 @@ impl FromItem<()> for Reading {
     }
 }
 
-/// Reads a bar's reading: two different digits from 0 to 6, in either order, or 0 twice, with `-` between them.
+/// Reads a bar's reading, such as `0-3` or `3-0`: two different digits from 0 to 6, or `0-0`.
 #[tactic(auto, unfolding(crate::specs::Bars::reading_of_text))]
 pub fn reading_of_text(text: &[u8]) -> Option<Reading>
     ensures { result ≡ reading_of_text text.now }

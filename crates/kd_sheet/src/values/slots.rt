@@ -38,8 +38,8 @@ pub fn slots_in(table: &Table, key: Key, model: Model) -> Result<PerSlot<Option<
 
 /// The wheel named `name`, for the slot after `slots`, or the first fault.
 ///
-/// The fault is `BadValue` if there is no such wheel, `WheelNotAllowed` if the wheel may not be in this slot, and
-/// `WheelTwice` if one of `slots` has the wheel.
+/// The fault is `BadValue` if there is no such wheel. It is `WheelNotAllowed` if the wheel may not be in this slot,
+/// and `WheelTwice` if one of `slots` has the wheel.
 #[tactic(auto, using(crate::proofs::ReadBack::Described::KeyValues::seating), unfolding(crate::specs::Slots::wheel_for))]
 fn wheel_for(
     key: Key,
@@ -60,7 +60,6 @@ fn wheel_for(
     Ok(wheel)
 }
 
-/// The wheel named `name`.
 fn wheel_by_name(name: &str) -> Option<Wheel>
     ensures { result ≡ find_by_text wheel_text (box_of M4) name.now }
 {

@@ -20,7 +20,8 @@ pub(crate) fn place_in_box(model: Model, wheel: Wheel) -> Option<usize>
     None
 }
 
-/// Whether `slots` are legal: as many as the model has, each wheel allowed in its slot, and no wheel twice.
+/// Whether `slots` are legal: there are as many as the model has, each wheel is allowed in its slot, and no wheel is
+/// in two slots.
 pub(crate) fn are_legal_seats(model: Model, slots: &PerSlot<Option<Wheel>>) -> bool
     ensures { IsTrue result ↔ AreLegalSeats model slots.now }
 {

@@ -20,7 +20,7 @@ pub enum Why {
     SocketTaken,
     /// The model doesn't have the setting's wheel or reflector, or doesn't take the wheel in the setting's slot.
     WheelNotAllowed,
-    /// The setting turns the wheel in an empty or missing slot, or a pin wheel that doesn't exist.
+    /// The setting TURN names a slot that is empty or missing, or a pin wheel that doesn't exist.
     SlotEmpty,
     /// The letter isn't on the pin wheel, or a setting for a pin names a pin wheel that doesn't exist.
     NotOnWheel,
