@@ -112,14 +112,21 @@ fn cause_words(wording: Wording, message: &str, mistake: Text) -> Result<String,
 /// The likely mistake in line `number` of `bytes`, in which the parser found a fault. `message` is the parser's message.
 fn hint(bytes: &[u8], number: usize, message: &str) -> Text {
     let line = numbered_line(bytes, number);
-    let quotes = line.iter().filter(|byte| **byte == b'"').count();
     if message == "invalid UTF-8" {
         texts::NOT_UTF8
     } else if message == "duplicate key" {
         texts::KEY_TWICE
     } else if number == 1 && is_spreadsheet_head(line) {
         texts::SPREADSHEET
-    } else if has_curly_quote(line) {
+    } else {
+        line_hint(line)
+    }
+}
+
+/// The likely mistake in `line`, by its signs.
+fn line_hint(line: &[u8]) -> Text {
+    let quotes = line.iter().filter(|byte| **byte == b'"').count();
+    if has_curly_quote(line) {
         texts::CURLY_QUOTE
     } else if quotes % 2 == 1 {
         texts::QUOTE_MISSING
