@@ -32,8 +32,8 @@ unwritten_words l new_files.NoMemory =
 abbrev pub unwritten_line : Language → List ℕ → NewFileFault → List ℕ
 unwritten_line l name fault = unwritten_words l fault ++ (name ++ 10 ∷ [])
 
--- The command's output went to a new file, which was empty before. `written` is this file before and after the command.
--- `answer` is the command's answer. The bytes `left` are those that the file didn't take.
+-- The command's output went to a new file, which was empty before. `written` is this file before and after the
+-- command. `answer` is the command's answer. `left` has the bytes that the file didn't take.
 pub record IsRunToFile (l : Language) (words : List (List ℕ)) (known : Option (List ℕ → Option (List ℕ)))
     (asked : List AskedName) (before : Option FilesByName) (written errors : Port) (left : List ℕ)
     (answer : Result (Unit {0}) Stop) : Type 0 where

@@ -160,7 +160,7 @@ fn run_to_file<'n, F: Files<'n>, N: NewFiles, E: Sink>(
     }
 }
 
-/// Publishes the new file `file` as `name`, if `answer` says that the whole output was written.
+/// If `answer` says that the whole output was written, publishes the new file `file` as `name`.
 ///
 /// Otherwise removes the file, which was begun under the name `other`. In this case, returns `Device` exactly if a
 /// write to the file failed.

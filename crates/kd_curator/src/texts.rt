@@ -72,7 +72,7 @@ pub const TAKEN: Text = (
 /// Stands between a refusal's number and name, and the name of the output file.
 pub const UNWRITTEN: Text = (": can't write ", ": nicht zu schreiben: ");
 
-/// The line if the words of the command line can't be read as text.
+/// The error line for a command line with a word that isn't UTF-8.
 pub const NOT_UTF8: Text = (
     "error: a word of the command line isn't UTF-8\n",
     "Fehler: ein Wort der Befehlszeile ist kein UTF-8\n",

@@ -380,7 +380,7 @@ fn only_name<'a>(names: &[&'a str]) -> Option<&'a str>
     }
 }
 
-/// A copy of `names`, if there are 2 to 32 of them.
+/// A copy of `names`. `None` if there aren't 2 to 32 names.
 fn several_names<'a>(names: &[&'a str]) -> Option<ArrayVec<&'a str, 32>>
     ensures said { IfSome result (λ listed. listed.items ≡ names.now) }
     ensures many { IfSome result (λ listed. 2 ≤ length names.now) }

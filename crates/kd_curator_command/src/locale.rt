@@ -46,7 +46,8 @@ pub fn language_without_command<S: AsStr>(language: Language, words: &[S]) -> La
     }
 }
 
-/// The value of the first option `--in` in `words`; `None` if there is none before a word `--`.
+/// The value of the first option `--in` in `words`. After a word `--`, no word is an option. `None` if there is no
+/// value.
 fn language_value<'a, S: AsStr>(words: &'a [S]) -> Option<&'a str>
     ensures { option_map (λ value. value.now) result ≡ language_value (map S.text words.now) }
 {

@@ -94,7 +94,7 @@ fn has_model(version: Option<u8>, model: Model) -> bool
     }
 }
 
-/// Appends the faults at the keys of a rotor machine's file, except `version` and `model`.
+/// Appends the faults of a rotor machine's file, but no faults at the keys `version` and `model`.
 fn judge_rotors(
     list: &mut Vec<Finding>,
     wording: Wording,

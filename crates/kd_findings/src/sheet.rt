@@ -289,7 +289,7 @@ fn check_model(wording: Wording, table: &Table) -> Result<(), Slip> {
     Ok(())
 }
 
-/// Says why an item of the array `day` that isn't a table is refused.
+/// Says why `item`, an item of the array `day`, is refused: it isn't a table.
 fn refuse_entry(wording: Wording, item: &Value) -> Result<(), Slip> {
     refuse(
         SheetFault::BadValue(Key::Day),

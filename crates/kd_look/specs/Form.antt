@@ -45,7 +45,7 @@ abbrev pub body_end : List ℕ → ℕ → ℕ
 body_end text body = option_map_or (λ index. index + 1)
     (find (heading_follows text) (range_with_len (body - 1) (length text - (body - 1)))) (length text)
 
--- success if all bytes from `body` to `end` may stand in a body; otherwise the fault of the first that may not
+-- success if all bytes from `body` to `end` may stand in a body; otherwise the fault of the first byte that may not
 abbrev pub body_signs : List ℕ → ℕ → ℕ → Result (Unit {0}) MessageFault
 body_signs text body end = option_map_or
     (λ place. Err (record { index = body + place; fault = BadByte (body + place + 1); reason = reasons.BodySign }))

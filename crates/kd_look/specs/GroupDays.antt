@@ -1,5 +1,5 @@
--- The lines that say which days of key sheets have the groups of orders and forms. Only days for a machine that the
--- message can be for are named.
+-- The lines that say which days of key sheets have the groups of orders and forms. A day is named only if the message
+-- can be for the day's machine.
 -- Test: tests/cases/curator-look.toml
 use Rattle.std.specs.Prelude.{ℕ, ◌==◌, ◌++◌, ◌&&◌, Bool, false, List, [], ◌∷◌, count_by, decimal, Option, Some, None}
 use Rattle.std.specs.List.{enumerate_from, filter, flat_map, list_all, list_any, range_with_len}
@@ -29,7 +29,7 @@ pub record GroupSearch : Type 0 where
   pub sheet : List ℕ
   pub month : List (Option Day)
 
--- the number of slots of a machine, known from how its keys are written; a Converter has no slots
+-- the number of slots of a machine, from the form of its lines of keys; a Converter has no slots
 abbrev pub key_slots : KeyLine → ℕ
 key_slots lines.ThreeSlots = 3
 key_slots lines.FourSlots = 4

@@ -1,6 +1,5 @@
--- The statements of this crate's laws. Without a machine, `look` says of an order what `send` says on a day for the
--- order's machine. In the same way, `look` says of a form what `receive` says. The groups that `look` names are the
--- message's own.
+-- This crate's laws. Without a machine, `look` judges an order as `send` does on a day for the order's machine. In the
+-- same way, `look` judges a form as `receive` does. The groups that `look` names are the message's own.
 use Rattle.std.specs.Prelude.{codes, ◌≡◌, ◌⊎◌, ℕ, ◌+◌, ◌≤◌, ◌&&◌, List, Result, Ok, Err, IfOk, None, Contains, drop}
 use Rattle.std.specs.Prelude.{[], ◌∷◌, Some, length, take, true, false}
 use Rattle.std.specs.List.{flat_map}
@@ -49,8 +48,7 @@ HeadFaultsAreThoseOfSend =
     → text_start order form ≡ Err found
     → IsOrderHeadFault s order (found.index + 1) × (found.fault ≡ BadByte (found.index + 1))
 
--- The bytes of `order` before `start` are a whole head. `look` counts the head's lines of keys
--- rightly.
+-- The bytes of `order` before `start` are a whole head. `look` finds as many lines of keys as the head has.
 pub record HasHeadTo (s : Day) (order : List ℕ) (start : ℕ) : Type 0 where
   pub keys : List Keys
   pub inside : start ≤ length order
@@ -113,7 +111,7 @@ OrderGroupsAreThoseOfKeys =
 
 -- ---- Forms.
 
--- in the heading at `index`, the index after the number of letters; or the first wrong byte up to there
+-- the index after the number of letters in the heading at `index`; or the first wrong byte before this index
 unfoldable pub count_end : List ℕ → ℕ → Result ℕ WrongByte
 count_end text index = do
   start ← marks_end text (codes "PART ") index
@@ -195,8 +193,8 @@ abbrev pub form_result : Result FormHeading MessageFault → Result (Unit {0}) F
 form_result (Ok first) = Ok tt
 form_result (Err found) = Err found.fault
 
--- `look` says of a form what `receive` would say if it didn't decipher the form's letters. So a fault of the letters
--- makes no difference to what `look` says.
+-- `look` judges a form as `receive` would without deciphering the form's letters. So a fault of the letters makes no
+-- difference to what `look` says.
 abbrev pub FormsAreSeenWithoutLetters : Type 0
 FormsAreSeenWithoutLetters =
     (s : Day) (form : List ℕ) → IsDayOfForm s form → IsShownFormAnswer s form (form_result (form_answer form))
@@ -216,11 +214,11 @@ FormsAreForTheirMachine =
 
 -- ---- The kind of a message: an order, or a form.
 
--- `look` finds that a text is a form exactly if the text begins as a heading line does.
+-- `look` takes a text for a form exactly if the text begins as a heading line does.
 abbrev pub FormsBeginWithHeadings : Type 0
 FormsBeginWithHeadings = (text : List ℕ) → (is_message text && is_form text) ≡ begins_heading text
 
--- If `send` makes a form of an order, `look` finds that the order is an order.
+-- If `send` makes a form of an order, `look` takes the order for an order, and not for a form.
 abbrev pub OrdersAreNoForms : Type 0
 OrdersAreNoForms =
     (s : Day) (order form : List ℕ) → IsFormOf s order form → (is_message order ≡ true) × (is_form order ≡ false)

@@ -73,14 +73,14 @@ unfoldable pub bar_words : Language → Parts → ℕ → List ℕ
 bar_words l machine bar = option_map_or (λ standing.
     label (text_in l texts.BAR) bar ++ standing_text standing ++ codes "\n") (machine_standing machine bar) []
 
--- the line of the slot, cable, pin wheel or bar `number`; empty if the machine doesn't have this thing
+-- the line of the slot, cable, pin wheel or bar `number`; empty if the machine doesn't have it
 unfoldable pub thing_words : Language → Parts → Thing → ℕ → List ℕ
 thing_words l machine things.Slot number = slot_words l machine number
 thing_words l machine things.Cable number = cable_words l machine number
 thing_words l machine things.PinWheel number = pin_wheel_words l machine number
 thing_words l machine things.Bar number = bar_words l machine number
 
--- the lines of all things of the sort `thing`, with the numbers from 1 to `count`
+-- the lines of all slots, cables, pin wheels or bars, as `thing` says, from number 1 to `count`
 abbrev pub things_words : Language → Parts → Thing → ℕ → List ℕ
 things_words l machine thing count = flat_map (thing_words l machine thing) (range_with_len 1 count)
 

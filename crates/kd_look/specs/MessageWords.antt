@@ -72,7 +72,8 @@ fault_line l name text found =
     name ++ place_words l (line_at text found.index) (column_at text found.index) (reason_words l found.reason)
     ++ codes " (" ++ form_fault_text found.fault ++ codes ")\n"
 
--- the machine that a message is for, or both machines that it may be for, as named after the word `for`
+-- The words for the machine of a message, such as `a Converter M-209`. The messages of an Enigma I and of an M3 look
+-- alike: then the words name both.
 unfoldable pub machine_name : Language → KeyLine → List ℕ
 machine_name l lines.ThreeSlots = text_in l texts.ENIGMA_I_OR_M3
 machine_name l lines.FourSlots = text_in l AN_M4

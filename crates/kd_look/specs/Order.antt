@@ -51,14 +51,14 @@ abbrev pub is_off_wheel_at : List ℕ → ℕ → Bool
 is_off_wheel_at text index = option_map_or (is_off_wheel (column_at text index)) (slice_get text index) false
 
 -- Success if each external letter in an order's lines of keys is on its pin wheel; otherwise the fault of the first
--- that isn't. Only a Converter's keys have external letters. The lines of keys end before `start`.
+-- letter that isn't. Only a Converter's keys have external letters. The lines of keys end before `start`.
 abbrev pub wheels_answer : List ℕ → KeyLine → ℕ → Result (Unit {0}) MessageFault
 wheels_answer text lines.Converter start = option_map_or
     (λ index. Err (record { index = index; fault = KeyNotOnWheel; reason = reasons.OffWheel }))
     (find (is_off_wheel_at text) (range_with_len 0 start)) (Ok tt)
 wheels_answer text form start = Ok tt
 
--- Success if all bytes of the text are allowed; otherwise the fault of the first that isn't. The text begins at
+-- Success if all bytes of the text are allowed; otherwise the fault of the first byte that isn't. The text begins at
 -- `start`.
 abbrev pub signs_answer : List ℕ → ℕ → Result (Unit {0}) MessageFault
 signs_answer text start = option_map_or

@@ -266,7 +266,7 @@ fn days_with(alloc: Global, search: &Search<'_>, group: [Letter; 3]) -> Result<V
     Ok(days)
 }
 
-/// Appends `number`, if the sheet has day `number`, and this day suits the message and `group`.
+/// If the sheet has day `number`, and this day suits the message and `group`, appends `number`.
 fn push_day_with(
     days: &mut Vec<u8>,
     search: &Search<'_>,
@@ -307,7 +307,7 @@ fn can_be_for(keys: KeyLine, model: Model) -> bool
     model.slots() == key_slots(keys)
 }
 
-/// The number of slots of a machine, known from how its keys are written. A Converter has no slots.
+/// The number of slots of a machine, from the form of its lines of keys. A Converter has no slots.
 fn key_slots(keys: KeyLine) -> u8
     ensures { result ≡ key_slots keys }
 {

@@ -14,7 +14,7 @@ use kd_state::Machine;
 use kd_tables::{Letter, Wheel};
 use std::alloc::AllocError;
 
-/// A sort of things on a machine, such as cables. The things of a sort are numbered from 1.
+/// The parts of a machine that come several times: slots, cables, pin wheels and bars. They are numbered from 1.
 #[derive(Clone, Copy)]
 pub enum Thing {
     Slot,
@@ -43,7 +43,7 @@ pub fn push_machine(
     push_things(text, language, machine, Thing::Bar, 27)
 }
 
-/// Appends the lines of all things of the sort `thing`, with the numbers from 1 to `count`.
+/// Appends the lines of all slots, cables, pin wheels or bars, as `thing` says, from number 1 to `count`.
 fn push_things(
     text: &mut String,
     language: Language,
@@ -61,7 +61,7 @@ fn push_things(
     Ok(())
 }
 
-/// Appends the line of the slot, cable, pin wheel or bar `number`, if the machine has this thing.
+/// Appends the line of the slot, cable, pin wheel or bar `number`. Appends nothing if the machine doesn't have it.
 #[tactic(auto, unfolding(crate::specs::MachineWords::thing_words))]
 fn push_thing(
     text: &mut String,
@@ -254,7 +254,7 @@ fn push_pins(text: &mut String, machine: &Machine, wheel: u8) -> Result<(), Allo
     Ok(())
 }
 
-/// Appends a space and `letter`, if the pin at this letter of pin wheel `wheel` is effective.
+/// If the pin at `letter` of pin wheel `wheel` is effective, appends a space and `letter`.
 #[tactic(auto, using(std::proofs::Common::append_assoc), unfolding(crate::specs::MachineWords::pin_words))]
 fn push_pin(
     text: &mut String,

@@ -99,7 +99,7 @@ pub record IsReadOf (s : Day) (part : List ℕ) (read : DamagedPart) : Type 0 wh
 abbrev pub IsReadAt : Day → PlacedPart → DamagedPart → Type 0
 IsReadAt s part read = IsReadOf s part.bytes read × (read.line ≡ part.line)
 
--- For each of `parts`, in order, `reads` has what can be read of the part.
+-- `reads` has, in order, what can be read of each part in `parts`.
 abbrev pub AreReadOf : Day → List PlacedPart → List DamagedPart → Type 0
 AreReadOf s [] [] = Unit {0}
 AreReadOf s (part ∷ parts) (read ∷ reads) = IsReadAt s part read × AreReadOf s parts reads
@@ -115,7 +115,7 @@ completed_parts copies index [] = []
 completed_parts copies index (part ∷ parts) =
     record { bytes = completed_at copies index part.bytes; line = part.line } ∷ completed_parts copies (index + 1) parts
 
--- `reads` has what can be read of each part of `form`, with letters from the part's copies in place of lost letters.
+-- `reads` are the parts of `form`, each read with letters from its copies in place of lost letters.
 abbrev pub AreReadWith : Day → List DamagedPart → List ℕ → List DamagedPart → Type 0
 AreReadWith s copies form reads = AreReadOf s (completed_parts copies 0 (damaged_parts_of form)) reads
 

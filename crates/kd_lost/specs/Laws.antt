@@ -1,4 +1,4 @@
--- The statements of this crate's laws about damaged parts, their ciphers, and forms of one message.
+-- This crate's laws about damaged parts, their ciphers, and forms of one message.
 use Rattle.std.specs.Prelude.{◌≡◌, ℕ, false, List, [], ◌∷◌, ◌++◌, All, IsTrue, true, map, slice_get, Option, Some, None}
 use Rattle.std.specs.Prelude.{Result, Ok}
 use Rattle.std.specs.List.{Contains}

@@ -14,7 +14,8 @@ use itoa::Buffer;
 use kd_state::SheetDay;
 use std::alloc::Global;
 
-/// The short line of `part`, if 50 letters on this line would make the heading's count right.
+/// The short line of `part`, if this line explains the wrong count: with 50 letters on it, the heading's count would
+/// be right.
 ///
 /// Otherwise `None`.
 pub fn part_line(part: &DamagedPart) -> Option<ShortLine>

@@ -76,9 +76,9 @@ pub struct DamagedPart {
 pub struct PartNumbers {
     /// The part's number, counted from 1.
     pub part: u8,
-    /// How many parts the form has, as the heading says.
+    /// The number of parts that the heading gives.
     pub parts: u8,
-    /// How many letters the body has, as the heading says.
+    /// The letter count in the heading.
     pub letters: usize,
 }
 

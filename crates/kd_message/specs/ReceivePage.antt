@@ -71,7 +71,7 @@ counted_or_damage l s name part damage (Some shown) =
     counted_text l (sheet_to_receive (day_model s)) s name part damage shown
 counted_or_damage l s name part damage None = damage_text l (sheet_to_receive (day_model s)) name part damage
 
--- a part's text, else its text by count, else the reason why the part isn't read
+-- a part's text; if it has none, its text by count; if it has neither, the reason why the part isn't read
 abbrev pub text_or_damage : Language → Day → PartName → DamagedPart → Result DamagedText PartDamage → List ℕ
 text_or_damage l s name part (Ok shown) = read_text l (sheet_to_receive (day_model s)) s name shown
 text_or_damage l s name part (Err damage) = counted_or_damage l s name part damage part.by_count
@@ -122,17 +122,17 @@ abbrev pub number_or : ℕ → Option PartNumbers → ℕ
 number_or before (Some numbers) = numbers.part
 number_or before None = before
 
--- What section `section` has for some unnumbered parts of a list: for each of them, the last numbered part before it
--- has the number `after`. If `after` is 0, no numbered part stands before them. `before` is the number of the last
--- numbered part before the list; 0 if there is none.
+-- What section `section` has for the unnumbered parts between part `after` and the next numbered part. If `after` is
+-- 0, for the parts before the first numbered part. `before` is the number of the last numbered part before the list; 0
+-- if there is none.
 abbrev pub lone_after : Section → Language → Day → ℕ → ℕ → List DamagedPart → List ℕ
 lone_after section l s after before [] = []
 lone_after section l s after before (part ∷ parts) =
     (if is_none part.numbers && before == after then lone_in section l s after part else [])
     ++ lone_after section l s after (number_or before part.numbers) parts
 
--- What section `section` has for the part that is shown under a number. If no part is shown, this is what the section
--- has for a part that didn't come.
+-- What section `section` has for one part number: for the part that is shown under it, or else for a part that didn't
+-- come.
 abbrev pub shown_in : Section → Language → Day → PartName → ℕ → Option DamagedPart → List ℕ
 shown_in section l s name times (Some part) = part_in section l s name times part
 shown_in section l s name times None = missing_in section l name
@@ -151,7 +151,7 @@ abbrev pub by_number : Section → Language → Day → List DamagedPart → Lis
 by_number section l s parts =
     lone_after section l s 0 0 parts ++ flat_map (number_in section l s parts) (range_with_len 1 (total_of parts))
 
--- ---- Parts that aren't of one message, as they came. Each has the sheet with the number of its place.
+-- ---- Parts that aren't of one message, as they came. Each part's sheet has the number of the part's place.
 
 abbrev pub name_at : Results → Day → ℕ → PartNumbers → PartName
 name_at results s place numbers = record {

@@ -140,8 +140,8 @@ run_length (group ∷ groups) = if has_lost group then run_length groups + 1 els
 
 -- The words for the groups with lost letters in a list that begins with group `number`. Groups in a row are named
 -- together, as *groups 3 to 5*. `first` stands before the first words, and commas stand between the words. If `before`
--- is true, the group just before the list also has lost letters. Then the words for it are already written. They also
--- name the groups with lost letters at the start of the list, so these are left out.
+-- is true, the group just before the list also has lost letters. Then this group is already named, together with the
+-- groups with lost letters at the start of the list, so these are left out.
 abbrev pub lost_groups : Language → List ℕ → Bool → ℕ → List (List (Option ℕ)) → List ℕ
 lost_groups l first before number [] = []
 lost_groups l first before number (group ∷ groups) =

@@ -256,10 +256,10 @@ fn draw_shown<W: Sink>(
     }
 }
 
-/// Writes what the section has for some unnumbered parts of the list `parts`.
+/// Writes what the section has for the unnumbered parts in `parts` between part `after` and the next numbered part.
 ///
-/// For each of these parts, the last numbered part before it has the number `after`. If `after` is 0, no numbered part
-/// stands before them. `before` is the number of the last numbered part before the list; 0 if there is none.
+/// If `after` is 0, for the parts before the first numbered part. `before` is the number of the last numbered part
+/// before the list; 0 if there is none.
 fn draw_lone_after<W: Sink>(
     sink: &mut W,
     page: PageSection,
@@ -301,7 +301,7 @@ fn number_or(before: u8, numbers: &Option<PartNumbers>) -> u8
     }
 }
 
-/// Writes what the section has for a part without a number, if `is_there` is true.
+/// If `is_there` is true, writes what the section has for a part without a number.
 ///
 /// Otherwise writes nothing. `after` is the number of the last numbered part before this part.
 fn draw_lone_if<W: Sink>(

@@ -29,8 +29,8 @@ pub trait NewFiles {
         ensures device { IfSome (held self.old) (λ _. result ≢ Err NewFileFault.Device) }
         ensures refused { OnErr result (held self.new ≡ held self.old) };
 
-    /// Stores all bytes written to `file`, and gives the file the second name `name`. The file was made under the name
-    /// `other`.
+    /// Stores all bytes that were written to `file`, and gives the file the second name `name`. The file was made
+    /// under the name `other`.
     ///
     /// Returns `Taken` if there already is a file called `name`.
     fn link(&mut self, file: Self::Written, other: &str, name: &str) -> Result<(), NewFileFault>

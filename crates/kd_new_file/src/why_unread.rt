@@ -19,7 +19,7 @@ pub enum WhyUnread {
 }
 
 impl WhyUnread {
-    /// The reason why a file can't be read, if opening it gives `error`.
+    /// Turns `error`, the fault of opening a file, into the reason why the file can't be read.
     pub fn of_error(error: &io::Error) -> WhyUnread
         ensures { result ≡ why_by_kind (error_kind error.now) }
     {

@@ -86,7 +86,7 @@ fn draw_from_box<W: Sink>(sink: &mut W, language: Language, from_box: Option<(Wh
     }
 }
 
-/// The wheel that comes from the box into slot `slot`, with the letter of the wheel's ring on `machine`.
+/// For a slot whose wheel comes from the box: this wheel, and the letter of its ring on `machine`. Otherwise `None`.
 fn wheel_from_box(page: &Page<'_>, machine: &Machine, slot: u8) -> Option<(Wheel, Letter)>
     ensures { result ≡ wheel_from_box page.now machine.now slot }
 {

@@ -200,9 +200,9 @@ fn mark_of(taken: u8, letter: Letter) -> Mark
     }
 }
 
-/// The last wheel that has taken a letter, after a further letter was printed and got the mark `mark`.
+/// The last wheel that took a letter, after one more letter was printed and got the mark `mark`.
 ///
-/// Before this letter, `taken` was the last wheel that had taken one; 0 if none had.
+/// `taken` is the last wheel that took a letter before; 0 if no wheel took one.
 fn taken_after(taken: u8, mark: Mark) -> u8
     ensures { result ≡ taken_after taken mark }
 {

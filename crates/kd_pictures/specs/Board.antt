@@ -76,13 +76,13 @@ lane number = 139 + 9 * number
 abbrev pub bend : ℕ → ℕ → ℕ
 bend y lane = if nat_lt y lane then lane - 5 else lane + 5
 
--- the first piece of a cable's line: from a socket into the cable's lane, where the line runs level
+-- the first piece of a cable's line: from a socket into the cable's lane
 abbrev pub left_half : Class → ℕ → ℕ → List ℕ
 left_half class lane letter = filled texts.LEFT_HALF.now (
     class_text class ∷ decimal (line_x letter) ∷ decimal (socket_y letter) ∷ decimal (bend (socket_y letter) lane)
     ∷ decimal (line_x letter) ∷ decimal lane ∷ decimal (line_x letter + 5) ∷ decimal lane ∷ [])
 
--- the last piece of a cable's line: along the cable's lane, where the line runs level, and to a socket
+-- the last piece of a cable's line: along the cable's lane, and then to a socket
 abbrev pub right_half : ℕ → ℕ → List ℕ
 right_half lane letter = filled texts.RIGHT_HALF.now (
     decimal (line_x letter - 5) ∷ decimal (line_x letter) ∷ decimal lane

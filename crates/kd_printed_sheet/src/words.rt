@@ -57,7 +57,7 @@ impl CellWord<SingleLetter> for Letter {
     }
 }
 
-/// The word of a value is its text in key sheets: a cable's two letters, a group's three, a wheel's name or a reading.
+/// The word of a value is its text in key sheets, for example `AB` for a cable, or `VIII` for a wheel.
 impl<T: ItemText> CellWord<Item> for T {
     ghost text = { T.item_text };
 

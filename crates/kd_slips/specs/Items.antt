@@ -1,5 +1,5 @@
--- The item number in a slip. A slip says in words why a value is refused. If the slip has an item number, it is that of
--- the first list item that the desk's reader refuses, and the words are about this item.
+-- The item number in a slip. A slip says in words why a value is refused. If the slip has an item number, its words
+-- are about this list item: the first one that the desk's reader refuses.
 -- Test: tests/cases/curator-look.toml
 use Rattle.std.specs.Prelude.{◌≡◌, ℕ, ◌==◌, not, Bool, true, List, length, find, Option, Some, None, is_some}
 use Rattle.std.specs.Prelude.{if◌then◌else◌}

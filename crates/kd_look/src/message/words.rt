@@ -135,7 +135,8 @@ fn push_number_line(words: &mut String, title: &str, number: usize) -> Result<()
     words.push_str("\n")
 }
 
-/// The machine that a message is for, or both machines that it may be for, as named after the word `for`.
+/// The words for the machine of a message, such as `a Converter M-209`. The messages of an Enigma I and of an M3 look
+/// alike: then the words name both.
 #[tactic(auto, unfolding(crate::specs::MessageWords::machine_name))]
 fn machine_name(language: Language, form: KeyLine) -> &'static str
     ensures { result.now ≡ machine_name language form }
