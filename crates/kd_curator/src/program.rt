@@ -391,8 +391,8 @@ fn show<W: Sink>(text: &str, sink: &mut W) -> Result<(), Refused>
     Ok(())
 }
 
-/// Passes the gathered bytes on to the sink, if `done` says that the whole output was written. If the sink doesn't take
-/// all bytes, the answer is `Device`.
+/// If `done` says that the whole output was written, passes the gathered bytes on to the sink. If the sink doesn't
+/// take all bytes, the answer is `Device`.
 fn pass_rest_on<W: Sink + Drop>(
     done: Result<(), Stop>,
     sink: &mut BufferedSink<W>,

@@ -31,7 +31,7 @@ pub enum Stop {
     Refused(Refused),
 }
 
-/// Writes the text for `answer` to `errors`, if `answer` has a `Stop`. Returns the exit status.
+/// If `answer` has a `Stop`, writes its text to `errors`. Returns the exit status.
 ///
 /// A refusal's line is in `language`. If the refusal is about a file, the line ends with the file's name. `names` are
 /// the names of the command's files. The exit status is the same even if the text can't be written.

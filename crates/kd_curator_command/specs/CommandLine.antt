@@ -382,7 +382,7 @@ AsksForHelp words = (kind : ErrorKind) × (fault_of curator_grammar words ≡ ki
 
 -- Why there is no command:
 -- - `Asked`: a word asks for help or for the version.
--- - `Usage`: the words neither mean a command nor only ask for help or for the version.
+-- - `Usage`: the words don't mean a command, and don't only ask for help or for the version.
 -- - `NoMemory`: memory ran out.
 abbrev pub HasNoCommand : List (List ℕ) → NoCommand → Type 0
 HasNoCommand words (Asked text) =

@@ -1,4 +1,4 @@
-//! The language of the program's words: as it is set on a computer, or as the option `--in` asks.
+//! The language of the program's words: the computer's language, or the language that the option `--in` asks for.
 ghost use Rattle.std.specs.Prelude.{◌≡◌, None, Some, codes, drop, if◌then◌else◌, map, nat_eq, option_map};
 ghost use Rattle.std.specs.List.{starts_with};
 ghost use Rattle.kd_curator_command.specs.Locale.{language_of, language_value, language_with_code};

@@ -147,7 +147,7 @@ fn judge_box_letters(
     note(list, wording, KeyPlace::in_file(key), fault, checked)
 }
 
-/// Appends the faults at the keys of a Converter's file, except `version` and `model`.
+/// Appends the faults of a Converter's file, but no faults at the keys `version` and `model`.
 #[tactic(auto, using(std::proofs::Common::append_assoc), unfolding(crate::specs::Faults::pin_file_faults))]
 fn judge_converter(
     list: &mut Vec<Finding>,

@@ -1,6 +1,7 @@
 -- How a form is tested before its letters are deciphered: its headings, its bytes, and its numbers of letters and
--- parts. Of several faults, the result is the first one in the order of the tests of `desk receive`. Faults that show
--- only with the day, the machine or the indicators are left out. Indexes are counted from 0, and parts from 1.
+-- parts. Of several faults, the result is the first one in the order of the tests of `desk receive`. Faults that can
+-- be found only with the day, the machine or the indicators are left out. Indexes are counted from 0, and parts from
+-- 1.
 -- Test: tests/cases/curator-look.toml
 use Rattle.std.specs.Prelude.{codes, ℕ, suc, zero, ◌+◌, ◌-◌, ◌==◌, ◌&&◌, nat_le, not, Bool, false, List}
 use Rattle.std.specs.Prelude.{Option, Some, None, Result, Ok, Err, count_by, find, is_ok, length, option_map}

@@ -35,7 +35,7 @@ key_slots lines.ThreeSlots = 3
 key_slots lines.FourSlots = 4
 key_slots lines.Converter = 0
 
--- whether a message can be for the model, if the message's keys are written as `keys`
+-- whether a message can be for the model, if `keys` says how the message's keys are written
 abbrev pub can_be_for : KeyLine → Model → Bool
 can_be_for keys model = slots_of model == key_slots keys
 
@@ -43,7 +43,7 @@ can_be_for keys model = slots_of model == key_slots keys
 abbrev pub times : ℕ → List ℕ → ℕ
 times letter letters = count_by (λ other. other == letter) letters
 
--- whether both lists have the same letters, each as often, in any order
+-- whether both lists have the same letters in any order: `ABC` and `CAB` do, but `AAB` and `ABB` don't
 abbrev pub are_reordered : List ℕ → List ℕ → Bool
 are_reordered group letters = list_all (λ letter. times letter group == times letter letters) (group ++ letters)
 

@@ -63,13 +63,13 @@ HeadsEndWhereSendEndsThem =
 
 -- ---- Whole orders.
 
--- A fault of an order's keys that shows only with the day: a wrong group, or keys without an internal key.
+-- A fault of an order's keys that can be found only with the day: a wrong group, or keys without an internal key.
 pub data IsDaysFault (fault : FormFault) : Type 0 where
   GroupWrong : (part : ℕ) → fault ≡ WrongGroup part → IsDaysFault fault
   NoInternalKey : (part : ℕ) → fault ≡ IndicatorSpent part → IsDaysFault fault
 
--- Some of the order's keys don't suit the day. `answer` is the fault of the first of these keys, a fault that only the
--- day shows.
+-- Some of the order's keys don't suit the day. `answer` is the fault of the first of these keys, a fault that can be
+-- found only with the day.
 pub record IsRefusedByDay (s : Day) (order : List ℕ) (answer : Result (List ℕ) FormFault) : Type 0 where
   pub keys : List Keys
   pub head : List ℕ
@@ -80,8 +80,8 @@ pub record IsRefusedByDay (s : Day) (order : List ℕ) (answer : Result (List �
   pub of_the_day : IsDaysFault fault
   pub answered : answer ≡ Err fault
 
--- If `look` finds a fault in an order, `send` refuses the order with this fault, or with a fault
--- that only the day shows.
+-- If `look` finds a fault in an order, `send` refuses the order with this fault, or with a fault that can be found
+-- only with the day.
 abbrev pub OrderFaultsAreThoseOfSend : Type 0
 OrderFaultsAreThoseOfSend =
     (s : Day) (form : KeyLine) (order : List ℕ) (found : MessageFault) (answer : Result (List ℕ) FormFault)
@@ -89,7 +89,7 @@ OrderFaultsAreThoseOfSend =
     → (answer ≡ Err found.fault) ⊎ IsRefusedByDay s order answer
 
 -- If `look` finds no fault in an order, `send` makes a form of the order. It may instead refuse the order with a fault
--- that only the day shows.
+-- that can be found only with the day.
 abbrev pub FaultlessOrdersAreSent : Type 0
 FaultlessOrdersAreSent =
     (s : Day) (form : KeyLine) (order : List ℕ) (start : ℕ) (answer : Result (List ℕ) FormFault)
@@ -132,7 +132,8 @@ abbrev pub IsNextPart : List ℕ → PartsProperty
 IsNextPart part p parts = (others : List (List ℕ)) × (parts ≡ part ∷ others)
 
 -- All parts before `part` are read without a fault, and `letters` are their letters. `answer` is the fault of the
--- letters of `part`. `look` doesn't test for such a fault: it is in the part's indicators, or shows only with the day.
+-- letters of `part`. `look` doesn't test for such a fault: it is in the part's indicators, or can be found only with
+-- the day.
 pub record IsRefusedForLetters (s : Day) (form : List ℕ) (answer : Result (List ℕ) FormFault) : Type 0 where
   pub part : List ℕ
   pub heading : Heading
@@ -214,7 +215,7 @@ FormsAreForTheirMachine =
 
 -- ---- The kind of a message: an order, or a form.
 
--- `look` takes a text for a form exactly if the text begins as a heading line does.
+-- `look` takes a text for a form exactly if the text begins like a heading line.
 abbrev pub FormsBeginWithHeadings : Type 0
 FormsBeginWithHeadings = (text : List ℕ) → (is_message text && is_form text) ≡ begins_heading text
 

@@ -1,6 +1,6 @@
--- The first fault that an order shows without a machine. Faults are tested in the order of the tests of `desk send`.
--- Two faults that show only with the day or the machine are left out: a wrong group, and keys that give no internal
--- key. Indexes are counted from 0.
+-- The first fault of an order that can be found without a machine. Faults are tested in the order of the tests of
+-- `desk send`. Two faults that can be found only with the day or the machine are left out: a wrong group, and keys
+-- that give no internal key. Indexes are counted from 0.
 -- Test: tests/cases/curator-look.toml
 use Rattle.std.specs.Prelude.{ℕ, ◌+◌, ◌-◌, ◌==◌, ◌&&◌, ◌||◌, nat_le, nat_lt, not, Bool, false, List}
 use Rattle.std.specs.Prelude.{Result, Ok, Err, count_by, drop, find, is_some, length, slice_get, take, if◌then◌else◌}
@@ -101,8 +101,8 @@ parts_answer text form start =
           else reasons.ManyKeys;
     })
 
--- The index at which an order's text begins, or the first fault that the order shows without a machine. `form` says how
--- the order's keys are written.
+-- The index at which an order's text begins, or the first fault of the order that can be found without a machine.
+-- `form` says how the order's keys are written.
 unfoldable pub order_answer : List ℕ → KeyLine → Result ℕ MessageFault
 order_answer text form = do
   start ← text_start text form
@@ -111,6 +111,6 @@ order_answer text form = do
   parts_answer text form start
   Ok start
 
--- the index at which the order's text begins, or the first fault that the order shows without a machine
+-- the index at which the order's text begins, or the first fault of the order that can be found without a machine
 abbrev pub order_start : List ℕ → Result ℕ MessageFault
 order_start text = order_answer text (key_line_of text)

@@ -300,7 +300,7 @@ fn suits(search: &Search<'_>, group: [Letter; 3], day: &SheetDay) -> bool
     can_be_for(search.keys, day.model()) && has_group(group, day)
 }
 
-/// Whether a message can be for `model`, if the message's keys are written as `keys`.
+/// Whether a message can be for `model`, if `keys` says how the message's keys are written.
 fn can_be_for(keys: KeyLine, model: Model) -> bool
     ensures { result ≡ can_be_for keys model }
 {

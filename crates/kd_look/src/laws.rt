@@ -9,17 +9,17 @@ ghost use Rattle.kd_look.specs.Laws.{OrderGroupsAreThoseOfKeys};
 
 /// For an order's head, this crate and `send` find the same end, or the same first wrong byte.
 ///
-/// This holds on each day for a machine whose keys are written as this crate expects.
+/// This holds on each day for a machine whose lines of keys have the form that this crate looks for.
 pub fn heads_are_read_as_send_reads_them()
     ensures faults { HeadFaultsAreThoseOfSend }
     ensures ends { HeadsEndWhereSendEndsThem }
 {}
 
-/// If this crate finds a fault in an order, `send` refuses the order with this fault. Otherwise,
-/// `send` makes a form of the order.
+/// If this crate finds a fault in an order, `send` refuses the order with this fault. Otherwise, `send` makes a form
+/// of the order.
 ///
-/// The day is for the machine that the order is for. `send` may instead name a fault that only the
-/// day shows: a wrong group, or keys without an internal key.
+/// The day is for the machine that the order is for. `send` may instead name a fault that can be found only with the
+/// day: a wrong group, or keys without an internal key.
 pub fn orders_are_judged_as_send_judges_them()
     ensures faults { OrderFaultsAreThoseOfSend }
     ensures faultless { FaultlessOrdersAreSent }
@@ -65,7 +65,7 @@ pub fn messages_are_taken_for_their_machine()
     ensures forms { FormsAreForTheirMachine }
 {}
 
-/// This crate takes a text for a form exactly if the text begins as a heading line does.
+/// This crate takes a text for a form exactly if the text begins like a heading line.
 ///
 /// If `send` makes a form of an order, this crate takes the order for an order.
 pub fn messages_are_taken_for_their_kind()

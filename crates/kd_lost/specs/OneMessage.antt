@@ -108,7 +108,7 @@ abbrev pub is_stranger : DamagedPart → DamagedPart → Bool
 is_stranger one other =
     is_none (shown_text one) && (is_of_other_day one && not (is_of_other_day other))
 
--- whether neither of two parts is a stranger to the other part: see `is_stranger`
+-- whether neither of two parts may be from another day than the other part (see `is_stranger`)
 abbrev pub days_agree : DamagedPart → DamagedPart → Bool
 days_agree one other = not (is_stranger one other) && not (is_stranger other one)
 

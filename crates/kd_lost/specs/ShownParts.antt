@@ -93,9 +93,7 @@ abbrev pub is_covered : List DamagedPart → DamagedPart → Bool
 is_covered parts part = is_covered_by parts (shown_text part) part.numbers
 
 -- Whether the shown parts have all letters of `parts`: each part's letters must be in the part that is shown under its
--- number.
---
--- The shown parts are from `all`. Parts without a number don't count.
+-- number. The shown parts are from `all`. Parts without a number don't count.
 abbrev pub are_covered : List DamagedPart → List DamagedPart → Bool
 are_covered all [] = true
 are_covered all (part ∷ parts) = is_covered all part && are_covered all parts

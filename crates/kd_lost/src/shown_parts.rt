@@ -109,9 +109,7 @@ pub fn is_one_message(parts: &[DamagedPart]) -> bool
 }
 
 /// Whether the shown parts have all letters of `parts`: each part's letters must be in the part that is shown under
-/// its number.
-///
-/// The shown parts are from `all`. Parts without a number don't count.
+/// its number. The shown parts are from `all`. Parts without a number don't count.
 fn are_covered(all: &[DamagedPart], parts: &[DamagedPart]) -> bool
     ensures { result ≡ are_covered all.now parts.now }
 {

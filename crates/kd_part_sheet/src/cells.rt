@@ -39,7 +39,7 @@ pub struct Cell {
 pub enum Mark {
     /// No mark: the cell isn't for the internal key, or is on a worksheet.
     NoMark,
-    /// No wheel needs the letter, as the internal key is already complete.
+    /// No wheel needs the letter, because the internal key is already complete.
     NotNeeded,
     StruckOut,
     /// The wheel with this number takes the letter.

@@ -16,7 +16,7 @@ use kd_language::{Language, Wording};
 use kd_slips::texts::AN_M4;
 use std::alloc::AllocError;
 
-/// Whether a file with the bytes `text` is an order or a form: it begins with `PART `.
+/// Whether a file with the bytes `text` is a message (an order or a form): it begins with `PART `.
 pub fn is_message(text: &[u8]) -> bool
     ensures { result ≡ is_message text.now }
 {
