@@ -97,8 +97,8 @@ numbers_by_count None counted (Some shown) = counted
 numbers_by_count None counted None = None
 
 -- How `part` is read by count: as if its letter count were `came`. The first argument says whether the received count
--- may be wrong. If so, the part has the text `found` and the numbers `numbers`. If not, the part isn't read by count:
--- `found` is `None`, and `numbers` are `given`, the numbers in the received heading.
+-- may be wrong. If so, `found` is the text, if there is one, and `numbers` are the part's numbers. If not, the part
+-- isn't read by count: `found` is `None`, and `numbers` are `given`, the numbers in the received heading.
 abbrev pub GivesByCount : Bool → Day → List ℕ → ℕ → Option PartNumbers → Option PartNumbers → Option DamagedText → Type 0
 GivesByCount false s part came given numbers found = (found ≡ None) × (numbers ≡ given)
 GivesByCount true s part came given numbers found =

@@ -64,8 +64,8 @@ abbrev pub IsReadWell : DamagedPart → Type 0
 IsReadWell read =
     (shown : DamagedText) × (read.text ≡ Ok shown) × (shown.group ≡ tests.Right) × AreWholeCopies shown.copies
 
--- If `receive` reads a form, all parts of the form are read without a warning. The letters of the parts, one part after
--- another, are the text of the form.
+-- If `receive` reads a form, all parts of the form are read without a warning. The text of the form is the letters of
+-- the parts, one part after another, and then an LF.
 abbrev pub FormsReadAreShownWhole : Type 0
 FormsReadAreShownWhole =
     (s : Day) (form text : List ℕ) (reads : List DamagedPart) → IsTextOf s form text
