@@ -246,7 +246,7 @@ fn language_said(matches: &ArgMatches<'_>) -> Result<Option<Language>, WrongValu
     }
 }
 
-/// Says, as the text of an error, why words don't mean a command, though `clap` accepts them.
+/// The error text for words that `clap` accepts, but that don't mean a command. It says why.
 fn why_not(matches: &ArgMatches<'_>) -> Text {
     if language_said(matches).is_err() {
         return NO_LANGUAGE;

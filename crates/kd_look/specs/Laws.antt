@@ -123,7 +123,7 @@ count_end text index = do
   Ok count.end
 
 -- The day is for the machine that the form's first heading shows after its number of letters. If a wrong byte stands
--- before that place (`count_end`), any day will do. Here, a number that is out of range is no wrong byte.
+-- before that place (`count_end`), the day may be any day. Here, a number that is out of range is no wrong byte.
 abbrev pub IsDayOfForm : Day → List ℕ → Type 0
 IsDayOfForm s form = IfOk (count_end form 0) (λ end. HasKeyLineForm s (heading_keys form end))
 

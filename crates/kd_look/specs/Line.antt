@@ -36,7 +36,7 @@ abbrev pub has_any_key : Members → Bool
 has_any_key no_members = false
 has_any_key (member name value rest) = true
 
--- Whether the document has the entry or the key to look for. For `AnyKey`, any key of the document will do.
+-- Whether the document has the entry or the key to look for. For `AnyKey`, whether it has any key.
 unfoldable pub has_value : Sought → Members → Bool
 has_value (soughts.Entry entry) document = is_some (table_at document (Some entry))
 has_value (soughts.Key entry key) document = option_map_or (is_given key) (table_at document entry) false

@@ -57,7 +57,7 @@ pub struct DamagedPart {
     /// The first short line of the body: it has letters, but not exactly 50, and letters follow the line. `None` if no
     /// line is short.
     pub short_line: Option<ShortLine>,
-    /// The number of the first group that doesn't have five letters, though letters follow the group. `None` if each
+    /// The number of the first short group: it doesn't have five letters, and more letters follow. `None` if each
     /// group but the last has five letters.
     pub short_group: Option<usize>,
     /// Whether needless blanks in the part's first line were dropped. They are dropped if the line, with its blanks,

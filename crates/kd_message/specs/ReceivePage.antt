@@ -131,8 +131,8 @@ lone_after section l s after before (part ∷ parts) =
     (if is_none part.numbers && before == after then lone_in section l s after part else [])
     ++ lone_after section l s after (number_or before part.numbers) parts
 
--- The text of section `section` about one part number: about the part that is shown under it, or about a part that
--- didn't come.
+-- The text of section `section` about the part that is shown under a part number. If no part is shown, the text about
+-- a part that didn't come.
 abbrev pub shown_in : Section → Language → Day → PartName → ℕ → Option DamagedPart → List ℕ
 shown_in section l s name times (Some part) = part_in section l s name times part
 shown_in section l s name times None = missing_in section l name

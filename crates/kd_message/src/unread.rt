@@ -258,7 +258,7 @@ fn draw_short_groups<W: Sink>(
 }
 
 /// Writes what to ask for if the count is wrong or damaged. `group` is the number of the first short group. A short
-/// group doesn't have five letters, though letters follow the group.
+/// group doesn't have five letters, and more letters follow.
 pub(crate) fn draw_count_asked<W: Sink>(
     sink: &mut W,
     language: Language,

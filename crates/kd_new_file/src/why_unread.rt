@@ -5,7 +5,7 @@ ghost use Rattle.kd_new_file.specs.WhyUnread.{why_by_kind};
 
 use std::io;
 
-/// Why a file can't be opened or read, as far as the system says it.
+/// Why a file can't be opened or read: the reason that the system gives.
 #[derive(Clone, Copy, Debug, PartialEq, Eq)]
 pub enum WhyUnread {
     /// There is no file with this name.

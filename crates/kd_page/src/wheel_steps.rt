@@ -39,8 +39,8 @@ fn draw_rings<W: Sink>(sink: &mut W, page: &Page<'_>, count: u8)
     draw_list(sink, page, Step::Rings);
 }
 
-/// Writes the words `told`, and the wheels that come from the box, each with the letter of its ring on `machine`.
-/// Writes nothing if no wheel comes from the box.
+/// Writes the words `told`, then a list of the wheels that come from the box, with the rings of `machine`. Writes
+/// nothing if no wheel comes from the box.
 pub(crate) fn draw_rings_in_box<W: Sink>(
     sink: &mut W,
     page: &Page<'_>,
@@ -116,7 +116,7 @@ fn draw_seats<W: Sink>(sink: &mut W, page: &Page<'_>, count: u8)
     draw_list(sink, page, Step::Seats);
 }
 
-/// Writes which wheels and which reflector go into the box, if any do.
+/// Writes which wheels and which reflector go into the box. If none do, writes nothing.
 fn draw_boxed<W: Sink>(sink: &mut W, page: &Page<'_>)
     ensures { Draws W.taken W.has_failed sink.old sink.new (boxed_text page.now) }
 {
