@@ -69,8 +69,8 @@ unfoldable pub group_day_line : Language → GroupSearch → ℕ → List ℕ �
 group_day_line l search part group day =
     filled (text_in l texts.GROUP_DAY) (search.name ∷ decimal part ∷ group ∷ decimal day ∷ search.sheet ∷ [])
 
--- the warning that no day of the sheet for the message's machine has the group of part `part`; `group` is the group in
--- capital letters
+-- The warning that the group of part `part` belongs to no day of the sheet. Only days for the message's machine count.
+-- `group` is the group in capital letters.
 unfoldable pub no_group_line : Language → GroupSearch → ℕ → List ℕ → List ℕ
 no_group_line l search part group =
     filled (text_in l texts.NO_GROUP) (search.name ∷ decimal part ∷ search.sheet ∷ group ∷ [])

@@ -233,7 +233,8 @@ fn push_day(
     )
 }
 
-/// Appends the warning that no day of the sheet for the message's machine has the group of part `part`.
+/// Appends the warning that the group of part `part` belongs to no day of the sheet. Only days for the message's
+/// machine count.
 ///
 /// `group` is the group in capital letters.
 #[tactic(auto, unfolding(crate::specs::GroupDays::no_group_line))]

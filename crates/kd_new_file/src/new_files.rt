@@ -12,8 +12,8 @@ pub trait NewFiles {
     /// A file that is being written.
     type Written: Sink + Drop;
 
-    /// The files, by their names. `None` if the files aren't known, as on the host. Known files are in memory, where no
-    /// device fails.
+    /// The files, by their names. `None` if the files aren't known: the host's files aren't. Known files are in
+    /// memory, where no device fails.
     ///
     /// A file that is still being written counts as empty.
     ghost held: { Self → Option FilesByName } = { λ _. None };
