@@ -62,8 +62,8 @@ pub const NOT_ALLOWED: Text = (": you may not read ", ": kein Leserecht für ");
 
 pub const UNREADABLE: Text = (": can't read ", ": nicht zu lesen: ");
 
-/// Why there is no output file: there is a file of this name. The word `REFUSED` stands before this text, and the
-/// file's name after it.
+/// Why no output file was made: there already is a file with its name. The word `REFUSED` stands before this text, and
+/// the file's name after it.
 pub const TAKEN: Text = (
     "because there is already a file ",
     "es gibt schon eine Datei ",

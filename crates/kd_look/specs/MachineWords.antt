@@ -80,7 +80,7 @@ thing_words l machine things.Cable number = cable_words l machine number
 thing_words l machine things.PinWheel number = pin_wheel_words l machine number
 thing_words l machine things.Bar number = bar_words l machine number
 
--- the lines of all slots, cables, pin wheels or bars, as `thing` says, from number 1 to `count`
+-- the lines of the slots, cables, pin wheels or bars, from number 1 to `count`; `thing` says which of the four
 abbrev pub things_words : Language → Parts → Thing → ℕ → List ℕ
 things_words l machine thing count = flat_map (thing_words l machine thing) (range_with_len 1 count)
 

@@ -65,7 +65,7 @@ signs_answer text start = option_map_or
     (λ place. Err (record { index = start + place; fault = BadByte (start + place + 1); reason = reasons.TextSign }))
     (wrong_sign (drop start text)) (Ok tt)
 
--- whether a byte of the text counts as a letter: a capital letter does and, on the Converter, a space
+-- Whether a byte of the text counts as a letter. A capital letter does. On the Converter, a space does too.
 abbrev pub gives_letter : KeyLine → ℕ → Bool
 gives_letter lines.Converter byte = is_capital byte || byte == 32
 gives_letter form byte = is_capital byte

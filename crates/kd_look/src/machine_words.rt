@@ -43,7 +43,8 @@ pub fn push_machine(
     push_things(text, language, machine, Thing::Bar, 27)
 }
 
-/// Appends the lines of all slots, cables, pin wheels or bars, as `thing` says, from number 1 to `count`.
+/// Appends the lines of the slots, cables, pin wheels or bars, from number 1 to `count`. `thing` says which of
+/// the four.
 fn push_things(
     text: &mut String,
     language: Language,

@@ -69,7 +69,7 @@ pub data IsMeant (s : Day) (part meant : List ℕ) : Type 0 where
   Respaced : ((h : Heading) → ¬ (IsDamagedHeading s (first_line part) h)) → meant ≡ respaced part
       → IsMeant s part meant
 
--- `read` is the result of reading `part` as it stands. Only the fields `respaced` and `line` of `read` may have any
+-- `read` is the result of reading `part` as it stands. The fields `respaced` and `line` of `read` may have any
 -- values. `given` are the numbers in the received heading.
 pub record IsReadAs (s : Day) (part : List ℕ) (read : DamagedPart) : Type 0 where
   pub given : Option PartNumbers

@@ -206,7 +206,7 @@ receive_text results l s parts =
 unfoldable pub receive_notes : Language → Day → List DamagedPart → List ℕ
 receive_notes l s parts = several_note l parts ++ section_text sections.Noted l s parts
 
--- ---- What `write_receive_page` answers.
+-- ---- The answer.
 
 -- What `write_receive_page` answers:
 -- - `ReceivedPageWritten`: the page was written, and the answer says whether the parts are one whole message. Or the

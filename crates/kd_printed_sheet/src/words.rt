@@ -26,7 +26,7 @@ pub(crate) struct SingleLetter;
 /// A kind of word in a table's cell: a value, written as in key sheets.
 pub(crate) struct Item;
 
-/// A kind of word in a table's cell: the letter of a wheel in the ground setting.
+/// A kind of word in a table's cell: the ground setting's letter for a wheel.
 pub(crate) struct Ground;
 
 /// A kind of word in a table's cell: the ring of a wheel, as a letter.

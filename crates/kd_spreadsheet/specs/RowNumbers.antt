@@ -42,7 +42,7 @@ row_numbers table = numbers_from (separator_of table) (AtStart false) 1 (strip_b
 abbrev pub numbers_left : RowNumbers → List ℕ
 numbers_left rows = numbers_from rows.separator (AtStart false) rows.number rows.rest.now
 
--- No bytes are left, or so few that all numbers of their rows fit into 64 bits.
+-- If bytes are left, they are so few that all numbers of their rows fit into 64 bits.
 abbrev pub IsCounted : RowNumbers → Type 0
 IsCounted rows = (rows.rest.now ≡ []) ⊎ (rows.number + length rows.rest.now ≤ 2 ^ 64 - 2)
 

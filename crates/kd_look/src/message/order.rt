@@ -182,7 +182,7 @@ pub fn letter_count(text: &[u8], form: KeyLine, start: usize) -> usize
         .count()
 }
 
-/// Whether a byte of the text counts as a letter: a capital letter does and, on the Converter, a space.
+/// Whether a byte of the text counts as a letter. A capital letter does. On the Converter, a space does too.
 fn gives_letter(form: KeyLine, byte: u8) -> bool
     ensures { result ≡ gives_letter form byte }
 {
