@@ -270,7 +270,7 @@ fn no_days(wording: Wording, grammar: &mut Grammar<'_>, why: Text) -> NoCommand
     }
 }
 
-/// The hint to type a model's name in quotes, if the word `I` comes directly after the word `Enigma`. Otherwise, an
+/// If the word `I` comes directly after the word `Enigma`, the hint to type a model's name in quotes. Otherwise, an
 /// empty text.
 fn quotes_hint<S: AsStr>(words: &[S]) -> Text {
     let mut is_begun = false;

@@ -101,8 +101,8 @@ abbrev pub group_of_keys : Keys → List (List ℕ)
 group_of_keys (Rotor k) = k.group ∷ []
 group_of_keys (Pin k) = []
 
--- If `look` finds no fault in an order, it names the groups of the order's lines of keys: one for each line, from the
--- first line to the last. For a Converter's order, it names none.
+-- If `look` finds no fault in an order, `look` names the groups of the order's lines of keys: one for each line, from
+-- the first line to the last. For a Converter's order, `look` names none.
 abbrev pub OrderGroupsAreThoseOfKeys : Type 0
 OrderGroupsAreThoseOfKeys =
     (s : Day) (order : List ℕ) (start : ℕ) (keys : List Keys) (head text : List ℕ)
@@ -176,14 +176,14 @@ AreGroupsOfParts s (part ∷ parts) (group ∷ groups) = HasGroup s part group �
 AreGroupsOfParts s [] (group ∷ groups) = ⊥
 AreGroupsOfParts s (part ∷ parts) [] = ⊥
 
--- If `look` finds no fault in a rotor machine's form, it names the groups in the bodies of the form's parts.
+-- If `look` finds no fault in a rotor machine's form, `look` names the groups in the bodies of the form's parts.
 abbrev pub FormGroupsAreThoseOfBodies : Type 0
 FormGroupsAreThoseOfBodies =
     (s : RotorDay) (form : List ℕ) (first : FormHeading) → IsDayOfForm (Rotor s) form → form_answer form ≡ Ok first
     → (groups : List (List ℕ)) × (message_of form ≡ Some (record { keys = first.keys; groups = groups }))
     × AreGroupsOfParts (Rotor s) (parts_of form) groups
 
--- If `look` finds no fault in a Converter's form, it names no group.
+-- If `look` finds no fault in a Converter's form, `look` names no group.
 abbrev pub ConverterFormsHaveNoGroups : Type 0
 ConverterFormsHaveNoGroups =
     (s : PinDay) (form : List ℕ) (first : FormHeading) → IsDayOfForm (Pin s) form → form_answer form ≡ Ok first

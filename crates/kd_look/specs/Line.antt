@@ -21,7 +21,7 @@ use Rattle.kd_findings.specs.declared.key_place.KeyPlace.{KeyPlace}
 use Rattle.kd_look.specs.declared.line.Sought.{Sought}
 use Rattle.kd_look.specs.declared.line.Sought.TheVariants as soughts
 
--- the item of `items` with the number `entry`, counted from 1, if it is a table
+-- item number `entry` of `items`, counted from 1; `None` if this item is missing, or isn't a table
 abbrev pub entry_of : List Data → ℕ → Option Members
 entry_of items entry = option_and_then as_table (numbered_item items entry)
 

@@ -59,7 +59,7 @@ pub fn forms_are_judged_without_their_letters()
 
 /// This crate names the right machine for a message.
 ///
-/// If `send` makes a form of the order, or `receive` reads the form, it is the day's machine.
+/// If `send` makes a form of the order, or `receive` reads the form, this crate names the day's machine.
 pub fn messages_are_taken_for_their_machine()
     ensures orders { OrdersAreForTheirMachine }
     ensures forms { FormsAreForTheirMachine }

@@ -252,7 +252,7 @@ fn table_at(document: &Table, entry: Option<usize>) -> Option<&Table>
     }
 }
 
-/// Item number `entry` of `items`, counted from 1, if this item is a table.
+/// Item number `entry` of `items`, counted from 1. `None` if this item is missing, or isn't a table.
 fn entry_of(items: &[Value], entry: usize) -> Option<&Table>
     ensures { option_map (λ table. table_view table.now) result
         ≡ entry_of (map view items.now) entry }

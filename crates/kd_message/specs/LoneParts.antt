@@ -13,8 +13,8 @@ use Rattle.kd_part_sheet.specs.declared.markup.TheConstants.{SECTION_END}
 use Rattle.kd_message.specs.declared.texts.TheConstants as texts
 use Rattle.kd_message.specs.TextSheet.{heading_fault}
 
--- The words that say where a part without a number stands: after the part with the number `after`. If `after` is 0, it
--- stands before all numbered parts.
+-- The words that say where a part without a number stands: after the part with the number `after`. If `after` is 0,
+-- the part stands before all numbered parts.
 abbrev pub lone_words : Language → ℕ → List ℕ
 lone_words l after =
     if after == 0 then text_in l texts.LONE_FIRST else filled (text_in l texts.LONE_AFTER) (decimal after ∷ [])

@@ -20,8 +20,8 @@ use kd_pictures::{draw, draw_in};
 use kd_state::SheetDay;
 use kd_tables::{Model, Sink};
 
-/// Writes where a part without a number stands: after the part with the number `after`. If `after` is 0, it stands
-/// before all numbered parts.
+/// Writes where a part without a number stands: after the part with the number `after`. If `after` is 0, the part
+/// stands before all numbered parts.
 pub(crate) fn draw_lone_words<W: Sink>(sink: &mut W, language: Language, after: u8)
     ensures { Draws W.taken W.has_failed sink.old sink.new (lone_words language after) }
 {

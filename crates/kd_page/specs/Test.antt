@@ -62,7 +62,7 @@ letters_again m = if is_converter (model_of m) then again_all (codes " ") false 
 abbrev pub again_end : Language → Model → List ℕ
 again_end l model = if is_converter model then text_in l texts.AGAIN_END_PIN else text_in l texts.AGAIN_END_ROTOR
 
--- the note that fewer than `count` settings aren't possible; nothing if there are no settings
+-- the note that the page has `count` settings, and that fewer aren't possible; nothing if `count` is 0
 abbrev pub fewest_text : Language → ℕ → List ℕ
 fewest_text l count = if count == 0 then [] else filled (text_in l texts.FEWEST) (count_text l count ∷ [])
 
