@@ -84,7 +84,7 @@ fn refusal_text(language: Language, refused: Refused) -> DayText
     text
 }
 
-/// Appends the words for the day, if there is one.
+/// If there is a day, appends the words for it.
 fn push_day(text: &mut DayText, language: Language, day: Option<u8>)
     requires { array_string_len text.old ≤ 1 }
     ensures bytes { text.new.bytes ≡ text.old.bytes ++ day_prefix language day }

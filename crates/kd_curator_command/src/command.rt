@@ -222,7 +222,7 @@ fn meant_line<'a>(matches: &ArgMatches<'a>) -> Option<CommandLine<'a>>
     })
 }
 
-/// The value of the argument `name`, if it is given.
+/// The value of the argument `name`. `None` if the argument isn't given.
 fn value_said<'a>(matches: &ArgMatches<'a>, name: &str) -> Option<&'a str>
     ensures { option_map (λ value. value.now) result
         ≡ value_said name.now (subcommand_rows_of matches.now) }
@@ -369,7 +369,7 @@ fn send_of<'a>(words: &ArgMatches<'a>) -> Option<NamedCommand<'a>>
     }
 }
 
-/// The name in `names`, if there is only one.
+/// The only name in `names`. `None` if there isn't exactly one.
 fn only_name<'a>(names: &[&'a str]) -> Option<&'a str>
     ensures said { IfSome result (λ name. unborrowed_names names.now ≡ name.now ∷ []) }
     ensures none { result ≡ None → length names.now ≢ 1 }
@@ -506,7 +506,7 @@ fn look_of<'a>(words: &ArgMatches<'a>) -> Option<NamedCommand<'a>>
     Some(Command::Look { files })
 }
 
-/// Appends the value of the argument `name` to `files`, if the argument is given.
+/// If the argument `name` is given, appends its value to `files`.
 fn push_file<'a>(files: &mut ArrayVec<&'a str, 3>, words: &ArgMatches<'a>, name: &str)
     requires { array_vec_len files.old < 3 }
     ensures items { unborrowed_names files.new.items ≡ unborrowed_names files.old.items

@@ -30,7 +30,7 @@ pub record KnownMessage : Type 0 where
 abbrev pub letters_of : List ℕ → List ℕ
 letters_of text = map (λ byte. byte - 65) (filter is_capital text)
 
--- the letters, if there are exactly three of them; otherwise `None`
+-- the letters; `None` if there aren't exactly three
 abbrev pub three_letters : List ℕ → Option (List ℕ)
 three_letters letters = if length letters == 3 then Some letters else None
 

@@ -94,11 +94,11 @@ line_of_fault text place fault = option_and_then (line_number text) (sought_for 
 abbrev pub line_of : List ℕ → Finding → Option ℕ
 line_of text finding = line_of_fault text finding.place finding.fault
 
--- the line of `finding`, if this line ends before the byte at index `end`
+-- the line of `finding`; `None` if this line doesn't end before the byte at index `end`
 unfoldable pub line_so_far : List ℕ → ℕ → Finding → Option ℕ
 line_so_far text end finding = option_and_then (line_before text end) (sought_for finding.place finding.fault)
 
--- the first argument, if it is a number; otherwise the second argument, `later`
+-- If the first argument is a number, this number. Otherwise the second argument, `later`.
 abbrev pub or_line : Option ℕ → Option ℕ → Option ℕ
 or_line (Some line) later = Some line
 or_line None later = later

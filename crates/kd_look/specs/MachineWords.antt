@@ -55,7 +55,7 @@ cable_line l cable None None = []
 unfoldable pub cable_words : Language → Parts → ℕ → List ℕ
 cable_words l machine cable = option_map_or (λ ends. cable_line l cable ends.0 ends.1) (machine_cable machine cable) []
 
--- a space and `letter`, if the pin at this letter is effective; otherwise nothing
+-- If the pin at `letter` is effective, a space and `letter`. Otherwise nothing.
 unfoldable pub pin_words : Parts → ℕ → ℕ → List ℕ
 pin_words machine wheel letter =
     if option_map_or (λ effective. effective) (machine_pin machine wheel letter) false

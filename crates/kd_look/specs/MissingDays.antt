@@ -42,7 +42,7 @@ has_day_in model None = false
 abbrev pub serves : Model → KnownFile → Bool
 serves model read = has_day_in model read.file
 
--- `words`, if the file is a key sheet; otherwise nothing
+-- If the file is a key sheet, `words`. Otherwise nothing.
 abbrev pub words_for : Option File → List ℕ → List ℕ
 words_for (Some (files.Sheet month)) words = words
 words_for (Some (files.Machine machine)) words = []

@@ -164,7 +164,7 @@ fn next_lines(
     Ok(next)
 }
 
-/// `known`, if it is a number. Otherwise `line` or `None`, as `line_in` says.
+/// If `known` is a number, this number. Otherwise the answer of `line_in`.
 fn known_line(
     known: Option<usize>,
     document: &Table,

@@ -82,7 +82,7 @@ fn push_thing(
     }
 }
 
-/// Appends the line of slot `slot`, if the machine has this slot.
+/// If the machine has slot `slot`, appends the line of this slot.
 #[tactic(auto, using(std::proofs::Common::append_assoc), unfolding(crate::specs::MachineWords::slot_words))]
 fn push_slot(
     text: &mut String,
@@ -222,7 +222,7 @@ fn push_loose_cable(
     text.push_str(language.text(texts::FREE_END))
 }
 
-/// Appends the line of pin wheel `wheel`, if the machine has this wheel.
+/// If the machine has pin wheel `wheel`, appends the line of this wheel.
 #[tactic(auto, using(std::proofs::Common::append_assoc), unfolding(crate::specs::MachineWords::pin_wheel_words))]
 fn push_pin_wheel(
     text: &mut String,
@@ -281,7 +281,7 @@ fn push_spaced_letter(text: &mut String, letter: Letter) -> Result<(), AllocErro
     push_letter(text, letter)
 }
 
-/// Appends the line of bar `bar`, if the machine has this bar.
+/// If the machine has bar `bar`, appends the line of this bar.
 #[tactic(auto, using(std::proofs::Common::append_assoc), unfolding(crate::specs::MachineWords::bar_words))]
 fn push_bar(
     text: &mut String,
@@ -311,7 +311,7 @@ fn push_label(text: &mut String, name: &str, number: u8) -> Result<(), AllocErro
     text.push_str(": ")
 }
 
-/// Appends the line of the reflector, if the machine has one.
+/// If the machine has a reflector, appends the line of the reflector.
 fn push_reflector(
     text: &mut String,
     language: Language,

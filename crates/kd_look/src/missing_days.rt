@@ -18,9 +18,9 @@ use std::alloc::AllocError;
 #[derive(Drop)]
 pub struct ReadFile<'f> {
     pub name: &'f str,
-    /// The file's content, if it is a machine or a key sheet.
+    /// The content of a machine file or a key sheet. `None` for any other file.
     pub file: Option<File>,
-    /// The file's content, if it is an order or a form.
+    /// The content of an order or a form. `None` for any other file.
     pub message: Option<Message>,
 }
 

@@ -51,13 +51,13 @@ heading_count None = 0
 abbrev pub explains : ℕ → ℕ → ShortLine → Bool
 explains counted came short = counted + short.letters == came + 50
 
--- the short line, if the heading's count would be right with 50 letters on this line; otherwise `None`
+-- The short line. `None` if there is none, or if the heading's count would be wrong even with 50 letters on this line.
 abbrev pub telling_line : ℕ → ℕ → Option ShortLine → Option ShortLine
 telling_line counted came None = None
 telling_line counted came (Some short) = if explains counted came short then Some short else None
 
--- the short line of the part, if this line explains the wrong count: with 50 letters on it, the heading's count would
--- be right; otherwise `None`
+-- If the short line of the part explains the wrong count, this line. Otherwise `None`. The line explains the count if
+-- the count would be right with 50 letters on the line.
 abbrev pub part_line : DamagedPart → Option ShortLine
 part_line part = telling_line (heading_count part.numbers) part.came part.short_line
 

@@ -200,7 +200,7 @@ warnings_of shown = record {
 abbrev pub text_begin : Model → List ℕ
 text_begin model = if is_converter model then texts.TEXT_WORDS.now else texts.TEXT_LETTERS.now
 
--- the checkbox to ask for the groups in which letters are lost, if there are any
+-- the checkbox to ask for the groups with lost letters; empty if no letter is lost
 abbrev pub ask_for_lost : Language → PartName → List (Option ℕ) → List ℕ
 ask_for_lost l name letters =
     if has_lost letters

@@ -450,7 +450,7 @@ fn draw_listed_unread<W: Sink>(sink: &mut W, language: Language, name: PartName)
     );
 }
 
-/// Writes the sheet for a part, if the part is read.
+/// If a part is read, writes the sheet for this part.
 fn draw_worked<W: Sink>(
     sink: &mut W,
     language: Language,

@@ -41,7 +41,7 @@ pub trait NewFiles {
         ensures device { IfSome (held self.old) (λ _. result ≢ Err NewFileFault.Device) }
         ensures refused { OnErr result (held self.new ≡ held self.old) };
 
-    /// Removes the name `name`, if the folder allows this.
+    /// If the folder allows it, removes the name `name`.
     fn remove(&mut self, name: &str)
         ensures { held self.new ≡ option_map (λ files. with_content files name.now None) (held self.old) };
 

@@ -28,7 +28,7 @@ abbrev pub IsOfItem : Option ℕ → Slip → Type 0
 IsOfItem item (slips.Fault found told words) = told ≡ item
 IsOfItem item slips.NoMemory = Unit {0}
 
--- the row number in a fault, if the fault has one
+-- the row number in a fault; `None` if the fault has none
 abbrev pub row_in : SheetFault → Option ℕ
 row_in (BadRow number) = Some number
 row_in fault = None

@@ -108,7 +108,7 @@ fn both_ends_words(wording: Wording, byte: u8, text: &str) -> Result<String, All
     wording.fill(texts::LETTER_AT_BOTH_ENDS, &[letter.as_str(), text])
 }
 
-/// Refuses the letter `byte` of the cable `text`, if the cable `earlier` has this letter, too.
+/// If the cable `earlier` has the letter `byte`, refuses this letter in the cable `text`.
 fn check_apart(wording: Wording, earlier: &str, text: &str, byte: u8) -> Result<(), Slip>
     ensures { IfErr result (HasFault LetterTwice None) }
 {

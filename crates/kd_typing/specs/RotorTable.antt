@@ -96,7 +96,7 @@ abbrev pub is_at_notch : List Wheel → ℕ → ℕ → Bool
 is_at_notch wheels from_right letter =
     option_map_or (λ wheel. is_notch wheel letter) (slice_get wheels (length wheels - (from_right + 1))) false
 
--- how many wheels move at the next key press, if the middle window shows `middle`, and the right window `right`
+-- How many wheels move at the next key press. The middle window shows `middle`, and the right window shows `right`.
 unfoldable pub wheels_moved : List Wheel → ℕ → ℕ → ℕ
 wheels_moved wheels middle right =
     if is_at_notch wheels 1 middle then 3 else (if is_at_notch wheels 0 right then 2 else 1)

@@ -67,7 +67,7 @@ impl MachineRows {
     }
 }
 
-/// The rows of the table of a rotor machine, if the machine is ready.
+/// The rows of a rotor machine's table. `None` if the machine isn't ready.
 fn rotor_rows(parts: &RotorParts) -> Option<RotorRows>
     requires { AreLegalRotorParts parts.now }
     ensures ready { IsSome result ↔ IsReady (Parts.Rotor parts.now) }

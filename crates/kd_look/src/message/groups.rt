@@ -206,7 +206,7 @@ fn first_line_end(text: &[u8]) -> Option<usize>
     text.iter().position(|byte| *byte == b'\n')
 }
 
-/// Appends `group`, if there is one.
+/// If there is a group, appends it.
 fn push_group(groups: &mut Vec<[Letter; 3]>, group: Option<[Letter; 3]>) -> Result<(), AllocError>
     ensures { OnOk result (groups.new.items ≡ groups.old.items ++ option_to_list group) }
 {
