@@ -130,7 +130,7 @@ fn judge_rotors(
     )
 }
 
-/// Appends the fault at `key`, if there is one. The value of `key` must have a letter for each wheel of the box.
+/// If the value of `key` has a fault, appends this fault. The value must have a letter for each wheel of the box.
 fn judge_box_letters(
     list: &mut Vec<Finding>,
     wording: Wording,

@@ -208,8 +208,8 @@ pub(crate) fn draw_counts<W: Sink>(sink: &mut W, language: Language, part: &Dama
     draw_in(sink, language, COUNT_END);
 }
 
-/// Writes the heading's count, the number of letters that came, and the short line that explains the difference, if
-/// there is one.
+/// Writes the heading's count, and the number of letters that came. If a short line explains the difference, writes
+/// how many letters it has.
 fn draw_count_wrong<W: Sink>(sink: &mut W, language: Language, part: &DamagedPart)
     ensures { Draws W.taken W.has_failed sink.old sink.new (count_text language part.now) }
 {

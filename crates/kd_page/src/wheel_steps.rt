@@ -181,7 +181,7 @@ fn has_lone_wheel(machine: &Machine, other: &Machine, slots: &[u8]) -> bool
     }
 }
 
-/// The wheel in a slot of `machine`, unless a slot of `other` has this wheel.
+/// The wheel in slot `slot` of `machine`. `None` if the slot has no wheel, or if a slot of `other` has this wheel.
 fn lone_wheel(machine: &Machine, other: &Machine, slot: u8) -> Option<Wheel>
     ensures { result ≡ lone_wheel machine.now other.now slot }
 {
@@ -192,7 +192,7 @@ fn lone_wheel(machine: &Machine, other: &Machine, slot: u8) -> Option<Wheel>
     }
 }
 
-/// The reflector before the settings, unless the machine still has it after the settings.
+/// The reflector before the settings. `None` if the machine still has this reflector after the settings.
 fn boxed_reflector(page: &Page<'_>) -> Option<Reflector>
     ensures { result ≡ boxed_reflector page.now }
 {
