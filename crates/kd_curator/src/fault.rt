@@ -108,8 +108,8 @@ impl Refused {
         }
     }
 
-    /// The refusal for a fault of the order at place `place` among the command's files, or of the machine that
-    /// enciphers the order.
+    /// The refusal for a fault of an order, or of the machine that enciphers the order. The order is at place `place`
+    /// among the command's files.
     pub(crate) fn of_order(place: usize, fault: FormFault) -> Refused
         ensures { result ≡ refused_order place fault }
     {
@@ -120,8 +120,8 @@ impl Refused {
         }
     }
 
-    /// The refusal for a fault of an order that is the command's third file, or of the machine that enciphers or
-    /// deciphers a message.
+    /// The refusal for a fault of an order, or of the machine that enciphers or deciphers a message. The order is the
+    /// command's third file.
     pub(crate) fn of_message(fault: FormFault) -> Refused
         ensures { result ≡ refused_message fault }
     {

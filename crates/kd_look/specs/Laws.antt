@@ -80,8 +80,8 @@ pub record IsRefusedByDay (s : Day) (order : List ℕ) (answer : Result (List �
   pub of_the_day : IsDaysFault fault
   pub answered : answer ≡ Err fault
 
--- If `look` finds a fault in an order, `send` refuses the order with this fault, or with a fault that can be found
--- only with the day.
+-- If `look` finds a fault in an order, `send` refuses the order. `send` then names this fault, or a fault that can be
+-- found only with the day.
 abbrev pub OrderFaultsAreThoseOfSend : Type 0
 OrderFaultsAreThoseOfSend =
     (s : Day) (form : KeyLine) (order : List ℕ) (found : MessageFault) (answer : Result (List ℕ) FormFault)
@@ -146,8 +146,8 @@ pub record IsRefusedForLetters (s : Day) (form : List ℕ) (answer : Result (Lis
   pub found : IsLettersAnswer s heading.part heading.indicator (letters_from None body) (Err fault)
   pub answered : answer ≡ Err fault
 
--- If `look` finds a fault in a form, `receive` refuses the form with this fault, or with a fault of
--- a part's letters.
+-- If `look` finds a fault in a form, `receive` refuses the form. `receive` then names this fault, or a fault of a
+-- part's letters.
 abbrev pub FormFaultsAreThoseOfReceive : Type 0
 FormFaultsAreThoseOfReceive =
     (s : Day) (form : List ℕ) (found : MessageFault) (answer : Result (List ℕ) FormFault) → IsDayOfForm s form

@@ -64,7 +64,7 @@ is_text_worse counted one None = false
 abbrev pub is_worse : DamagedPart → DamagedPart → Bool
 is_worse one other = is_text_worse (is_err one.text && is_ok other.text) (shown_text one) (shown_text other)
 
--- `later`, if `later` has a better text than `part`, such as a text with fewer lost letters; otherwise `part`
+-- If `later` has a better text than `part`, such as a text with fewer lost letters, `later`. Otherwise `part`.
 abbrev pub better : DamagedPart → Option DamagedPart → Option DamagedPart
 better part None = Some part
 better part (Some later) =

@@ -70,8 +70,8 @@ abbrev pub message_letters : List DamagedPart → List (Option ℕ)
 message_letters parts =
     flat_map (λ number. letters_of_part (shown_under parts number)) (range_with_len 1 (total_of parts))
 
--- If `desk receive` reads a form, the form is one whole message. The page shows a text for each part number. Joined in
--- the order of the numbers, and with an LF after them, these texts are the text that `desk receive` gives.
+-- If `desk receive` reads a form, the form is one whole message. The page shows a text for each part number. If these
+-- texts are joined in the order of the numbers, with an LF at the end, they are the text that `desk receive` gives.
 abbrev pub FormsReadAreWhole : Type 0
 FormsReadAreWhole =
     (s : Day) (form text : List ℕ) (parts : List DamagedPart) → IsTextOf s form text → AreFormParts s form parts

@@ -23,7 +23,8 @@ lone_words l after =
 unfoldable pub listed_lone : Language → ℕ → List ℕ
 listed_lone l after = texts.LISTED_LONE.now ++ lone_words l after ++ text_in l texts.LISTED_LONE_END
 
--- the words that say what to ask for: the heading, or the whole part if no letter of the body came (`came` is 0)
+-- What to ask for, in words. If no letter of the body came (`came` is 0), it is the whole part. Otherwise, it is the
+-- heading.
 abbrev pub lone_asked : Language → ℕ → List ℕ
 lone_asked l came = if came == 0 then text_in l texts.ALL_OF_IT else text_in l texts.ITS_HEADING
 

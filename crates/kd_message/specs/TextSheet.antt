@@ -141,7 +141,7 @@ run_length (group ∷ groups) = if has_lost group then run_length groups + 1 els
 -- The words for the groups with lost letters in a list that begins with group `number`. Groups in a row are named
 -- together, as *groups 3 to 5*. `first` stands before the first words, and commas stand between the words. If `before`
 -- is true, the group just before the list also has lost letters. Then this group is already named, together with the
--- groups with lost letters at the start of the list, so these are left out.
+-- groups with lost letters at the start of the list. So these groups are left out.
 abbrev pub lost_groups : Language → List ℕ → Bool → ℕ → List (List (Option ℕ)) → List ℕ
 lost_groups l first before number [] = []
 lost_groups l first before number (group ∷ groups) =
@@ -295,8 +295,8 @@ abbrev pub short_groups : Language → Option ℕ → Option ShortLine → List 
 short_groups l group (Some short) = groups_words l (short.before / 5 + 1) (short.before / 5 + 10)
 short_groups l group None = count_asked l damages.CountWrong group
 
--- the sentences about a wrong count: the heading's count, the number of letters that came, and the short line that
--- explains the difference, if there is one
+-- The sentences about a wrong count: the heading's count, and the number of letters that came. If a short line
+-- explains the difference, also how many letters it has.
 unfoldable pub count_text : Language → DamagedPart → List ℕ
 count_text l part =
     counts_text l part.line (heading_count part.numbers) part.came ++ short_text l part.line (part_line part)

@@ -1,6 +1,6 @@
--- A page marks a part of the machine, such as a ring or a plug, as changed only if a setting of the page sets this
--- part. A Converter's page also has marks for pins and lugs that stay. The laws in this file leave out the windows of
--- an Enigma.
+-- If a page marks a part of the machine as changed, a setting of the page sets this part. A part is, for example, a
+-- ring or a plug. A Converter's page also has marks for pins and lugs that stay. The laws in this file leave out the
+-- windows of an Enigma.
 use Rattle.std.specs.Prelude.{◌≡◌, ℕ, nat_eq, Bool, true, false, ◌&&◌, List}
 use Rattle.std.specs.List.{list_any}
 use Rattle.kd_tables.specs.declared.wheel.Wheel.{Wheel}

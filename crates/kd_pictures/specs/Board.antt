@@ -72,7 +72,8 @@ all_cables l m = if has_cables m CABLES then cables_after [] m CABLES else text_
 abbrev pub lane : ℕ → ℕ
 lane number = 139 + 9 * number
 
--- the height at which a cable's line begins to bend on its way from a socket at height `y` to the lane at height `lane`
+-- The height at which a cable's line begins to bend. The line leads from a socket at height `y` to the lane at height
+-- `lane`.
 abbrev pub bend : ℕ → ℕ → ℕ
 bend y lane = if nat_lt y lane then lane - 5 else lane + 5
 

@@ -65,8 +65,8 @@ typed_by table window (key ∷ text) =
 
 -- ---- The table of a key.
 
--- for each key, the place that the key's current reaches through the plugboard and the right wheel, while the right
--- window shows `letter`
+-- For each key, the place that the key's current reaches through the plugboard and the right wheel. The right window
+-- shows `letter`.
 unfoldable pub into_row : RotorKey → ℕ → List ℕ
 into_row key letter = product (key.plugs ∷ rotors (right_slot key.wheels) (right_slot key.rings) (letter ∷ []))
 
