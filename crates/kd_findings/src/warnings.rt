@@ -168,7 +168,7 @@ fn push_cables(
     Ok(())
 }
 
-/// Appends a warning if the cable `item` is a text of two capital letters in falling order, such as `BA`.
+/// If the cable `item` is a text of two capital letters in falling order, such as `BA`, appends a warning.
 fn push_cable(
     lines: &mut String,
     wording: Wording,
@@ -184,7 +184,7 @@ fn push_cable(
     }
 }
 
-/// Appends a warning if `cable` has two capital letters in falling order, such as `BA`. The desk writes `AB`.
+/// If `cable` has two capital letters in falling order, such as `BA`, appends a warning. The desk writes `AB`.
 #[tactic(auto, using(std::proofs::Common::append_assoc), unfolding(crate::specs::Warnings::order_line))]
 fn push_order(
     lines: &mut String,

@@ -54,19 +54,19 @@ outcome_by bytes (Err fault) = outcome_without (is_message bytes) bytes fault
 abbrev pub file_outcome : List ℕ → Outcome
 file_outcome bytes = outcome_by bytes (document_of bytes)
 
--- the order or the form in a file that isn't a document; `None` if there is no such message, or it has a fault; the
--- first argument says whether the file is a message (an order or a form)
+-- The order or the form in a file that isn't a document. `None` if the file has a fault, or isn't a message. The first
+-- argument says whether the file is a message (an order or a form).
 abbrev pub message_without : Bool → List ℕ → Option KnownMessage
 message_without true bytes = message_of bytes
 message_without false bytes = None
 
--- the order or the form in a file; the second argument is the file's document, or the fault of a file that isn't a
--- document
+-- The order or the form in a file. The second argument is the file's document, or the fault of a file that isn't a
+-- document.
 abbrev pub message_by : List ℕ → Result Members SheetFault → Option KnownMessage
 message_by bytes (Ok document) = None
 message_by bytes (Err fault) = message_without (is_message bytes) bytes
 
--- the order or the form in a file; `None` if the file is no order and no form, or has a fault
+-- the order or the form in a file; `None` if the file has a fault, or isn't an order or a form
 abbrev pub file_message : List ℕ → Option KnownMessage
 file_message bytes = message_by bytes (document_of bytes)
 

@@ -279,7 +279,7 @@ abbrev pub short_text : Language → ℕ → Option ShortLine → List ℕ
 short_text l line (Some short) = short_words l line short
 short_text l line None = []
 
--- The words that say what to ask for if the count is wrong or damaged:
+-- If the count is wrong or damaged, the words that say what to ask for:
 -- - if a group is short: the count, and the first short group
 -- - if no group is short, and the count is damaged: the count
 -- - if no group is short, and the count is wrong: the count, or the part's lines if the other station says that the
@@ -289,7 +289,7 @@ count_asked l damage (Some group) = text_in l texts.ITS_COUNT ++ COMMA.now ++ gr
 count_asked l damages.HeadingDamaged None = text_in l texts.ITS_COUNT
 count_asked l _ None = text_in l texts.ITS_COUNT_OR_LINES
 
--- The words that say what to ask for if a part isn't read because its count is wrong. If a short line explains the
+-- If a part isn't read because its count is wrong, the words that say what to ask for. If a short line explains the
 -- wrong count, the words name the ten groups of this line. Otherwise, they are the words of `count_asked`.
 abbrev pub short_groups : Language → Option ℕ → Option ShortLine → List ℕ
 short_groups l group (Some short) = groups_words l (short.before / 5 + 1) (short.before / 5 + 10)
@@ -314,13 +314,13 @@ reason_text l part (damages.KeyLetterLost number) =
 reason_text l part damages.KeyNotOnWheel = text_in l texts.KEY_NOT_ON_WHEEL
 reason_text l part damages.NoInternalKey = text_in l texts.NO_INTERNAL_KEY
 
--- The words that say what to ask for if a letter of the ground setting or of the enciphered key is lost. The words name
--- both keys, and each group of the text with a lost letter or a wrong sign. `body` has the letters of the body; its
--- text begins with the second group.
+-- If a letter of the ground setting or of the enciphered key is lost, the words that say what to ask for. The words
+-- name both keys, and each group of the text with a lost letter or a wrong sign. `body` has the letters of the body;
+-- its text begins with the second group.
 abbrev pub keys_and_groups : Language → List (Option ℕ) → List ℕ
 keys_and_groups l body = text_in l texts.ITS_KEYS ++ lost_groups l COMMA.now false 2 (pieces 5 (drop 5 body))
 
--- the words that say what to ask for if a part isn't read
+-- for a part that isn't read, the words that say what to ask for
 abbrev pub asked_words : Language → DamagedPart → PartDamage → List ℕ
 asked_words l part damages.HeadingDamaged =
     if part.came == 0 then text_in l texts.ALL_OF_IT else text_in l texts.ITS_HEADING

@@ -10,7 +10,7 @@ use std::io;
 pub enum WhyUnread {
     /// There is no file with this name.
     NotThere,
-    /// The name is the name of a folder.
+    /// A folder has this name.
     Folder,
     /// The user isn't allowed to read the file.
     NotAllowed,

@@ -70,7 +70,7 @@ fn check_cables(
     Ok(())
 }
 
-/// Refuses the cable `text` if it has a letter twice, or a letter of an earlier cable.
+/// If the cable `text` has a letter twice, or a letter of an earlier cable, refuses this cable.
 ///
 /// `text` is the item at place `place` of `items`.
 fn check_new(wording: Wording, items: &[Value], place: usize, text: &str) -> Result<(), Slip>
@@ -87,7 +87,7 @@ fn check_new(wording: Wording, items: &[Value], place: usize, text: &str) -> Res
     Ok(())
 }
 
-/// Refuses the cable `text` if it has the same letter at both ends.
+/// If the cable `text` has the same letter at both ends, refuses this cable.
 fn check_twice_within(wording: Wording, text: &str) -> Result<(), Slip>
     ensures { IfErr result (HasFault LetterTwice None) }
 {

@@ -25,7 +25,7 @@ pub enum MachineRows {
 impl MachineRows {
     /// The rows of the table of `machine`. Typing on the table gives the machine's ciphertext.
     ///
-    /// Returns `NotReady` if a slot is empty, or a cable has exactly one letter.
+    /// If a slot is empty, or a cable has exactly one letter, returns `NotReady`.
     pub fn of(machine: &Machine) -> Result<MachineRows, NotReady>
         ensures ready { IsOk result ↔ IsReady machine.now }
         ensures key { IfOk result (λ rows. rows_key rows ≡ physical_key machine.now) }
