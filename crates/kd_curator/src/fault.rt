@@ -43,7 +43,7 @@ pub enum PageFault {
 }
 
 impl PageFault {
-    /// The refusal's number and name, and then the fault's values, such as a key, if the fault has values.
+    /// The refusal's number and name. If the fault has values, such as a key, these values follow.
     ///
     /// If notes or a report explain the fault, the text has words in `language` instead, without a number.
     pub fn text(&self, language: Language) -> RefusalText

@@ -12,7 +12,7 @@ pub trait NewFiles {
     /// A file that is being written.
     type Written: Sink + Drop;
 
-    /// The files, by their names. `None` if the files aren't known: the host's files aren't. Known files are in
+    /// The files, by their names. `None` if the files aren't known. The host's files aren't known. Known files are in
     /// memory, where no device fails.
     ///
     /// A file that is still being written counts as empty.
