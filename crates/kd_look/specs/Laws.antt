@@ -88,8 +88,8 @@ OrderFaultsAreThoseOfSend =
     → HasKeyLineForm s form → order_answer order form ≡ Err found → IsOrderAnswer s order answer
     → (answer ≡ Err found.fault) ⊎ IsRefusedByDay s order answer
 
--- If `look` finds no fault in an order, `send` makes a form of the order. It may instead refuse the order with a fault
--- that can be found only with the day.
+-- If `look` finds no fault in an order, `send` makes a form of the order. `send` may instead refuse the order with a
+-- fault that can be found only with the day.
 abbrev pub FaultlessOrdersAreSent : Type 0
 FaultlessOrdersAreSent =
     (s : Day) (form : KeyLine) (order : List ℕ) (start : ℕ) (answer : Result (List ℕ) FormFault)
@@ -154,8 +154,8 @@ FormFaultsAreThoseOfReceive =
     → form_answer form ≡ Err found → IsFormAnswer s form answer
     → (answer ≡ Err found.fault) ⊎ IsRefusedForLetters s form answer
 
--- If `look` finds no fault in a form, `receive` reads the form. It may instead refuse the form with a fault of a part's
--- letters.
+-- If `look` finds no fault in a form, `receive` reads the form. `receive` may instead refuse the form with a fault of
+-- a part's letters.
 abbrev pub FaultlessFormsAreReceived : Type 0
 FaultlessFormsAreReceived =
     (s : Day) (form : List ℕ) (first : FormHeading) (answer : Result (List ℕ) FormFault) → IsDayOfForm s form
