@@ -78,7 +78,7 @@ fn worded_text(language: Language, words: Text) -> RefusalText
 /// Why a command is refused: the first fault, in the order of testing.
 #[derive(Clone, Copy, Debug, PartialEq, Eq)]
 pub struct Refused {
-    /// If the command is for several days, and one of them can't be planned, this day. Otherwise `None`.
+    /// If the command is for several days, and is refused for one of them, this day. Otherwise `None`.
     pub day: Option<u8>,
     /// The file that the refusal is about, if there is one.
     pub blame: Option<Blame>,
