@@ -28,7 +28,7 @@ pub record IsLeftAlone (p : Port) : Type 0 where
 
 -- ---- On a table.
 
--- why no key sheet is made from a table, from the fault in the refusal; `None` if there is another reason
+-- If a fault of making a key sheet is the reason for the refusal, this fault. Otherwise `None`.
 abbrev pub noted_fault_for : PageFault → Option SpreadsheetFault
 noted_fault_for faults.FaultyTable = Some spreadsheets.Refused
 noted_fault_for (faults.File fault) = Some spreadsheets.NoMemory

@@ -32,8 +32,8 @@ unwritten_words l new_files.NoMemory =
 abbrev pub unwritten_line : Language → List ℕ → NewFileFault → List ℕ
 unwritten_line l name fault = unwritten_words l fault ++ (name ++ 10 ∷ [])
 
--- The command's output went to a new file, which was empty before. `written` is this file before and after the command.
--- `answer` is the command's answer. The bytes `left` are those that the file didn't take.
+-- The command's output went to a new file, which was empty before. `written` is this file before and after the
+-- command. `answer` is the command's answer. `left` has the bytes that the file didn't take.
 pub record IsRunToFile (l : Language) (words : List (List ℕ)) (known : Option (List ℕ → Option (List ℕ)))
     (asked : List AskedName) (before : Option FilesByName) (written errors : Port) (left : List ℕ)
     (answer : Result (Unit {0}) Stop) : Type 0 where
@@ -55,8 +55,8 @@ IsWhyUnwritten before name false failed fault = (failed ≡ true) × (fault ≡ 
 -- - `Discarded`: the command stopped before the whole output was written, and no write failed.
 -- - `Unwritten`: a write failed, or the file couldn't get its name, for the reason `fault`.
 --
--- In all cases but `Published`, the files are as before. The text on standard error is in the language of the command
--- line, which is `l` unless the words ask for another language.
+-- In all cases but `Published`, the files are as before. The text on standard error is in language `l`, unless the
+-- command line asks for another language.
 pub data EndsWithFile (l : Language) (words : List (List ℕ)) (known : Option (List ℕ → Option (List ℕ)))
     (asked : List AskedName) (before after : Option FilesByName) (name : List ℕ) (names : List (List ℕ)) (errors : Port)
     (status : ℕ) : Type 0 where
@@ -79,8 +79,7 @@ pub data EndsWithFile (l : Language) (words : List (List ℕ)) (known : Option (
       → after ≡ before → EndsWithLine (unwritten_line (chosen_language l words) name fault) 1 (at_last errors told failed) status
       → EndsWithFile l words known asked before after name names errors status
 
--- The output goes to the sink because the command line names no output file or means no command, or because memory ran
--- out.
+-- The command line names no output file, or means no command, or memory ran out. So the output goes to the sink.
 abbrev pub GoesToSink : List (List ℕ) → List AskedName → Result (Unit {0}) Stop → Type 0
 GoesToSink words asked answer = (output_of words ≡ None) ⊎ LacksCommand words asked answer
 

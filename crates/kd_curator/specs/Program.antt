@@ -56,8 +56,8 @@ DoesTask l (tasks.Page days) name machine sheet sink answer = IsAnswerOnSheet ma
 DoesTask l (tasks.List day) name machine sheet sink answer = IsAnswerOnSheet machine sheet
     (λ m month. WritesList month m day sink answer) answer
 
--- The output for sending or receiving a message is written, and `answer` is the command's answer. The message is for
--- the day `day`, which is `None` if the sheet doesn't have the day.
+-- A message is sent or received: the output goes to the sink, and `answer` is the command's answer. `day` is the
+-- message's day; `None` if the sheet doesn't have it.
 abbrev pub WritesMessage : Direction → Results → Language → Option Day → Parts → List ℕ → Port
     → Result (Unit {0}) Refused → Type 0
 WritesMessage Send results l day m order sink answer =
@@ -123,8 +123,8 @@ AnswersAfter false left first answer = answer ≡ first
 abbrev pub IsAnswerAfterFlush : List ℕ → Result (Unit {0}) Stop → Result (Unit {0}) Stop → Type 0
 IsAnswerAfterFlush left first answer = AnswersAfter (is_whole first) left first answer
 
--- `told` is a command's answer that satisfies `Does`. `answer` is the program's answer after this command. The bytes
--- `left` are those that the sink didn't take.
+-- `told` is a command's answer that satisfies `Does`. `answer` is the program's answer after this command. `left` has
+-- the bytes that the sink didn't take.
 pub record IsTold (Does : Result (Unit {0}) Refused → Type 0) (left : List ℕ) (answer : Result (Unit {0}) Stop)
     : Type 0 where
   pub told : Result (Unit {0}) Refused
@@ -215,9 +215,9 @@ AreNamesFor words names answer =
 abbrev pub LacksCommand : List (List ℕ) → List AskedName → Result (Unit {0}) Stop → Type 0
 LacksCommand words asked answer = (asked ≡ []) × (IsNoCommandLine words ⊎ (answer ≡ Err memory_stop))
 
--- `language` is the language of the program's answer on standard error, on a computer with the language `l`. Either the
--- words mean a command, and the language is that of the command line. Or no command is known, and the language is the
--- one that the first option `--in` names, otherwise `l`.
+-- `language` is the language of the program's answer on standard error, on a computer with the language `l`. Either
+-- the words mean a command, and `language` is the command line's language. Or no command is known, and `language` is
+-- the language that the first option `--in` names, otherwise `l`.
 abbrev pub IsLanguageFor : Language → List (List ℕ) → List AskedName → Result (Unit {0}) Stop → Language → Type 0
 IsLanguageFor l words asked answer language =
     ((command : NamedCommand) × IsCommandLineOf words command × (language ≡ chosen_language l words))

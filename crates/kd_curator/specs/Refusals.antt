@@ -70,13 +70,13 @@ order_blame place forms.NotReady = blame_on 0 MachineFile
 order_blame place forms.NotOnKey = blame_on 0 MachineFile
 order_blame place _ = blame_on place Order
 
--- The refusal for a fault of the order at place `place` among the command's files, or of the machine that enciphers the
--- order.
+-- The refusal for a fault of an order, or of the machine that enciphers the order. The order is at place `place` among
+-- the command's files.
 abbrev pub refused_order : ℕ → FormFault → Refused
 refused_order place fault = record { day = None; blame = order_blame place fault; fault = faults.Message fault }
 
--- the refusal for a fault of an order that is the command's third file, or of the machine that enciphers or deciphers a
--- message
+-- The refusal for a fault of an order, or of the machine that enciphers or deciphers a message. The order is the
+-- command's third file.
 abbrev pub refused_message : FormFault → Refused
 refused_message fault = refused_order 2 fault
 

@@ -10,8 +10,8 @@ use Rattle.kd_curator.specs.Refusals.{refused_device}
 use Rattle.kd_curator.specs.declared.fault.Refused.{Refused}
 
 -- One of these cases holds:
--- - The tables of the sheet's month were written, as `form` says and in language `l`. If the sink failed, only a prefix
--- was written.
+-- - The tables of the sheet's month were written in the form `form`, in language `l`. If the sink failed, only a
+--   prefix was written.
 -- - The answer is the refusal for the sheet's first fault.
 -- - The answer is that memory ran out.
 abbrev pub WritesTables : Language → TableForm → List ℕ → Port → Result (Unit {0}) Refused → Type 0

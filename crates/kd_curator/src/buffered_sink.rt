@@ -29,7 +29,7 @@ impl<W: Sink + Drop> BufferedSink<W> {
         }
     }
 
-    /// Returns the sink for which bytes are gathered. Gathered bytes that weren't passed on to that sink are lost.
+    /// Returns the other sink. Bytes that are still gathered are lost.
     pub(crate) fn into_sink(self) -> W
         ensures { result ≡ self.sink }
     {
@@ -37,8 +37,8 @@ impl<W: Sink + Drop> BufferedSink<W> {
         sink
     }
 
-    /// Passes all gathered bytes on to the sink for which they are gathered. If that sink fails, the bytes that it
-    /// didn't take stay gathered.
+    /// Passes all gathered bytes on to the other sink. If that sink fails, the bytes that it didn't take stay
+    /// gathered.
     pub(crate) fn flush(&mut self) -> Result<(), Failed>
         ensures kept { Keeps (append_known (W.taken self.old.sink) self.old.gathered.items)
             (append_known (W.taken self.new.sink) self.new.gathered.items) }

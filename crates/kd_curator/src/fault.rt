@@ -43,7 +43,7 @@ pub enum PageFault {
 }
 
 impl PageFault {
-    /// The refusal's number and name, and then the fault's values, such as a key, if the fault has values.
+    /// The refusal's number and name. If the fault has values, such as a key, these values follow.
     ///
     /// If notes or a report explain the fault, the text has words in `language` instead, without a number.
     pub fn text(&self, language: Language) -> RefusalText
@@ -78,7 +78,7 @@ fn worded_text(language: Language, words: Text) -> RefusalText
 /// Why a command is refused: the first fault, in the order of testing.
 #[derive(Clone, Copy, Debug, PartialEq, Eq)]
 pub struct Refused {
-    /// The day that has the fault, if the command is for several days.
+    /// If the command is for several days, and is refused for one of them, this day. Otherwise `None`.
     pub day: Option<u8>,
     /// The file that the refusal is about, if there is one.
     pub blame: Option<Blame>,
@@ -108,8 +108,8 @@ impl Refused {
         }
     }
 
-    /// The refusal for a fault of the order at place `place` among the command's files, or of the machine that
-    /// enciphers the order.
+    /// The refusal for a fault of an order, or of the machine that enciphers the order. The order is at place `place`
+    /// among the command's files.
     pub(crate) fn of_order(place: usize, fault: FormFault) -> Refused
         ensures { result ≡ refused_order place fault }
     {
@@ -120,8 +120,8 @@ impl Refused {
         }
     }
 
-    /// The refusal for a fault of an order that is the command's third file, or of the machine that enciphers or
-    /// deciphers a message.
+    /// The refusal for a fault of an order, or of the machine that enciphers or deciphers a message. The order is the
+    /// command's third file.
     pub(crate) fn of_message(fault: FormFault) -> Refused
         ensures { result ≡ refused_message fault }
     {

@@ -70,7 +70,7 @@ fn push_files<'f>(
     push_files(files, names, contents)
 }
 
-/// The answer of the command `look`, if `look_at` returned `told`.
+/// Turns `told`, the answer of `look_at`, into the answer of the command `look`.
 fn answer_of(told: Result<Outcome, WriteFault<AllocError>>) -> Result<(), Refused>
     ensures { result ≡ look_answer told }
 {

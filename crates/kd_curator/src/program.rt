@@ -160,7 +160,7 @@ fn run_to_file<'n, F: Files<'n>, N: NewFiles, E: Sink>(
     }
 }
 
-/// Publishes the new file `file` as `name`, if `answer` says that the whole output was written.
+/// If `answer` says that the whole output was written, publishes the new file `file` as `name`.
 ///
 /// Otherwise removes the file, which was begun under the name `other`. In this case, returns `Device` exactly if a
 /// write to the file failed.
@@ -391,8 +391,8 @@ fn show<W: Sink>(text: &str, sink: &mut W) -> Result<(), Refused>
     Ok(())
 }
 
-/// Passes the gathered bytes on to the sink, if `done` says that the whole output was written. If the sink doesn't take
-/// all bytes, the answer is `Device`.
+/// If `done` says that the whole output was written, passes the gathered bytes on to the sink. If the sink doesn't
+/// take all bytes, the answer is `Device`.
 fn pass_rest_on<W: Sink + Drop>(
     done: Result<(), Stop>,
     sink: &mut BufferedSink<W>,

@@ -37,7 +37,7 @@ pub fn run_list<W: Sink>(
     write_list(&machine, &sheet, number, sink)
 }
 
-/// Does what `run_list` does, for a machine and a sheet that are already read. Allocates no memory.
+/// Like `run_list`, but with a machine and a sheet in place of files. Allocates no memory.
 pub fn write_list<W: Sink>(
     machine: &Machine,
     sheet: &Sheet,

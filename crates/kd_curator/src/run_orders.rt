@@ -46,8 +46,7 @@ pub fn run_orders<W: Sink>(
     write_orders(alloc, options, &machine, day, orders, sink)
 }
 
-/// Does what `run_orders` does, for a machine and a day that are already read. `day` is `None` if the sheet lacks the
-/// day.
+/// Like `run_orders`, but with a machine and a day in place of files. `day` is `None` if the sheet lacks the day.
 fn write_orders<W: Sink>(
     alloc: Global,
     options: PageOptions,

@@ -48,7 +48,7 @@ pub fn run_page<W: Sink>(
     write_days(language, sheet.name, &machine, &month, &days, sink)
 }
 
-/// Does what `run_page` does, for a machine and a sheet that are already read. Allocates no memory.
+/// Like `run_page`, but with a machine and a sheet in place of files. Allocates no memory.
 pub fn write_days<W: Sink>(
     language: Language,
     name: &str,

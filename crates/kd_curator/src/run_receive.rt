@@ -48,8 +48,7 @@ pub fn run_receive<W: Sink, E: Sink>(
     write_form(alloc, options, &machine, day, form, sink, errors)
 }
 
-/// Does what `run_receive` does, for a machine and a day that are already read. `day` is `None` if the sheet lacks the
-/// day.
+/// Like `run_receive`, but with a machine and a day in place of files. `day` is `None` if the sheet lacks the day.
 fn write_form<W: Sink, E: Sink>(
     alloc: Global,
     options: PageOptions,

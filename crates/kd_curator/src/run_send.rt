@@ -38,8 +38,7 @@ pub fn run_send<W: Sink>(
     write_order(alloc, options, &machine, day, order, sink)
 }
 
-/// Does what `run_send` does, for a machine and a day that are already read. `day` is `None` if the sheet lacks the
-/// day.
+/// Like `run_send`, but with a machine and a day in place of files. `day` is `None` if the sheet lacks the day.
 fn write_order<W: Sink>(
     alloc: Global,
     options: PageOptions,

@@ -34,7 +34,7 @@ pub fn run_type<W: Sink>(
     write_typing_page(language, &machine, sink)
 }
 
-/// Does what `run_type` does, for a machine that is already read. Allocates no memory.
+/// Like `run_type`, but with a machine in place of a file. Allocates no memory.
 pub fn write_typing_page<W: Sink>(
     language: Language,
     machine: &Machine,

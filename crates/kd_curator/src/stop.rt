@@ -31,7 +31,7 @@ pub enum Stop {
     Refused(Refused),
 }
 
-/// Writes the text for `answer` to `errors`, if `answer` has a `Stop`. Returns the exit status.
+/// If `answer` has a `Stop`, writes its text to `errors`. Returns the exit status.
 ///
 /// A refusal's line is in `language`. If the refusal is about a file, the line ends with the file's name. `names` are
 /// the names of the command's files. The exit status is the same even if the text can't be written.
@@ -84,7 +84,7 @@ fn refusal_text(language: Language, refused: Refused) -> DayText
     text
 }
 
-/// Appends the words for the day, if there is one.
+/// If there is a day, appends the words for it.
 fn push_day(text: &mut DayText, language: Language, day: Option<u8>)
     requires { array_string_len text.old ≤ 1 }
     ensures bytes { text.new.bytes ≡ text.old.bytes ++ day_prefix language day }

@@ -11,7 +11,7 @@ use kd_printed_sheet::{TableForm, write_tables};
 use kd_tables::Sink;
 use std::alloc::Global;
 
-/// Writes the tables of the key sheet `sheet` as `form` says: as a page in `language`, or as a CSV table.
+/// Writes the tables of the key sheet `sheet` in the form `form`: a page in `language`, or a CSV table.
 ///
 /// For a fault of the sheet, nothing is written. For `Device`, only a prefix of the tables is written.
 pub(crate) fn run_table<W: Sink>(

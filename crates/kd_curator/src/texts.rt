@@ -62,8 +62,8 @@ pub const NOT_ALLOWED: Text = (": you may not read ", ": kein Leserecht für ");
 
 pub const UNREADABLE: Text = (": can't read ", ": nicht zu lesen: ");
 
-/// Why there is no output file: there is a file of this name. The word `REFUSED` stands before this text, and the
-/// file's name after it.
+/// Why no output file was made: there already is a file with its name. The word `REFUSED` stands before this text, and
+/// the file's name after it.
 pub const TAKEN: Text = (
     "because there is already a file ",
     "es gibt schon eine Datei ",
@@ -72,7 +72,7 @@ pub const TAKEN: Text = (
 /// Stands between a refusal's number and name, and the name of the output file.
 pub const UNWRITTEN: Text = (": can't write ", ": nicht zu schreiben: ");
 
-/// The line if the words of the command line can't be read as text.
+/// The error line for a command line with a word that isn't UTF-8.
 pub const NOT_UTF8: Text = (
     "error: a word of the command line isn't UTF-8\n",
     "Fehler: ein Wort der Befehlszeile ist kein UTF-8\n",

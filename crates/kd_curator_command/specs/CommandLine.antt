@@ -191,12 +191,12 @@ abbrev pub HasArguments : List Row → Task → Type 0
 HasArguments rows (tasks.Page days) = HasDays rows days
 HasArguments rows (tasks.List day) = HasDay rows day
 
--- `said`, a command's name with its arguments, asks for the task `task`: for pages, or for a list.
+-- `said` is a command's name with its arguments. It asks for the task `task`: for pages, or for a list.
 pub record IsTaskOf (said : List ℕ × List Row) (task : Task) : Type 0 where
   pub name : said.0 ≡ task_name task
   pub arguments : HasArguments said.1 task
 
--- `said`, a command's name with its arguments, asks for the task `its_task`. The files are `machine_file` and
+-- `said` is a command's name with its arguments. It asks for the task `its_task`. The files are `machine_file` and
 -- `key_sheet`.
 pub record IsTaskWith (said : List ℕ × List Row) (machine_file key_sheet : List ℕ) (its_task : Task) : Type 0 where
   pub machine : first_of (codes "MACHINE") said.1 ≡ Some machine_file
@@ -223,8 +223,8 @@ abbrev pub HasMessage : List Row → Direction → List ℕ → Type 0
 HasMessage rows Send order = all_of (codes "ORDER") rows ≡ Some (order ∷ [])
 HasMessage rows Receive form = first_of (codes "FORM") rows ≡ Some form
 
--- `said`, a command's name with its arguments, is `send` with one order, or `receive` with a form. The task is
--- `its_task`. The files are `machine_file`, `key_sheet` and `its_message`.
+-- `said` names the command `send` and one order, or `receive` and a form. The task is `its_task`. The files are
+-- `machine_file`, `key_sheet` and `its_message`.
 pub record IsMessageOf (said : List ℕ × List Row) (machine_file key_sheet its_message : List ℕ) (its_task : MessageTask)
     : Type 0 where
   pub name : said.0 ≡ direction_name its_task.direction
@@ -241,8 +241,8 @@ pub record IsMessageTask (rows : List Row) (direction : Direction) (task : Messa
   pub day : HasDay rows task.day
   pub results : HasResults rows task.results
 
--- `said`, a command's name with its arguments, is `send` with 2 to 32 orders. The task is `its_task`. The files are
--- `machine_file`, `key_sheet` and `its_orders`.
+-- `said` names the command `send` and 2 to 32 orders. The task is `its_task`. The files are `machine_file`,
+-- `key_sheet` and `its_orders`.
 pub record IsOrdersOf (said : List ℕ × List Row) (machine_file key_sheet : List ℕ) (its_orders : List (List ℕ))
     (its_task : MessageTask) : Type 0 where
   pub name : said.0 ≡ codes "send"
@@ -253,13 +253,12 @@ pub record IsOrdersOf (said : List ℕ × List Row) (machine_file key_sheet : Li
   pub few : length its_orders ≤ 32
   pub task : IsMessageTask said.1 Send its_task
 
--- `said`, a command's name with its arguments, is `type` with the machine file `machine_file`.
+-- `said` names the command `type` and the machine file `machine_file`.
 pub record IsTypingPageOf (said : List ℕ × List Row) (machine_file : List ℕ) : Type 0 where
   pub name : said.0 ≡ codes "type"
   pub machine : first_of (codes "MACHINE") said.1 ≡ Some machine_file
 
--- `said`, a command's name with its arguments, is `table` with the key sheet `key_sheet`. The tables have the form
--- `its_form`.
+-- `said` names the command `table` and the key sheet `key_sheet`. The tables have the form `its_form`.
 pub record IsTableOf (said : List ℕ × List Row) (key_sheet : List ℕ) (its_form : TableForm) : Type 0 where
   pub name : said.0 ≡ codes "table"
   pub sheet : first_of (codes "SHEET") said.1 ≡ Some key_sheet
@@ -282,8 +281,7 @@ abbrev pub are_blank : OptionTexts → Bool
 are_blank options =
     (length options.model == 0) && (length options.reflector == 0) && (length options.window == 0)
 
--- `said`, a command's name with its arguments, is `sheet` without `--empty`. The table is `its_table`, and the options
--- are `its_options`.
+-- `said` names the command `sheet`, without `--empty`. The table is `its_table`, and the options are `its_options`.
 pub record IsSheetOf (said : List ℕ × List Row) (its_table : List ℕ) (its_options : OptionTexts) : Type 0 where
   pub name : said.0 ≡ codes "sheet"
   pub filled : first_of (codes "empty") said.1 ≡ None
@@ -296,8 +294,8 @@ pub record IsMonthNamed (model_word days_word : List ℕ) (model : Model) (days 
   pub numbered : decimal days ≡ days_word
   pub within : IsDayNumber days
 
--- `said`, a command's name with its arguments, is `sheet --empty` for `model` and a month of `days` days. The options
--- `--model`, `--reflector` and `--window` aren't used, or are empty.
+-- `said` names the command `sheet --empty`, for `model` and a month of `days` days. The options `--model`,
+-- `--reflector` and `--window` aren't used, or are empty.
 pub record IsEmptySheetOf (said : List ℕ × List Row) (model : Model) (days : ℕ) : Type 0 where
   pub name : said.0 ≡ codes "sheet"
   pub model_word : List ℕ
@@ -311,13 +309,13 @@ pub record IsEmptySheetOf (said : List ℕ × List Row) (model : Model) (days : 
 abbrev pub files_said : List Row → List (List ℕ)
 files_said rows = filter_map (λ name. first_of name rows) (codes "FILE" ∷ codes "FILE2" ∷ codes "FILE3" ∷ [])
 
--- `said`, a command's name with its arguments, is `look` with the files `its_files`. The argument FILE is given.
+-- `said` names the command `look` and the files `its_files`. The argument FILE is given.
 pub record IsLookOf (said : List ℕ × List Row) (its_files : List (List ℕ)) : Type 0 where
   pub name : said.0 ≡ codes "look"
   pub first : IsSome (first_of (codes "FILE") said.1)
   pub files : its_files ≡ files_said said.1
 
--- `said`, a command's name with its arguments, means the command.
+-- `said` is a command's name with its arguments. It means the command.
 abbrev pub IsCommandOf : List ℕ × List Row → NamedCommand → Type 0
 IsCommandOf said (commands.OnMachine machine sheet task) = IsTaskWith said machine sheet task
 IsCommandOf said (commands.Message machine sheet message task) = IsMessageOf said machine sheet message task
@@ -328,7 +326,7 @@ IsCommandOf said (commands.Sheet table options) = IsSheetOf said table options
 IsCommandOf said (commands.Look files) = IsLookOf said files.items
 IsCommandOf said (commands.EmptySheet model days) = IsEmptySheetOf said model days
 
--- `said` isn't `None`: it has a command's name with its arguments, and they mean `command`.
+-- `said` isn't `None`: it has a command's name and arguments that mean `command`.
 abbrev pub IsMeant : Option (List ℕ × List Row) → NamedCommand → Type 0
 IsMeant said command = IsSomeAnd said (λ x. IsCommandOf x command)
 
@@ -384,7 +382,7 @@ AsksForHelp words = (kind : ErrorKind) × (fault_of curator_grammar words ≡ ki
 
 -- Why there is no command:
 -- - `Asked`: a word asks for help or for the version.
--- - `Usage`: the words neither mean a command nor only ask for help or for the version.
+-- - `Usage`: the words don't mean a command, and don't only ask for help or for the version.
 -- - `NoMemory`: memory ran out.
 abbrev pub HasNoCommand : List (List ℕ) → NoCommand → Type 0
 HasNoCommand words (Asked text) =

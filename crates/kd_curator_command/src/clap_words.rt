@@ -109,8 +109,8 @@ fn push_sentences(german: &mut String, text: &str) -> Result<(), AllocError> {
     german.push_str(rest)
 }
 
-/// Appends `text` up to the end of `sentence`, which stands in `text` in English, and translates the sentence into
-/// German. Returns the text after the sentence. If `text` lacks the sentence's beginning, appends nothing, and returns
+/// Finds the English sentence of `sentence` in `text`. Appends `text` up to the sentence's end, with the sentence in
+/// German, and returns the rest of `text`. If `text` lacks the sentence's beginning, appends nothing, and returns
 /// `text`.
 fn push_sentence<'t>(
     german: &mut String,

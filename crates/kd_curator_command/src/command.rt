@@ -222,7 +222,7 @@ fn meant_line<'a>(matches: &ArgMatches<'a>) -> Option<CommandLine<'a>>
     })
 }
 
-/// The value of the argument `name`, if it is given.
+/// The value of the argument `name`. `None` if the argument isn't given.
 fn value_said<'a>(matches: &ArgMatches<'a>, name: &str) -> Option<&'a str>
     ensures { option_map (λ value. value.now) result
         ≡ value_said name.now (subcommand_rows_of matches.now) }
@@ -246,7 +246,7 @@ fn language_said(matches: &ArgMatches<'_>) -> Result<Option<Language>, WrongValu
     }
 }
 
-/// Says, as the text of an error, why words don't mean a command, though `clap` accepts them.
+/// The error text for words that `clap` accepts, but that don't mean a command. It says why.
 fn why_not(matches: &ArgMatches<'_>) -> Text {
     if language_said(matches).is_err() {
         return NO_LANGUAGE;
@@ -270,7 +270,7 @@ fn no_days(wording: Wording, grammar: &mut Grammar<'_>, why: Text) -> NoCommand
     }
 }
 
-/// The hint to type a model's name in quotes, if the word `I` comes directly after the word `Enigma`. Otherwise, an
+/// If the word `I` comes directly after the word `Enigma`, the hint to type a model's name in quotes. Otherwise, an
 /// empty text.
 fn quotes_hint<S: AsStr>(words: &[S]) -> Text {
     let mut is_begun = false;
@@ -369,7 +369,7 @@ fn send_of<'a>(words: &ArgMatches<'a>) -> Option<NamedCommand<'a>>
     }
 }
 
-/// The name in `names`, if there is only one.
+/// The only name in `names`. `None` if there isn't exactly one.
 fn only_name<'a>(names: &[&'a str]) -> Option<&'a str>
     ensures said { IfSome result (λ name. unborrowed_names names.now ≡ name.now ∷ []) }
     ensures none { result ≡ None → length names.now ≢ 1 }
@@ -380,7 +380,7 @@ fn only_name<'a>(names: &[&'a str]) -> Option<&'a str>
     }
 }
 
-/// A copy of `names`, if there are 2 to 32 of them.
+/// A copy of `names`. `None` if there aren't 2 to 32 names.
 fn several_names<'a>(names: &[&'a str]) -> Option<ArrayVec<&'a str, 32>>
     ensures said { IfSome result (λ listed. listed.items ≡ names.now) }
     ensures many { IfSome result (λ listed. 2 ≤ length names.now) }
@@ -506,7 +506,7 @@ fn look_of<'a>(words: &ArgMatches<'a>) -> Option<NamedCommand<'a>>
     Some(Command::Look { files })
 }
 
-/// Appends the value of the argument `name` to `files`, if the argument is given.
+/// If the argument `name` is given, appends its value to `files`.
 fn push_file<'a>(files: &mut ArrayVec<&'a str, 3>, words: &ArgMatches<'a>, name: &str)
     requires { array_vec_len files.old < 3 }
     ensures items { unborrowed_names files.new.items ≡ unborrowed_names files.old.items

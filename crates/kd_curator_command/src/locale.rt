@@ -1,4 +1,4 @@
-//! The language of the program's words: as it is set on a computer, or as the option `--in` asks.
+//! The language of the program's words: the computer's language, or the language that the option `--in` asks for.
 ghost use Rattle.std.specs.Prelude.{◌≡◌, None, Some, codes, drop, if◌then◌else◌, map, nat_eq, option_map};
 ghost use Rattle.std.specs.List.{starts_with};
 ghost use Rattle.kd_curator_command.specs.Locale.{language_of, language_value, language_with_code};
@@ -46,7 +46,8 @@ pub fn language_without_command<S: AsStr>(language: Language, words: &[S]) -> La
     }
 }
 
-/// The value of the first option `--in` in `words`; `None` if there is none before a word `--`.
+/// The value of the first option `--in` in `words`. After a word `--`, no word is an option. `None` if there is no
+/// value.
 fn language_value<'a, S: AsStr>(words: &'a [S]) -> Option<&'a str>
     ensures { option_map (λ value. value.now) result ≡ language_value (map S.text words.now) }
 {

@@ -94,7 +94,7 @@ first_fault faults = option_map (λ fault. fault.1) (slice_get faults 0)
 
 -- ---- What inner functions answer. No public contract cites this definition.
 
--- the number of the wrong list item, if `checked` has the fault `fault` and an item's number; otherwise `None`
+-- the number of the wrong list item, from `checked`; `None` if `checked` has no such number, or not the fault `fault`
 abbrev pub told_item : SheetFault → Result (Unit {0}) Slip → Option ℕ
 told_item fault (Err (slips.Fault found item words)) = if (fault_eq.ghosts).eq found fault then item else None
 told_item fault checked = None

@@ -37,8 +37,8 @@ pub record NamesPlace (l : Language) (text : List ℕ) (start : ℕ) (words : Li
   pub plain : IsInOneLine reason
   pub whole : words ≡ place_words l (line_at text start) (column_at text start) reason
 
--- `words` give a line and a column of `text`, and then a reason in one line. The line and the column are those of a
--- byte, or of the text's end.
+-- `words` give a line and a column of `text`, and then a reason in one line. A byte of `text` stands at this line and
+-- column, or `text` ends there.
 pub record SaysNotToml (l : Language) (text words : List ℕ) : Type 0 where
   pub start : ℕ
   pub within : start ≤ length text

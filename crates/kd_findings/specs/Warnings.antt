@@ -42,7 +42,7 @@ pub record TellsUnread (l : Language) (name : List ℕ) (key : UnreadKey) (text 
 abbrev pub is_capital : ℕ → Bool
 is_capital byte = nat_le 65 byte && nat_le byte 90
 
--- the warning about a cable; empty unless the cable has two capital letters in falling order
+-- the warning about a cable of two capital letters in falling order, such as `BA`; empty for any other cable
 unfoldable pub order_line : Language → List ℕ → List ℕ → List ℕ
 order_line l name (one ∷ other ∷ []) =
     if is_capital one && is_capital other && nat_lt other one

@@ -26,8 +26,8 @@ pub struct Explanation {
     pub words: String,
 }
 
-/// Appends the fault of the value at `place`, if there is one. `checked` is the result of a check of this value. It has
-/// the words that explain the fault.
+/// If the value at `place` has a fault, appends this fault. `checked`, the result of a check of this value, has the
+/// words that explain the fault.
 pub fn note(
     list: &mut Vec<Finding>,
     wording: Wording,

@@ -94,7 +94,7 @@ fn has_model(version: Option<u8>, model: Model) -> bool
     }
 }
 
-/// Appends the faults at the keys of a rotor machine's file, except `version` and `model`.
+/// Appends the faults of a rotor machine's file, but no faults at the keys `version` and `model`.
 fn judge_rotors(
     list: &mut Vec<Finding>,
     wording: Wording,
@@ -130,7 +130,7 @@ fn judge_rotors(
     )
 }
 
-/// Appends the fault at `key`, if there is one. The value of `key` must have a letter for each wheel of the box.
+/// If the value of `key` has a fault, appends this fault. The value must have a letter for each wheel of the box.
 fn judge_box_letters(
     list: &mut Vec<Finding>,
     wording: Wording,
@@ -147,7 +147,7 @@ fn judge_box_letters(
     note(list, wording, KeyPlace::in_file(key), fault, checked)
 }
 
-/// Appends the faults at the keys of a Converter's file, except `version` and `model`.
+/// Appends the faults of a Converter's file, but no faults at the keys `version` and `model`.
 #[tactic(auto, using(std::proofs::Common::append_assoc), unfolding(crate::specs::Faults::pin_file_faults))]
 fn judge_converter(
     list: &mut Vec<Finding>,

@@ -202,7 +202,7 @@ fn judge_model(
     }
 }
 
-/// Appends the faults at the keys of an entry for a rotor machine, except `day` and `model`.
+/// Appends the faults of an entry for a rotor machine, but no faults at the keys `day` and `model`.
 fn judge_rotors(
     list: &mut Vec<Finding>,
     wording: Wording,
@@ -249,7 +249,7 @@ fn judge_rotors(
     )
 }
 
-/// Appends the faults at the keys of an entry for a Converter, except `day` and `model`.
+/// Appends the faults of an entry for a Converter, but no faults at the keys `day` and `model`.
 fn judge_converter(
     list: &mut Vec<Finding>,
     wording: Wording,
@@ -289,7 +289,7 @@ fn check_model(wording: Wording, table: &Table) -> Result<(), Slip> {
     Ok(())
 }
 
-/// Says why an item of the array `day` that isn't a table is refused.
+/// Says why `item`, an item of the array `day`, is refused: it isn't a table.
 fn refuse_entry(wording: Wording, item: &Value) -> Result<(), Slip> {
     refuse(
         SheetFault::BadValue(Key::Day),

@@ -186,7 +186,7 @@ fn push_entries<'t>(list: &mut Vec<Unread<'t>>, items: &'t [Value]) -> Result<()
     Ok(())
 }
 
-/// Appends the unread keys of the entry number `entry`, if this entry is a table.
+/// If entry number `entry` is a table, appends its unread keys.
 #[tactic(auto, unfolding(crate::specs::Unread::unread_in_entry))]
 fn push_entry_keys<'t>(
     list: &mut Vec<Unread<'t>>,

@@ -134,7 +134,8 @@ fn push_orders(
     }
 }
 
-/// Appends a warning about each cable in the array `cables` with letters in falling order, such as `BA`.
+/// Appends a warning about each cable whose letters are in falling order, such as `BA`. The cables are in the array
+/// `cables`.
 #[tactic(auto, unfolding(crate::specs::Warnings::cable_lines))]
 fn push_file_cables(
     lines: &mut String,
@@ -151,7 +152,7 @@ fn push_file_cables(
     }
 }
 
-/// Appends a warning about each cable in `items` with two capital letters in falling order, such as `BA`.
+/// Appends a warning about each cable in `items` that has two capital letters in falling order, such as `BA`.
 fn push_cables(
     lines: &mut String,
     wording: Wording,
@@ -167,7 +168,7 @@ fn push_cables(
     Ok(())
 }
 
-/// Appends a warning if the cable `item` is a text of two capital letters in falling order, such as `BA`.
+/// If the cable `item` is a text of two capital letters in falling order, such as `BA`, appends a warning.
 fn push_cable(
     lines: &mut String,
     wording: Wording,
@@ -183,7 +184,7 @@ fn push_cable(
     }
 }
 
-/// Appends a warning if `cable` has two capital letters in falling order, such as `BA`. The desk writes `AB`.
+/// If `cable` has two capital letters in falling order, such as `BA`, appends a warning. The desk writes `AB`.
 #[tactic(auto, using(std::proofs::Common::append_assoc), unfolding(crate::specs::Warnings::order_line))]
 fn push_order(
     lines: &mut String,

@@ -40,8 +40,8 @@ pub record IsLineAt (l : Language) (name : List ℕ) (place : KeyPlace) (line : 
   pub plain : IsInOneLine wrong
   pub whole : text ≡ fault_line l name place line wrong fault
 
--- `text` is the report's line about `fault` at `place` in the file `name`. `text` gives the number of the file's line
--- in which the fault stands, if this line can be found in `bytes`, the file's content.
+-- `text` is the report's line about `fault` at `place` in the file `name`. `bytes` is the file's content. If the
+-- fault's line can be found in `bytes`, `text` gives this line's number.
 abbrev pub IsFaultLine : Language → List ℕ → List ℕ → KeyPlace → SheetFault → List ℕ → Type 0
 IsFaultLine l name bytes place fault text = IsLineAt l name place (line_of_fault bytes place fault) fault text
 

@@ -1,6 +1,7 @@
 -- How a form is tested before its letters are deciphered: its headings, its bytes, and its numbers of letters and
--- parts. Of several faults, the result is the first one in the order of the tests of `desk receive`. Faults that show
--- only with the day, the machine or the indicators are left out. Indexes are counted from 0, and parts from 1.
+-- parts. Of several faults, the result is the first one in the order of the tests of `desk receive`. Faults that can
+-- be found only with the day, the machine or the indicators are left out. Indexes are counted from 0, and parts from
+-- 1.
 -- Test: tests/cases/curator-look.toml
 use Rattle.std.specs.Prelude.{codes, ℕ, suc, zero, ◌+◌, ◌-◌, ◌==◌, ◌&&◌, nat_le, not, Bool, false, List}
 use Rattle.std.specs.Prelude.{Option, Some, None, Result, Ok, Err, count_by, find, is_ok, length, option_map}
@@ -45,7 +46,7 @@ abbrev pub body_end : List ℕ → ℕ → ℕ
 body_end text body = option_map_or (λ index. index + 1)
     (find (heading_follows text) (range_with_len (body - 1) (length text - (body - 1)))) (length text)
 
--- success if all bytes from `body` to `end` may stand in a body; otherwise the fault of the first that may not
+-- success if all bytes from `body` to `end` may stand in a body; otherwise the fault of the first byte that may not
 abbrev pub body_signs : List ℕ → ℕ → ℕ → Result (Unit {0}) MessageFault
 body_signs text body end = option_map_or
     (λ place. Err (record { index = body + place; fault = BadByte (body + place + 1); reason = reasons.BodySign }))

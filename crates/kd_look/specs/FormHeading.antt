@@ -41,7 +41,7 @@ heading_keys text index = if fits_at text 32 index
     && fits_at text 95 (index + 4)) then lines.FourSlots else lines.ThreeSlots)
     else lines.Converter
 
--- the pattern of what follows the number of letters in a heading line
+-- The pattern for the end of a heading line, after the number of letters.
 abbrev pub keys_pattern : KeyLine → List ℕ
 keys_pattern lines.ThreeSlots = codes " ___ ___"
 keys_pattern lines.FourSlots = codes " ____ ____"

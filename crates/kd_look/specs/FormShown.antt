@@ -12,7 +12,7 @@ use Rattle.kd_form.specs.PartReading.{IsContentAnswer, PartStart}
 use Rattle.kd_form.specs.Sending.{letters_from}
 
 -- The result of reading a part without deciphering its letters: the number of parts that the heading gives, or the
--- part's first fault. The part starts at `p`. `IsPartAnswer` is the same with deciphering.
+-- part's first fault. The part starts at `p`. `IsPartAnswer` is the definition with deciphering.
 abbrev pub IsShownPartAnswer : Day → PartStart → List ℕ → AnswerRule FormFault ℕ
 IsShownPartAnswer s p part = do
   content ← IsContentAnswer s p part

@@ -1,5 +1,5 @@
--- The lines that say which days of key sheets have the groups of orders and forms. Only days for a machine that the
--- message can be for are named.
+-- The lines that say which days of key sheets have the groups of orders and forms. A day is named only if the message
+-- can be for the day's machine.
 -- Test: tests/cases/curator-look.toml
 use Rattle.std.specs.Prelude.{ℕ, ◌==◌, ◌++◌, ◌&&◌, Bool, false, List, [], ◌∷◌, count_by, decimal, Option, Some, None}
 use Rattle.std.specs.List.{enumerate_from, filter, flat_map, list_all, list_any, range_with_len}
@@ -29,13 +29,13 @@ pub record GroupSearch : Type 0 where
   pub sheet : List ℕ
   pub month : List (Option Day)
 
--- the number of slots of a machine, known from how its keys are written; a Converter has no slots
+-- the number of slots of a machine, from the form of its lines of keys; a Converter has no slots
 abbrev pub key_slots : KeyLine → ℕ
 key_slots lines.ThreeSlots = 3
 key_slots lines.FourSlots = 4
 key_slots lines.Converter = 0
 
--- whether a message can be for the model, if the message's keys are written as `keys`
+-- whether a message can be for the model, if `keys` says how the message's keys are written
 abbrev pub can_be_for : KeyLine → Model → Bool
 can_be_for keys model = slots_of model == key_slots keys
 
@@ -43,7 +43,7 @@ can_be_for keys model = slots_of model == key_slots keys
 abbrev pub times : ℕ → List ℕ → ℕ
 times letter letters = count_by (λ other. other == letter) letters
 
--- whether both lists have the same letters, each as often, in any order
+-- whether both lists have the same letters in any order: `ABC` and `CAB` do, but `AAB` and `ABB` don't
 abbrev pub are_reordered : List ℕ → List ℕ → Bool
 are_reordered group letters = list_all (λ letter. times letter group == times letter letters) (group ++ letters)
 
@@ -69,8 +69,8 @@ unfoldable pub group_day_line : Language → GroupSearch → ℕ → List ℕ �
 group_day_line l search part group day =
     filled (text_in l texts.GROUP_DAY) (search.name ∷ decimal part ∷ group ∷ decimal day ∷ search.sheet ∷ [])
 
--- the warning that no day of the sheet for the message's machine has the group of part `part`; `group` is the group in
--- capital letters
+-- The warning that the group of part `part` belongs to no day of the sheet. Only days for the message's machine count.
+-- `group` is the group in capital letters.
 unfoldable pub no_group_line : Language → GroupSearch → ℕ → List ℕ → List ℕ
 no_group_line l search part group =
     filled (text_in l texts.NO_GROUP) (search.name ∷ decimal part ∷ search.sheet ∷ group ∷ [])

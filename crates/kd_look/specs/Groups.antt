@@ -30,11 +30,11 @@ pub record KnownMessage : Type 0 where
 abbrev pub letters_of : List ℕ → List ℕ
 letters_of text = map (λ byte. byte - 65) (filter is_capital text)
 
--- the letters, if there are exactly three of them; otherwise `None`
+-- the letters; `None` if there aren't exactly three
 abbrev pub three_letters : List ℕ → Option (List ℕ)
 three_letters letters = if length letters == 3 then Some letters else None
 
--- the group in a text that begins with two fillers; `None` if the text has fewer than five letters
+-- the group of a text: its letters 3 to 5, after two fillers; `None` if the text has fewer than five letters
 abbrev pub group_of : List ℕ → Option (List ℕ)
 group_of text = three_letters (take 3 (drop 2 (letters_of text)))
 
@@ -44,7 +44,7 @@ filler_column lines.ThreeSlots = Some 14
 filler_column lines.FourSlots = Some 16
 filler_column lines.Converter = None
 
--- the group whose fillers begin at `index`, as a list with one item; empty if no fillers begin there
+-- a list with the group after the two fillers that begin at `index`; empty if no fillers begin there
 abbrev pub order_group : List ℕ → KeyLine → ℕ → List (List ℕ)
 order_group text keys index =
     if option_map_or (nat_eq (column_at text index)) (filler_column keys) false

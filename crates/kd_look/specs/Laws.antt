@@ -1,6 +1,5 @@
--- The statements of this crate's laws. Without a machine, `look` says of an order what `send` says on a day for the
--- order's machine. In the same way, `look` says of a form what `receive` says. The groups that `look` names are the
--- message's own.
+-- This crate's laws. Without a machine, `look` judges an order as `send` does on a day for the order's machine. In the
+-- same way, `look` judges a form as `receive` does. The groups that `look` names are the message's own.
 use Rattle.std.specs.Prelude.{codes, ◌≡◌, ◌⊎◌, ℕ, ◌+◌, ◌≤◌, ◌&&◌, List, Result, Ok, Err, IfOk, None, Contains, drop}
 use Rattle.std.specs.Prelude.{[], ◌∷◌, Some, length, take, true, false}
 use Rattle.std.specs.List.{flat_map}
@@ -49,8 +48,7 @@ HeadFaultsAreThoseOfSend =
     → text_start order form ≡ Err found
     → IsOrderHeadFault s order (found.index + 1) × (found.fault ≡ BadByte (found.index + 1))
 
--- The bytes of `order` before `start` are a whole head. `look` counts the head's lines of keys
--- rightly.
+-- The bytes of `order` before `start` are a whole head. `look` finds as many lines of keys as the head has.
 pub record HasHeadTo (s : Day) (order : List ℕ) (start : ℕ) : Type 0 where
   pub keys : List Keys
   pub inside : start ≤ length order
@@ -65,13 +63,13 @@ HeadsEndWhereSendEndsThem =
 
 -- ---- Whole orders.
 
--- A fault of an order's keys that shows only with the day: a wrong group, or keys without an internal key.
+-- A fault of an order's keys that can be found only with the day: a wrong group, or keys without an internal key.
 pub data IsDaysFault (fault : FormFault) : Type 0 where
   GroupWrong : (part : ℕ) → fault ≡ WrongGroup part → IsDaysFault fault
   NoInternalKey : (part : ℕ) → fault ≡ IndicatorSpent part → IsDaysFault fault
 
--- Some of the order's keys don't suit the day. `answer` is the fault of the first of these keys, a fault that only the
--- day shows.
+-- Some of the order's keys don't suit the day. `answer` is the fault of the first of these keys, a fault that can be
+-- found only with the day.
 pub record IsRefusedByDay (s : Day) (order : List ℕ) (answer : Result (List ℕ) FormFault) : Type 0 where
   pub keys : List Keys
   pub head : List ℕ
@@ -82,16 +80,16 @@ pub record IsRefusedByDay (s : Day) (order : List ℕ) (answer : Result (List �
   pub of_the_day : IsDaysFault fault
   pub answered : answer ≡ Err fault
 
--- If `look` finds a fault in an order, `send` refuses the order with this fault, or with a fault
--- that only the day shows.
+-- If `look` finds a fault in an order, `send` refuses the order. `send` then names this fault, or a fault that can be
+-- found only with the day.
 abbrev pub OrderFaultsAreThoseOfSend : Type 0
 OrderFaultsAreThoseOfSend =
     (s : Day) (form : KeyLine) (order : List ℕ) (found : MessageFault) (answer : Result (List ℕ) FormFault)
     → HasKeyLineForm s form → order_answer order form ≡ Err found → IsOrderAnswer s order answer
     → (answer ≡ Err found.fault) ⊎ IsRefusedByDay s order answer
 
--- If `look` finds no fault in an order, `send` makes a form of the order. It may instead refuse the order with a fault
--- that only the day shows.
+-- If `look` finds no fault in an order, `send` makes a form of the order. `send` may instead refuse the order with a
+-- fault that can be found only with the day.
 abbrev pub FaultlessOrdersAreSent : Type 0
 FaultlessOrdersAreSent =
     (s : Day) (form : KeyLine) (order : List ℕ) (start : ℕ) (answer : Result (List ℕ) FormFault)
@@ -103,8 +101,8 @@ abbrev pub group_of_keys : Keys → List (List ℕ)
 group_of_keys (Rotor k) = k.group ∷ []
 group_of_keys (Pin k) = []
 
--- If `look` finds no fault in an order, it names the groups of the order's lines of keys: one for each line, from the
--- first line to the last. For a Converter's order, it names none.
+-- If `look` finds no fault in an order, `look` names the groups of the order's lines of keys: one for each line, from
+-- the first line to the last. For a Converter's order, `look` names none.
 abbrev pub OrderGroupsAreThoseOfKeys : Type 0
 OrderGroupsAreThoseOfKeys =
     (s : Day) (order : List ℕ) (start : ℕ) (keys : List Keys) (head text : List ℕ)
@@ -113,7 +111,7 @@ OrderGroupsAreThoseOfKeys =
 
 -- ---- Forms.
 
--- in the heading at `index`, the index after the number of letters; or the first wrong byte up to there
+-- the index after the number of letters in the heading at `index`; or the first wrong byte before this index
 unfoldable pub count_end : List ℕ → ℕ → Result ℕ WrongByte
 count_end text index = do
   start ← marks_end text (codes "PART ") index
@@ -125,7 +123,7 @@ count_end text index = do
   Ok count.end
 
 -- The day is for the machine that the form's first heading shows after its number of letters. If a wrong byte stands
--- before that place (`count_end`), any day will do. Here, a number that is out of range is no wrong byte.
+-- before that place (`count_end`), the day may be any day. Here, a number that is out of range is no wrong byte.
 abbrev pub IsDayOfForm : Day → List ℕ → Type 0
 IsDayOfForm s form = IfOk (count_end form 0) (λ end. HasKeyLineForm s (heading_keys form end))
 
@@ -134,7 +132,8 @@ abbrev pub IsNextPart : List ℕ → PartsProperty
 IsNextPart part p parts = (others : List (List ℕ)) × (parts ≡ part ∷ others)
 
 -- All parts before `part` are read without a fault, and `letters` are their letters. `answer` is the fault of the
--- letters of `part`. `look` doesn't test for such a fault: it is in the part's indicators, or shows only with the day.
+-- letters of `part`. `look` doesn't test for such a fault: it is in the part's indicators, or can be found only with
+-- the day.
 pub record IsRefusedForLetters (s : Day) (form : List ℕ) (answer : Result (List ℕ) FormFault) : Type 0 where
   pub part : List ℕ
   pub heading : Heading
@@ -147,16 +146,16 @@ pub record IsRefusedForLetters (s : Day) (form : List ℕ) (answer : Result (Lis
   pub found : IsLettersAnswer s heading.part heading.indicator (letters_from None body) (Err fault)
   pub answered : answer ≡ Err fault
 
--- If `look` finds a fault in a form, `receive` refuses the form with this fault, or with a fault of
--- a part's letters.
+-- If `look` finds a fault in a form, `receive` refuses the form. `receive` then names this fault, or a fault of a
+-- part's letters.
 abbrev pub FormFaultsAreThoseOfReceive : Type 0
 FormFaultsAreThoseOfReceive =
     (s : Day) (form : List ℕ) (found : MessageFault) (answer : Result (List ℕ) FormFault) → IsDayOfForm s form
     → form_answer form ≡ Err found → IsFormAnswer s form answer
     → (answer ≡ Err found.fault) ⊎ IsRefusedForLetters s form answer
 
--- If `look` finds no fault in a form, `receive` reads the form. It may instead refuse the form with a fault of a part's
--- letters.
+-- If `look` finds no fault in a form, `receive` reads the form. `receive` may instead refuse the form with a fault of
+-- a part's letters.
 abbrev pub FaultlessFormsAreReceived : Type 0
 FaultlessFormsAreReceived =
     (s : Day) (form : List ℕ) (first : FormHeading) (answer : Result (List ℕ) FormFault) → IsDayOfForm s form
@@ -177,14 +176,14 @@ AreGroupsOfParts s (part ∷ parts) (group ∷ groups) = HasGroup s part group �
 AreGroupsOfParts s [] (group ∷ groups) = ⊥
 AreGroupsOfParts s (part ∷ parts) [] = ⊥
 
--- If `look` finds no fault in a rotor machine's form, it names the groups in the bodies of the form's parts.
+-- If `look` finds no fault in a rotor machine's form, `look` names the groups in the bodies of the form's parts.
 abbrev pub FormGroupsAreThoseOfBodies : Type 0
 FormGroupsAreThoseOfBodies =
     (s : RotorDay) (form : List ℕ) (first : FormHeading) → IsDayOfForm (Rotor s) form → form_answer form ≡ Ok first
     → (groups : List (List ℕ)) × (message_of form ≡ Some (record { keys = first.keys; groups = groups }))
     × AreGroupsOfParts (Rotor s) (parts_of form) groups
 
--- If `look` finds no fault in a Converter's form, it names no group.
+-- If `look` finds no fault in a Converter's form, `look` names no group.
 abbrev pub ConverterFormsHaveNoGroups : Type 0
 ConverterFormsHaveNoGroups =
     (s : PinDay) (form : List ℕ) (first : FormHeading) → IsDayOfForm (Pin s) form → form_answer form ≡ Ok first
@@ -195,8 +194,8 @@ abbrev pub form_result : Result FormHeading MessageFault → Result (Unit {0}) F
 form_result (Ok first) = Ok tt
 form_result (Err found) = Err found.fault
 
--- `look` says of a form what `receive` would say if it didn't decipher the form's letters. So a fault of the letters
--- makes no difference to what `look` says.
+-- `look` judges a form as `receive` would without deciphering the form's letters. So a fault of the letters makes no
+-- difference to what `look` says.
 abbrev pub FormsAreSeenWithoutLetters : Type 0
 FormsAreSeenWithoutLetters =
     (s : Day) (form : List ℕ) → IsDayOfForm s form → IsShownFormAnswer s form (form_result (form_answer form))
@@ -216,11 +215,11 @@ FormsAreForTheirMachine =
 
 -- ---- The kind of a message: an order, or a form.
 
--- `look` finds that a text is a form exactly if the text begins as a heading line does.
+-- `look` takes a text for a form exactly if the text begins like a heading line.
 abbrev pub FormsBeginWithHeadings : Type 0
 FormsBeginWithHeadings = (text : List ℕ) → (is_message text && is_form text) ≡ begins_heading text
 
--- If `send` makes a form of an order, `look` finds that the order is an order.
+-- If `send` makes a form of an order, `look` takes the order for an order, and not for a form.
 abbrev pub OrdersAreNoForms : Type 0
 OrdersAreNoForms =
     (s : Day) (order form : List ℕ) → IsFormOf s order form → (is_message order ≡ true) × (is_form order ≡ false)

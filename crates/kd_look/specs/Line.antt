@@ -1,7 +1,6 @@
--- The number of the line in which a value of a file stands. To find it, the file is cut off after each of its lines in
--- turn. The value's line is the first one after which the cut file is a document with the value. A missing array `day`
--- gets the line of the file's first key. Code: the document is parsed up to the end of each line in turn, once for all
--- faults.
+-- The number of the line in which a value of a file stands: the first line up to whose end the file is a document with
+-- this value. A missing array `day` gets the line of the file's first key.
+-- Code: the document is parsed up to the end of each line in turn, once for all faults.
 -- Test: tests/cases/curator-look.toml
 use Rattle.std.specs.Prelude.{ℕ, ◌+◌, ◌==◌, ◌||◌, ◌&&◌, nat_lt, Bool, true, false, List, find, length, take, count_by}
 use Rattle.std.specs.Prelude.{slice_index, Option, Some, None, is_some, option_map, if◌then◌else◌}
@@ -22,7 +21,7 @@ use Rattle.kd_findings.specs.declared.key_place.KeyPlace.{KeyPlace}
 use Rattle.kd_look.specs.declared.line.Sought.{Sought}
 use Rattle.kd_look.specs.declared.line.Sought.TheVariants as soughts
 
--- the item of `items` with the number `entry`, counted from 1, if it is a table
+-- item number `entry` of `items`, counted from 1; `None` if this item is missing, or isn't a table
 abbrev pub entry_of : List Data → ℕ → Option Members
 entry_of items entry = option_and_then as_table (numbered_item items entry)
 
@@ -37,7 +36,7 @@ abbrev pub has_any_key : Members → Bool
 has_any_key no_members = false
 has_any_key (member name value rest) = true
 
--- Whether the document has the entry or the key to look for. For `AnyKey`, any key of the document will do.
+-- Whether the document has the entry or the key to look for. For `AnyKey`, whether it has any key.
 unfoldable pub has_value : Sought → Members → Bool
 has_value (soughts.Entry entry) document = is_some (table_at document (Some entry))
 has_value (soughts.Key entry key) document = option_map_or (is_given key) (table_at document entry) false
@@ -56,8 +55,8 @@ ends_line text index = slice_index text index == 10 || index + 1 == length text
 unfoldable pub has_value_at : List ℕ → Sought → ℕ → Bool
 has_value_at text sought index = ends_line text index && reads_value sought (take (index + 1) text)
 
--- The line of the entry or key `sought`: the first line after which `text`, cut off there, is a document with this
--- entry or key. Only lines that end before the byte at index `end` are tried.
+-- The line of the entry or key `sought`: the first line up to whose end `text` is a document with this entry or key.
+-- Only lines that end before the byte at index `end` are tried.
 abbrev pub line_before : List ℕ → ℕ → Sought → Option ℕ
 line_before text end sought = option_map (line_at text) (find (has_value_at text sought) (range_with_len 0 end))
 
@@ -66,8 +65,8 @@ line_before text end sought = option_map (line_at text) (find (has_value_at text
 abbrev pub is_too_long : List ℕ → Bool
 is_too_long text = nat_lt 65536 (length text) || nat_lt 2048 (count_by (λ byte. byte == 10) text)
 
--- The line of the entry or key `sought`: the first line after which `text`, cut off there, is a document with this
--- entry or key. `None` if there is no such line, or `text` is too long.
+-- The line of the entry or key `sought`: the first line up to whose end `text` is a document with this entry or key.
+-- `None` if there is no such line, or `text` is too long.
 abbrev pub line_number : List ℕ → Sought → Option ℕ
 line_number text sought = if is_too_long text then None else line_before text (length text) sought
 
@@ -95,22 +94,22 @@ line_of_fault text place fault = option_and_then (line_number text) (sought_for 
 abbrev pub line_of : List ℕ → Finding → Option ℕ
 line_of text finding = line_of_fault text finding.place finding.fault
 
--- the line of `finding`, if this line ends before the byte at index `end`
+-- the line of `finding`; `None` if this line doesn't end before the byte at index `end`
 unfoldable pub line_so_far : List ℕ → ℕ → Finding → Option ℕ
 line_so_far text end finding = option_and_then (line_before text end) (sought_for finding.place finding.fault)
 
--- the first argument, if it is a number; otherwise the second argument, `later`
+-- If the first argument is a number, this number. Otherwise the second argument, `later`.
 abbrev pub or_line : Option ℕ → Option ℕ → Option ℕ
 or_line (Some line) later = Some line
 or_line None later = later
 
--- `line`, if the document has the entry or key that is sought for `finding`; otherwise `None`
+-- `line` if the document has the entry or key that shows the line of `finding`; otherwise `None`
 unfoldable pub line_in : Members → ℕ → Finding → Option ℕ
 line_in document line finding =
     option_and_then (λ sought. if has_value sought document then Some line else None)
     (sought_for finding.place finding.fault)
 
--- `line`, if the text is a document with the entry or key that is sought for `finding`; otherwise `None`
+-- `line` if the text is a document with the entry or key that shows the line of `finding`; otherwise `None`
 abbrev pub line_in_text : List ℕ → ℕ → Finding → Option ℕ
 line_in_text text line finding =
     option_and_then (λ document. line_in document line finding) (result_ok (document_of text))

@@ -27,7 +27,7 @@ pub record NamedText : Type 0 where
 abbrev pub named_text : NamedFile → NamedText
 named_text file = record { name = file.name.now; bytes = file.bytes.now }
 
--- the first of two outcomes, if it is `Faulty`; otherwise the second outcome, `later`
+-- If the first outcome is `Faulty`, this outcome. Otherwise the second outcome, `later`.
 abbrev pub or_later : Outcome → Outcome → Outcome
 or_later outcomes.Faultless later = later
 or_later (outcomes.Faulty fault) later = outcomes.Faulty fault

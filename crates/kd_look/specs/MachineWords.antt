@@ -55,7 +55,7 @@ cable_line l cable None None = []
 unfoldable pub cable_words : Language → Parts → ℕ → List ℕ
 cable_words l machine cable = option_map_or (λ ends. cable_line l cable ends.0 ends.1) (machine_cable machine cable) []
 
--- a space and `letter`, if the pin at this letter is effective; otherwise nothing
+-- If the pin at `letter` is effective, a space and `letter`. Otherwise nothing.
 unfoldable pub pin_words : Parts → ℕ → ℕ → List ℕ
 pin_words machine wheel letter =
     if option_map_or (λ effective. effective) (machine_pin machine wheel letter) false
@@ -73,14 +73,14 @@ unfoldable pub bar_words : Language → Parts → ℕ → List ℕ
 bar_words l machine bar = option_map_or (λ standing.
     label (text_in l texts.BAR) bar ++ standing_text standing ++ codes "\n") (machine_standing machine bar) []
 
--- the line of the slot, cable, pin wheel or bar `number`; empty if the machine doesn't have this thing
+-- the line of the slot, cable, pin wheel or bar `number`; empty if the machine doesn't have it
 unfoldable pub thing_words : Language → Parts → Thing → ℕ → List ℕ
 thing_words l machine things.Slot number = slot_words l machine number
 thing_words l machine things.Cable number = cable_words l machine number
 thing_words l machine things.PinWheel number = pin_wheel_words l machine number
 thing_words l machine things.Bar number = bar_words l machine number
 
--- the lines of all things of the sort `thing`, with the numbers from 1 to `count`
+-- the lines of the slots, cables, pin wheels or bars, from number 1 to `count`; `thing` says which of the four
 abbrev pub things_words : Language → Parts → Thing → ℕ → List ℕ
 things_words l machine thing count = flat_map (thing_words l machine thing) (range_with_len 1 count)
 

@@ -1,5 +1,5 @@
--- What `look` says about an order or a form. It names the first fault that shows without a machine.
--- If no fault shows, it says what the message is.
+-- What `look` says about an order or a form. It names the first fault that can be found without a machine. If no fault
+-- is found, it says what the message is.
 -- Test: tests/cases/curator-look.toml
 use Rattle.std.specs.Prelude.{codes, ℕ, ◌++◌, ◌&&◌, nat_le, Bool, List, [], ◌∷◌, Result, Ok, Err, slice_index, take}
 use Rattle.std.specs.Prelude.{if◌then◌else◌}
@@ -22,7 +22,7 @@ use Rattle.kd_look.specs.declared.message.order_head.KeyLine.{KeyLine}
 use Rattle.kd_look.specs.declared.message.order_head.KeyLine.TheVariants as lines
 use Rattle.kd_look.specs.declared.texts.TheConstants as texts
 
--- whether the file is an order or a form: it begins with `PART `
+-- whether the file is a message (an order or a form): it begins with `PART `
 abbrev pub is_message : List ℕ → Bool
 is_message text = bytes_eq (take 5 text) (codes "PART ")
 
@@ -72,7 +72,8 @@ fault_line l name text found =
     name ++ place_words l (line_at text found.index) (column_at text found.index) (reason_words l found.reason)
     ++ codes " (" ++ form_fault_text found.fault ++ codes ")\n"
 
--- the machine that a message is for, or both machines that it may be for, as named after the word `for`
+-- The words for the machine of a message, such as `a Converter M-209`. The messages of an Enigma I and of an M3 look
+-- alike: then the words name both.
 unfoldable pub machine_name : Language → KeyLine → List ℕ
 machine_name l lines.ThreeSlots = text_in l texts.ENIGMA_I_OR_M3
 machine_name l lines.FourSlots = text_in l AN_M4

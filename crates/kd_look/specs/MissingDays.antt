@@ -17,8 +17,8 @@ use Rattle.kd_look.specs.declared.file.File.TheVariants as files
 use Rattle.kd_look.specs.declared.missing_days.ReadFile.{ReadFile}
 use Rattle.kd_look.specs.declared.texts.TheConstants as texts
 
--- A file's name and content. `file` has the content of a machine file or a key sheet, and `message` that of an order or
--- a form. Both are `None` if the file has a fault.
+-- A file's name and content. For a machine file or a key sheet, the content is `file`; for an order or a form, it is
+-- `message`. Both are `None` if the file has a fault.
 pub record KnownFile : Type 0 where
   pub name : List ℕ
   pub file : Option File
@@ -42,13 +42,13 @@ has_day_in model None = false
 abbrev pub serves : Model → KnownFile → Bool
 serves model read = has_day_in model read.file
 
--- `words`, if the file is a key sheet; otherwise nothing
+-- If the file is a key sheet, `words`. Otherwise nothing.
 abbrev pub words_for : Option File → List ℕ → List ℕ
 words_for (Some (files.Sheet month)) words = words
 words_for (Some (files.Machine machine)) words = []
 words_for None words = []
 
--- the model as it is named after the word `for`: in German, in the accusative
+-- the model's name with an article, as in `for an M4`; the German words are in the accusative
 abbrev pub model_after_for : Language → Model → List ℕ
 model_after_for l EnigmaI = text_in l AN_ENIGMA_I
 model_after_for l M3 = text_in l AN_M3

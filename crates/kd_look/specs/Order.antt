@@ -1,6 +1,6 @@
--- The first fault that an order shows without a machine. Faults are tested in the order of the tests of `desk send`.
--- Two faults that show only with the day or the machine are left out: a wrong group, and keys that give no internal
--- key. Indexes are counted from 0.
+-- The first fault of an order that can be found without a machine. Faults are tested in the order of the tests of
+-- `desk send`. Two faults that can be found only with the day or the machine are left out: a wrong group, and keys
+-- that give no internal key. Indexes are counted from 0.
 -- Test: tests/cases/curator-look.toml
 use Rattle.std.specs.Prelude.{ℕ, ◌+◌, ◌-◌, ◌==◌, ◌&&◌, ◌||◌, nat_le, nat_lt, not, Bool, false, List}
 use Rattle.std.specs.Prelude.{Result, Ok, Err, count_by, drop, find, is_some, length, slice_get, take, if◌then◌else◌}
@@ -51,21 +51,21 @@ abbrev pub is_off_wheel_at : List ℕ → ℕ → Bool
 is_off_wheel_at text index = option_map_or (is_off_wheel (column_at text index)) (slice_get text index) false
 
 -- Success if each external letter in an order's lines of keys is on its pin wheel; otherwise the fault of the first
--- that isn't. Only a Converter's keys have external letters. The lines of keys end before `start`.
+-- letter that isn't. Only a Converter's keys have external letters. The lines of keys end before `start`.
 abbrev pub wheels_answer : List ℕ → KeyLine → ℕ → Result (Unit {0}) MessageFault
 wheels_answer text lines.Converter start = option_map_or
     (λ index. Err (record { index = index; fault = KeyNotOnWheel; reason = reasons.OffWheel }))
     (find (is_off_wheel_at text) (range_with_len 0 start)) (Ok tt)
 wheels_answer text form start = Ok tt
 
--- Success if all bytes of the text are allowed; otherwise the fault of the first that isn't. The text begins at
+-- Success if all bytes of the text are allowed; otherwise the fault of the first byte that isn't. The text begins at
 -- `start`.
 abbrev pub signs_answer : List ℕ → ℕ → Result (Unit {0}) MessageFault
 signs_answer text start = option_map_or
     (λ place. Err (record { index = start + place; fault = BadByte (start + place + 1); reason = reasons.TextSign }))
     (wrong_sign (drop start text)) (Ok tt)
 
--- whether a byte of the text counts as a letter: a capital letter does and, on the Converter, a space
+-- Whether a byte of the text counts as a letter. A capital letter does. On the Converter, a space does too.
 abbrev pub gives_letter : KeyLine → ℕ → Bool
 gives_letter lines.Converter byte = is_capital byte || byte == 32
 gives_letter form byte = is_capital byte
@@ -101,8 +101,8 @@ parts_answer text form start =
           else reasons.ManyKeys;
     })
 
--- The index at which an order's text begins, or the first fault that the order shows without a machine. `form` says how
--- the order's keys are written.
+-- The index at which an order's text begins, or the first fault of the order that can be found without a machine.
+-- `form` says how the order's keys are written.
 unfoldable pub order_answer : List ℕ → KeyLine → Result ℕ MessageFault
 order_answer text form = do
   start ← text_start text form
@@ -111,6 +111,6 @@ order_answer text form = do
   parts_answer text form start
   Ok start
 
--- the index at which the order's text begins, or the first fault that the order shows without a machine
+-- the index at which the order's text begins, or the first fault of the order that can be found without a machine
 abbrev pub order_start : List ℕ → Result ℕ MessageFault
 order_start text = order_answer text (key_line_of text)

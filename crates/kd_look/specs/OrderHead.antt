@@ -18,8 +18,8 @@ pattern_of lines.Converter = codes "PART _ ______"
 unfoldable pub has_four_letters : List ℕ → Bool
 has_four_letters text = fits_at text 95 5 && fits_at text 95 6 && (fits_at text 95 7 && fits_at text 95 8)
 
--- The machine that an order is for, shown by its first word of keys: one letter for a Converter,
--- four letters for an M4. Any other word means a machine with three slots.
+-- Finds out from the first word of keys which machine an order is for: one letter means a Converter, and four letters
+-- mean an M4. Any other word means a machine with three slots.
 unfoldable pub key_line_of : List ℕ → KeyLine
 key_line_of text =
     if fits_at text 32 6 then lines.Converter else if has_four_letters text then lines.FourSlots else lines.ThreeSlots

@@ -29,7 +29,7 @@ abbrev pub outcome_of : Result File SheetFault → Outcome
 outcome_of (Ok file) = outcomes.Faultless
 outcome_of (Err fault) = outcomes.Faulty (founds.File fault)
 
--- the outcome for an order or a form: `Faultless`, or the first fault that shows without a machine
+-- the outcome for an order or a form: `Faultless`, or the first fault that can be found without a machine
 abbrev pub answer_outcome : {A : Type 0} → Result A MessageFault → Outcome
 answer_outcome (Ok read) = outcomes.Faultless
 answer_outcome (Err found) = outcomes.Faulty (founds.Message found.fault)
@@ -39,7 +39,8 @@ abbrev pub message_outcome : List ℕ → Outcome
 message_outcome bytes =
     if is_form bytes then answer_outcome (form_answer bytes) else answer_outcome (order_start bytes)
 
--- the outcome for a file that isn't a document; the first argument says whether the file is an order or a form
+-- the outcome for a file that isn't a document; the first argument says whether the file is a message (an order or a
+-- form)
 abbrev pub outcome_without : Bool → List ℕ → SheetFault → Outcome
 outcome_without true bytes fault = message_outcome bytes
 outcome_without false bytes fault = outcomes.Faulty (founds.File fault)
@@ -53,19 +54,19 @@ outcome_by bytes (Err fault) = outcome_without (is_message bytes) bytes fault
 abbrev pub file_outcome : List ℕ → Outcome
 file_outcome bytes = outcome_by bytes (document_of bytes)
 
--- the order or the form in a file that isn't a document; `None` if there is no such message, or it has a fault; the
--- first argument says whether the file is an order or a form
+-- The order or the form in a file that isn't a document. `None` if the file has a fault, or isn't a message. The first
+-- argument says whether the file is a message (an order or a form).
 abbrev pub message_without : Bool → List ℕ → Option KnownMessage
 message_without true bytes = message_of bytes
 message_without false bytes = None
 
--- the order or the form in a file; the second argument is the file's document, or the fault of a file that isn't a
--- document
+-- The order or the form in a file. The second argument is the file's document, or the fault of a file that isn't a
+-- document.
 abbrev pub message_by : List ℕ → Result Members SheetFault → Option KnownMessage
 message_by bytes (Ok document) = None
 message_by bytes (Err fault) = message_without (is_message bytes) bytes
 
--- the order or the form in a file; `None` if the file is no order and no form, or has a fault
+-- the order or the form in a file; `None` if the file has a fault, or isn't an order or a form
 abbrev pub file_message : List ℕ → Option KnownMessage
 file_message bytes = message_by bytes (document_of bytes)
 
@@ -94,8 +95,8 @@ IsDocumentReport l name bytes document text = MatchResult (file_in document)
 abbrev pub message_report : Language → List ℕ → List ℕ → List ℕ
 message_report l name bytes = message_words l name bytes ++ group_lines l (message_of bytes)
 
--- The text is the report on a file that isn't a document. The second argument says whether the file is an order or a
--- form.
+-- The text is the report on a file that isn't a document. The second argument says whether the file is a message (an
+-- order or a form).
 abbrev pub IsOtherReport : Language → Bool → List ℕ → List ℕ → SheetFault → List ℕ → Type 0
 IsOtherReport l true name bytes fault text = text ≡ message_report l name bytes
 IsOtherReport l false name bytes fault text = SaysPlainly l name bytes fault text

@@ -27,7 +27,7 @@ pub fn push_alike_days(
     Ok(())
 }
 
-/// Appends a warning if the day `number` differs from an earlier day only in its number.
+/// If the day `number` differs from an earlier day only in its number, appends a warning.
 fn push_alike(
     lines: &mut String,
     wording: Wording,

@@ -149,7 +149,7 @@ fn push_fault_line(
     push_fault(text, finding.fault)
 }
 
-/// Appends the number of a line, if it is known.
+/// If the number of a line is known, appends it.
 #[tactic(auto, unfolding(crate::specs::FaultWords::line_words))]
 fn push_line(text: &mut String, language: Language, line: Option<usize>) -> Result<(), AllocError>
     ensures { OnOk result (string_bytes text.new

@@ -39,7 +39,7 @@ fn counts_in(alloc: Global, sheet: &Sheet) -> Result<Vec<DayCounts>, AllocError>
     Ok(days)
 }
 
-/// Appends how many pairs and how many groups the day `number` has, if the sheet has this day.
+/// If the sheet has the day `number`, appends how many pairs and how many groups this day has.
 fn push_counts(days: &mut Vec<DayCounts>, sheet: &Sheet, number: u8) -> Result<(), AllocError>
     ensures { OnOk result (days.new.items ≡ days.old.items ++ counts_on sheet.now number) }
 {

@@ -233,7 +233,8 @@ fn push_day(
     )
 }
 
-/// Appends the warning that no day of the sheet for the message's machine has the group of part `part`.
+/// Appends the warning that the group of part `part` belongs to no day of the sheet. Only days for the message's
+/// machine count.
 ///
 /// `group` is the group in capital letters.
 #[tactic(auto, unfolding(crate::specs::GroupDays::no_group_line))]
@@ -266,7 +267,7 @@ fn days_with(alloc: Global, search: &Search<'_>, group: [Letter; 3]) -> Result<V
     Ok(days)
 }
 
-/// Appends `number`, if the sheet has day `number`, and this day suits the message and `group`.
+/// If the sheet has day `number`, and this day suits the message and `group`, appends `number`.
 fn push_day_with(
     days: &mut Vec<u8>,
     search: &Search<'_>,
@@ -300,14 +301,14 @@ fn suits(search: &Search<'_>, group: [Letter; 3], day: &SheetDay) -> bool
     can_be_for(search.keys, day.model()) && has_group(group, day)
 }
 
-/// Whether a message can be for `model`, if the message's keys are written as `keys`.
+/// Whether a message can be for `model`, if `keys` says how the message's keys are written.
 fn can_be_for(keys: KeyLine, model: Model) -> bool
     ensures { result ≡ can_be_for keys model }
 {
     model.slots() == key_slots(keys)
 }
 
-/// The number of slots of a machine, known from how its keys are written. A Converter has no slots.
+/// The number of slots of a machine, from the form of its lines of keys. A Converter has no slots.
 fn key_slots(keys: KeyLine) -> u8
     ensures { result ≡ key_slots keys }
 {

@@ -14,11 +14,11 @@ use kd_sheet::{Key, SheetFault};
 use std::alloc::{AllocError, Global};
 use toml::{Table, Value};
 
-/// The greatest size, in bytes, of a file whose faults get line numbers.
+/// If a file has more bytes than this, its faults get no line numbers.
 const MOST_BYTES: usize = 65_536;
 
-/// The greatest number of line ends for which a file's faults get line numbers. To find line numbers, the file is
-/// parsed up to each line end.
+/// If a file has more line ends than this, its faults get no line numbers. To find line numbers, the file is parsed up
+/// to each line end.
 const MOST_LINES: usize = 2_048;
 
 /// The entry or key to look for in a document, to find the line of a fault.
@@ -34,8 +34,8 @@ enum Sought {
 
 /// The line number of each of `findings`. `None` if the line can't be found, or `text` is too long.
 ///
-/// To find the line, `text` is cut off after each of its lines in turn. The finding's line is the first one after which
-/// the cut text is a document with the entry or key that is sought for the finding.
+/// A finding's line is found by trying prefixes of `text`, from line to line. It is the last line of the first prefix
+/// that is a document with the finding's entry or key.
 pub fn lines_of(
     alloc: Global,
     text: &[u8],
@@ -57,7 +57,7 @@ fn is_too_long(text: &[u8]) -> bool
     text.len() > MOST_BYTES || text.iter().filter(|byte| **byte == b'\n').count() > MOST_LINES
 }
 
-/// The line of each of `findings` in `text`, whatever the length of `text`.
+/// The line of each of `findings`. Looks for the lines even if `text` is too long.
 fn seek_lines(
     alloc: Global,
     text: &[u8],
@@ -122,7 +122,7 @@ fn ends_line(text: &[u8], index: usize) -> bool
 
 /// Returns `lines`, the line numbers of `findings`, with missing numbers replaced by `line`.
 ///
-/// A missing number is replaced only if `text` is a document with the entry or key that is sought for the finding.
+/// A finding's number is replaced only if `text` is a document with the entry or key that shows the finding's line.
 fn lines_with(
     alloc: Global,
     text: &[u8],
@@ -144,7 +144,7 @@ fn lines_with(
 
 /// Returns `lines`, the line numbers of `findings`, with missing numbers replaced by `line`.
 ///
-/// A missing number is replaced only if `document` has the entry or key that is sought for the finding.
+/// A finding's number is replaced only if `document` has the entry or key that shows the finding's line.
 fn next_lines(
     alloc: Global,
     document: &Table,
@@ -164,7 +164,7 @@ fn next_lines(
     Ok(next)
 }
 
-/// `known`, if it is a number. Otherwise `line`, if `document` has the entry or key that is sought for `finding`.
+/// If `known` is a number, this number. Otherwise the answer of `line_in`.
 fn known_line(
     known: Option<usize>,
     document: &Table,
@@ -179,7 +179,7 @@ fn known_line(
     }
 }
 
-/// `line`, if `document` has the entry or key that is sought for `finding`; otherwise `None`.
+/// Returns `line` if `document` has the entry or key that shows the line of `finding`; otherwise `None`.
 #[tactic(auto, unfolding(crate::specs::Line::line_in))]
 fn line_in(document: &Table, line: usize, finding: &Finding) -> Option<usize>
     ensures { result ≡ line_in (table_view document.now) line finding.now }
@@ -252,7 +252,7 @@ fn table_at(document: &Table, entry: Option<usize>) -> Option<&Table>
     }
 }
 
-/// Item number `entry` of `items`, counted from 1, if this item is a table.
+/// Item number `entry` of `items`, counted from 1. `None` if this item is missing, or isn't a table.
 fn entry_of(items: &[Value], entry: usize) -> Option<&Table>
     ensures { option_map (λ table. table_view table.now) result
         ≡ entry_of (map view items.now) entry }

@@ -14,7 +14,7 @@ use kd_state::Machine;
 use kd_tables::{Letter, Wheel};
 use std::alloc::AllocError;
 
-/// A sort of things on a machine, such as cables. The things of a sort are numbered from 1.
+/// The parts of a machine that come several times: slots, cables, pin wheels and bars. They are numbered from 1.
 #[derive(Clone, Copy)]
 pub enum Thing {
     Slot,
@@ -43,7 +43,8 @@ pub fn push_machine(
     push_things(text, language, machine, Thing::Bar, 27)
 }
 
-/// Appends the lines of all things of the sort `thing`, with the numbers from 1 to `count`.
+/// Appends the lines of the slots, cables, pin wheels or bars, from number 1 to `count`. `thing` says which of
+/// the four.
 fn push_things(
     text: &mut String,
     language: Language,
@@ -61,7 +62,7 @@ fn push_things(
     Ok(())
 }
 
-/// Appends the line of the slot, cable, pin wheel or bar `number`, if the machine has this thing.
+/// Appends the line of the slot, cable, pin wheel or bar `number`. Appends nothing if the machine doesn't have it.
 #[tactic(auto, unfolding(crate::specs::MachineWords::thing_words))]
 fn push_thing(
     text: &mut String,
@@ -81,7 +82,7 @@ fn push_thing(
     }
 }
 
-/// Appends the line of slot `slot`, if the machine has this slot.
+/// If the machine has slot `slot`, appends the line of this slot.
 #[tactic(auto, using(std::proofs::Common::append_assoc), unfolding(crate::specs::MachineWords::slot_words))]
 fn push_slot(
     text: &mut String,
@@ -221,7 +222,7 @@ fn push_loose_cable(
     text.push_str(language.text(texts::FREE_END))
 }
 
-/// Appends the line of pin wheel `wheel`, if the machine has this wheel.
+/// If the machine has pin wheel `wheel`, appends the line of this wheel.
 #[tactic(auto, using(std::proofs::Common::append_assoc), unfolding(crate::specs::MachineWords::pin_wheel_words))]
 fn push_pin_wheel(
     text: &mut String,
@@ -254,7 +255,7 @@ fn push_pins(text: &mut String, machine: &Machine, wheel: u8) -> Result<(), Allo
     Ok(())
 }
 
-/// Appends a space and `letter`, if the pin at this letter of pin wheel `wheel` is effective.
+/// If the pin at `letter` of pin wheel `wheel` is effective, appends a space and `letter`.
 #[tactic(auto, using(std::proofs::Common::append_assoc), unfolding(crate::specs::MachineWords::pin_words))]
 fn push_pin(
     text: &mut String,
@@ -280,7 +281,7 @@ fn push_spaced_letter(text: &mut String, letter: Letter) -> Result<(), AllocErro
     push_letter(text, letter)
 }
 
-/// Appends the line of bar `bar`, if the machine has this bar.
+/// If the machine has bar `bar`, appends the line of this bar.
 #[tactic(auto, using(std::proofs::Common::append_assoc), unfolding(crate::specs::MachineWords::bar_words))]
 fn push_bar(
     text: &mut String,
@@ -310,7 +311,7 @@ fn push_label(text: &mut String, name: &str, number: u8) -> Result<(), AllocErro
     text.push_str(": ")
 }
 
-/// Appends the line of the reflector, if the machine has one.
+/// If the machine has a reflector, appends the line of the reflector.
 fn push_reflector(
     text: &mut String,
     language: Language,

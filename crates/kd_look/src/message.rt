@@ -1,4 +1,4 @@
-//! Looks at messages as far as that is possible without a machine.
+//! Looks at messages as far as possible without a machine.
 
 pub mod fault;
 pub mod form;

@@ -18,9 +18,9 @@ use std::alloc::AllocError;
 #[derive(Drop)]
 pub struct ReadFile<'f> {
     pub name: &'f str,
-    /// The file's content, if it is a machine or a key sheet.
+    /// The content of a machine file or a key sheet. `None` for any other file.
     pub file: Option<File>,
-    /// The file's content, if it is an order or a form.
+    /// The content of an order or a form. `None` for any other file.
     pub message: Option<Message>,
 }
 
@@ -36,7 +36,8 @@ pub fn missing_day_warnings(wording: Wording, files: &[ReadFile<'_>]) -> Result<
     Ok(lines)
 }
 
-/// Appends the warnings about `file`, if it is a machine file, and no key sheet of `files` has a day for the machine.
+/// If `file` is a machine file, and no key sheet of `files` has a day for the machine, appends the warnings about
+/// `file`.
 fn push_missing(
     lines: &mut String,
     language: Language,
@@ -145,7 +146,7 @@ fn push_no_day_words(
     push_filled(lines, language.text(NO_DAY), &[name, sheet, model])
 }
 
-/// The model as it is named after the word `for`: in German, in the accusative.
+/// The model's name with an article, as in `for an M4`; the German words are in the accusative.
 fn model_after_for(language: Language, model: Model) -> &'static str
     ensures { result.now ≡ model_after_for language model }
 {

@@ -32,9 +32,9 @@ pub struct Report {
     /// The lines about the file.
     pub text: String,
     pub outcome: Outcome,
-    /// The file's content, if the file is a machine file or a key sheet, and has no fault.
+    /// The content of a faultless machine file or key sheet. `None` for any other file.
     pub file: Option<File>,
-    /// The file's content, if the file is an order or a form, and has no fault.
+    /// The content of a faultless order or form. `None` for any other file.
     pub message: Option<Message>,
 }
 

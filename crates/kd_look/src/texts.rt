@@ -41,7 +41,7 @@ pub const EMPTY: Text = ("empty\n", "leer\n");
 pub const FREE_END: Text = (", one end free\n", ", ein Ende frei\n");
 
 /// In a pin wheel's line, the word before the letter that the wheel shows. The next text stands before the letters of
-/// its effective pins.
+/// the effective pins.
 pub const SHOWN: Text = ("window ", "Fenster ");
 
 pub const PINS: Text = (", effective pins:", ", wirksame Stifte:");
@@ -80,8 +80,8 @@ pub const NO_DAY: Text = (
     "~: Warnung: ~ hat keinen Tag für ~\n",
 );
 
-/// A Converter after the word `for`, in German in the accusative. The next text names both models whose messages look
-/// alike. The texts for the other models are in `kd_slips`.
+/// The machine in words such as `for a Converter M-209`; the German text is in the accusative. The next text names
+/// both models whose messages look alike. The texts for the other models are in `kd_slips`.
 pub const CONVERTER: Text = ("a Converter M-209", "einen Converter M-209");
 
 pub const ENIGMA_I_OR_M3: Text = ("an Enigma I or an M3", "eine Enigma I oder eine M3");

@@ -43,7 +43,7 @@ pub fn day_warnings(wording: Wording, name: &str, file: &File) -> Result<String,
     }
 }
 
-/// Appends the warning about a byte order mark, if the file begins with one.
+/// If the file begins with a byte order mark, appends the warning about this mark.
 #[tactic(auto, using(std::proofs::Common::append_assoc), unfolding(crate::specs::Warnings::mark_words))]
 pub fn push_mark(
     lines: &mut String,

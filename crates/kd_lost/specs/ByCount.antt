@@ -39,7 +39,7 @@ counted_line count line =
 abbrev pub counted_part : ℕ → List ℕ → List ℕ
 counted_part count part = counted_line count (first_line part) ++ from_line_end part
 
--- ---- Whether the count may be what is wrong.
+-- ---- Whether the count may be wrong.
 
 -- the letter count in the heading; 0 if the heading is damaged
 abbrev pub heading_count : Option PartNumbers → ℕ
@@ -51,12 +51,13 @@ heading_count None = 0
 abbrev pub explains : ℕ → ℕ → ShortLine → Bool
 explains counted came short = counted + short.letters == came + 50
 
--- the short line, if the heading's count would be right with 50 letters on this line; otherwise `None`
+-- The short line. `None` if there is none, or if the heading's count would be wrong even with 50 letters on this line.
 abbrev pub telling_line : ℕ → ℕ → Option ShortLine → Option ShortLine
 telling_line counted came None = None
 telling_line counted came (Some short) = if explains counted came short then Some short else None
 
--- the short line of the part, if 50 letters on this line would make the heading's count right; otherwise `None`
+-- If the short line of the part explains the wrong count, this line. Otherwise `None`. The line explains the count if
+-- the count would be right with 50 letters on the line.
 abbrev pub part_line : DamagedPart → Option ShortLine
 part_line part = telling_line (heading_count part.numbers) part.came part.short_line
 
@@ -69,7 +70,7 @@ is_count_doubted (Err damages.HeadingDamaged) line = true
 is_count_doubted (Err damages.CountWrong) line = not (is_some line)
 is_count_doubted (Err _) line = false
 
--- ---- What is read then.
+-- ---- What is read by count.
 
 -- the text of a part; `None` if the part couldn't be read
 abbrev pub text_of : Result DamagedText PartDamage → Option DamagedText
@@ -95,16 +96,16 @@ numbers_by_count (Some given) counted found = Some given
 numbers_by_count None counted (Some shown) = counted
 numbers_by_count None counted None = None
 
--- Reading `part` by count gives the text `found` and the numbers `numbers`. If the first argument is true, the letter
--- count may be wrong, and `came` takes its place. If not, there is no such text: `found` is `None`, and `numbers` are
--- `given`, the numbers in the received heading.
+-- How `part` is read by count: as if its letter count were `came`. The first argument says whether the received count
+-- may be wrong. If so, `found` is the text, if there is one, and `numbers` are the part's numbers. If not, the part
+-- isn't read by count: `found` is `None`, and `numbers` are `given`, the numbers in the received heading.
 abbrev pub GivesByCount : Bool → Day → List ℕ → ℕ → Option PartNumbers → Option PartNumbers → Option DamagedText → Type 0
 GivesByCount false s part came given numbers found = (found ≡ None) × (numbers ≡ given)
 GivesByCount true s part came given numbers found =
     (counted : Option PartNumbers) × IsFoundIn s (counted_part came part) counted found
     × (numbers ≡ numbers_by_count given counted found)
 
--- `read` has the text and the numbers that reading `part` by count gives, as `GivesByCount` says.
+-- `read.by_count` and `read.numbers` are what `GivesByCount` requires for `part`.
 abbrev pub IsByCount : Day → List ℕ → Option PartNumbers → DamagedPart → Type 0
 IsByCount s part given read =
     GivesByCount (is_count_doubted read.text (telling_line (heading_count given) read.came read.short_line)) s part

@@ -9,7 +9,7 @@ use Rattle.kd_lost.specs.declared.damage.PartDamage.{PartDamage}
 use Rattle.kd_lost.specs.declared.damage.PartDamage.TheVariants.{CopiesDiffer, KeyLetterLost}
 use Rattle.kd_lost.specs.Lost.{IsLetterFor}
 
--- The copies of a key letter that aren't lost are all the same letter.
+-- All copies of a key letter are the same letter. Lost copies don't count.
 abbrev pub HaveOneLetter : List (Option ℕ) → Type 0
 HaveOneLetter copies = (letter : ℕ) × All (λ got. IsLetterFor got letter) copies
 

@@ -69,7 +69,7 @@ pub data IsMeant (s : Day) (part meant : List ℕ) : Type 0 where
   Respaced : ((h : Heading) → ¬ (IsDamagedHeading s (first_line part) h)) → meant ≡ respaced part
       → IsMeant s part meant
 
--- `read` has what can be read of `part` as it stands. Only the fields `respaced` and `line` of `read` may have any
+-- `read` is the result of reading `part` as it stands. The fields `respaced` and `line` of `read` may have any
 -- values. `given` are the numbers in the received heading.
 pub record IsReadAs (s : Day) (part : List ℕ) (read : DamagedPart) : Type 0 where
   pub given : Option PartNumbers
@@ -87,19 +87,19 @@ pub record IsReadAs (s : Day) (part : List ℕ) (read : DamagedPart) : Type 0 wh
   pub as_spelled : IsTrue read.as_spelled ↔ All (λ byte. meant_byte byte ≡ byte) part
   pub is_order : read.is_order ≡ is_order part
 
--- `read` has what can be read of `part`. If the first line of `part` isn't a heading, needless blanks in this line are
--- dropped first.
+-- `read` is the result of reading `part`. If the first line of `part` isn't a heading, needless blanks in this line
+-- are dropped first.
 pub record IsReadOf (s : Day) (part : List ℕ) (read : DamagedPart) : Type 0 where
   pub meant : List ℕ
   pub is_meant : IsMeant s part meant
   pub as_meant : IsReadAs s meant read
   pub respaced : IsTrue read.respaced ↔ (meant ≢ part)
 
--- `read` has what can be read of `part`, and the line on which the part begins.
+-- `read` is the result of reading `part`, with the line on which the part begins.
 abbrev pub IsReadAt : Day → PlacedPart → DamagedPart → Type 0
 IsReadAt s part read = IsReadOf s part.bytes read × (read.line ≡ part.line)
 
--- For each of `parts`, in order, `reads` has what can be read of the part.
+-- `reads` are the results of reading `parts`, in order.
 abbrev pub AreReadOf : Day → List PlacedPart → List DamagedPart → Type 0
 AreReadOf s [] [] = Unit {0}
 AreReadOf s (part ∷ parts) (read ∷ reads) = IsReadAt s part read × AreReadOf s parts reads
@@ -115,7 +115,7 @@ completed_parts copies index [] = []
 completed_parts copies index (part ∷ parts) =
     record { bytes = completed_at copies index part.bytes; line = part.line } ∷ completed_parts copies (index + 1) parts
 
--- `reads` has what can be read of each part of `form`, with letters from the part's copies in place of lost letters.
+-- `reads` are the parts of `form`, each read with letters from its copies in place of lost letters.
 abbrev pub AreReadWith : Day → List DamagedPart → List ℕ → List DamagedPart → Type 0
 AreReadWith s copies form reads = AreReadOf s (completed_parts copies 0 (damaged_parts_of form)) reads
 

@@ -40,7 +40,8 @@ body_of (byte ∷ bytes) = if byte == 10 then bytes else body_of bytes
 abbrev pub filled_byte : ℕ → ℕ
 filled_byte byte = if is_lost byte then 66 else meant_byte byte
 
--- `line` is the line of the heading `h`. Letters of the keys may be lost in `line`; `h` has a B in place of each.
+-- `line` is the line of the heading `h`. Letters of the keys may be lost in `line`; `h` has B in place of each lost
+-- letter.
 pub record IsDamagedHeading (s : Day) (line : List ℕ) (h : Heading) : Type 0 where
   pub is_heading : IsHeading s h
   pub text : IsLineText (map filled_byte line) (line_of (heading_words h))

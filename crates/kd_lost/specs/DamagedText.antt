@@ -83,8 +83,8 @@ pub record AreLostCopies (received : List (Option ℕ)) (lost : LostCopies) : Ty
   pub at_start : IsTrue lost.at_start ↔ Any (λ got. got ≡ None) (take 10 received)
   pub at_end : IsTrue lost.at_end ↔ Any (λ got. got ≡ None) (drop (length received - 10) received)
 
--- The warnings in `shown` are right for the body `received`. They say what testing the group or the list letters gave,
--- and which copies of the indicators have lost letters.
+-- The warnings in `shown` are right for the body `received`. They give the result of testing the group or the list
+-- letters, and say which copies of the indicators have lost letters.
 abbrev pub AreWarnings : Day → Option Indicator → List (Option ℕ) → DamagedText → Type 0
 AreWarnings s (Some i) received shown = IsGroupTest s (slice_range received 2 5) shown.group × (shown.copies ≡ None)
 AreWarnings s None received shown =
@@ -115,8 +115,8 @@ abbrev pub text_window : Day → TextKeys → List ℕ
 text_window s (text_keys.Rotor i) = deciphered_key s i
 text_window s (text_keys.Pin pin) = pin.internal.items
 
--- `shown` has the text of the body `received`, with `None` for each lost letter. All other letters of the text are the
--- same, whatever the lost letters were. `shown` also has `received` itself, the keys, and the warnings. With these
+-- `shown` has the text of the body `received`, with `None` for each lost letter. The other letters of the text are
+-- right, whatever the lost letters were. `shown` also has `received` itself, the keys, and the warnings. With these
 -- keys, the machine deciphers the body to the letters in `shown`.
 pub record IsTextShown (s : Day) (i : Option Indicator) (received : List (Option ℕ))
     (shown : DamagedText) : Type 0 where

@@ -32,7 +32,7 @@ fitting_signs (letter ∷ word) (byte ∷ bytes) =
 fitting_signs [] bytes = 0
 fitting_signs (letter ∷ word) [] = 0
 
--- whether there is a byte that is a letter, capital or small
+-- whether the byte is a letter, capital or small; false for `None`
 unfoldable pub is_letter : Option ℕ → Bool
 is_letter None = false
 is_letter (Some byte) = is_capital (meant_byte byte)
@@ -122,12 +122,12 @@ abbrev pub after_word : List ℕ → List ℕ
 after_word [] = []
 after_word (byte ∷ bytes) = if is_blank byte || byte == 10 then byte ∷ bytes else after_word bytes
 
--- whether there is a byte that stands for a lost sign
+-- whether the byte stands for a lost sign; false for `None`
 abbrev pub is_lost_sign : Option ℕ → Bool
 is_lost_sign None = false
 is_lost_sign (Some byte) = is_lost byte
 
--- whether there is a byte that is a blank
+-- whether the byte is a blank; false for `None`
 abbrev pub is_blank_at : Option ℕ → Bool
 is_blank_at None = false
 is_blank_at (Some byte) = is_blank byte

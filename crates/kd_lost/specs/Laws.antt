@@ -1,4 +1,4 @@
--- The statements of this crate's laws about damaged parts, their ciphers, and forms of one message.
+-- This crate's laws about damaged parts, their ciphers, and forms of one message.
 use Rattle.std.specs.Prelude.{◌≡◌, ℕ, false, List, [], ◌∷◌, ◌++◌, All, IsTrue, true, map, slice_get, Option, Some, None}
 use Rattle.std.specs.Prelude.{Result, Ok}
 use Rattle.std.specs.List.{Contains}
@@ -64,8 +64,8 @@ abbrev pub IsReadWell : DamagedPart → Type 0
 IsReadWell read =
     (shown : DamagedText) × (read.text ≡ Ok shown) × (shown.group ≡ tests.Right) × AreWholeCopies shown.copies
 
--- If `receive` reads a form, all parts of the form are read without a warning. The letters of the parts, one part after
--- another, are the text of the form.
+-- If `receive` reads a form, all parts of the form are read without a warning. The text of the form is the letters of
+-- the parts, one part after another, and then an LF.
 abbrev pub FormsReadAreShownWhole : Type 0
 FormsReadAreShownWhole =
     (s : Day) (form text : List ℕ) (reads : List DamagedPart) → IsTextOf s form text

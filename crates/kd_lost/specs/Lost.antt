@@ -24,7 +24,7 @@ pub data MayHaveBeen (byte sent : ℕ) : Type 0 where
   AnyLetter : IsTrue (is_lost byte) → IsTrue (is_capital sent) → MayHaveBeen byte sent
   AsReceived : IsFalse (is_lost byte) → sent ≡ meant_byte byte → MayHaveBeen byte sent
 
--- `whole` is a completion of the bytes `received`. For each byte received, `whole` has a byte that may have been sent
+-- `whole` is a completion of the bytes `received`. For each received byte, `whole` has a byte that may have been sent
 -- at this place.
 abbrev pub IsCompletion : List ℕ → List ℕ → Type 0
 IsCompletion [] [] = Unit {0}

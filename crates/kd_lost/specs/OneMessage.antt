@@ -49,7 +49,7 @@ texts_agree (Ok one) (Ok other) =
 texts_agree (Ok one) (Err damage) = true
 texts_agree (Err damage) other = true
 
--- ---- Any two parts, be they read or not.
+-- ---- Any two parts, read or not.
 
 -- whether two bodies may be equal up to the end of the shorter body: at each place, the letters are equal or one is
 -- lost
@@ -108,7 +108,7 @@ abbrev pub is_stranger : DamagedPart → DamagedPart → Bool
 is_stranger one other =
     is_none (shown_text one) && (is_of_other_day one && not (is_of_other_day other))
 
--- whether neither of two parts is a stranger to the other part: see `is_stranger`
+-- whether neither of two parts may be from another day than the other part (see `is_stranger`)
 abbrev pub days_agree : DamagedPart → DamagedPart → Bool
 days_agree one other = not (is_stranger one other) && not (is_stranger other one)
 
@@ -134,8 +134,8 @@ abbrev pub numbers_agree : PartNumbers → PartNumbers → Bool → Bool
 numbers_agree one other agree =
     one.parts == other.parts && (not (one.part == other.part) || agree)
 
--- Whether two headings can be of one message, by `numbers_agree`. A damaged heading can be of one message with any
--- heading.
+-- Whether two headings can be of one message. If both are valid, `numbers_agree` decides. A damaged heading can be of
+-- one message with any heading.
 abbrev pub headings_agree : Option PartNumbers → Option PartNumbers → Bool → Bool
 headings_agree (Some one) (Some other) agree = numbers_agree one other agree
 headings_agree (Some one) None agree = true

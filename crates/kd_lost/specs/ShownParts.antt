@@ -64,7 +64,7 @@ is_text_worse counted one None = false
 abbrev pub is_worse : DamagedPart → DamagedPart → Bool
 is_worse one other = is_text_worse (is_err one.text && is_ok other.text) (shown_text one) (shown_text other)
 
--- `later`, if `later` has a better text than `part`, such as a text with fewer lost letters; otherwise `part`
+-- If `later` has a better text than `part`, such as a text with fewer lost letters, `later`. Otherwise `part`.
 abbrev pub better : DamagedPart → Option DamagedPart → Option DamagedPart
 better part None = Some part
 better part (Some later) =
@@ -92,8 +92,8 @@ is_covered_by parts text (Some numbers) = text_within text (text_in (shown_under
 abbrev pub is_covered : List DamagedPart → DamagedPart → Bool
 is_covered parts part = is_covered_by parts (shown_text part) part.numbers
 
--- Whether, for each of `parts`, the part that is shown under its number has all its letters. The shown parts are from
--- `all`. Parts without a number don't count.
+-- Whether the shown parts have all letters of `parts`: each part's letters must be in the part that is shown under its
+-- number. The shown parts are from `all`. Parts without a number don't count.
 abbrev pub are_covered : List DamagedPart → List DamagedPart → Bool
 are_covered all [] = true
 are_covered all (part ∷ parts) = is_covered all part && are_covered all parts

@@ -1,8 +1,8 @@
--- How noise is dropped from a form. Noise is bytes that no operator sent, such as a byte order mark, or lines typed
--- above the form. A byte order mark is dropped, and so are the lines before the first heading. But if one of these
--- lines begins like `PART`, or with two groups of five letters, it may belong to a part. Then all these lines stay. In
--- a heading, one blank stays between two words, and all other blanks are dropped. Bodies may have any spaces and line
--- ends.
+-- How noise is dropped from a form. Noise is bytes that no operator sent, such as a byte order mark, or lines that
+-- were typed above the form. A byte order mark is dropped, and so are the lines before the first heading. But if one
+-- of these lines begins like `PART`, or with two groups of five letters, it may belong to a part. Then all these lines
+-- stay. In a heading, one blank stays between two words, and all other blanks are dropped. Bodies may have any spaces
+-- and line ends.
 -- Test: tests/cases/curator-messages.toml
 use Rattle.std.specs.Prelude.{ℕ, ◌==◌, ◌&&◌, ◌||◌, Bool, true, if◌then◌else◌, List, [], ◌∷◌, ◌++◌, take, drop}
 use Rattle.std.specs.Prelude.{Option, None, Some, unwrap_or}
@@ -16,7 +16,7 @@ use Rattle.kd_lost.specs.DamagedPart.{first_line}
 abbrev pub without_mark : List ℕ → List ℕ
 without_mark form = if bytes_eq (take 3 form) (239 ∷ 187 ∷ 191 ∷ []) then drop 3 form else form
 
--- All bytes from the first heading after the first line on. `None` in two cases:
+-- The bytes that begin with the first heading after the first line. `None` in two cases:
 -- - No heading stands after the first line.
 -- - A line between the first line and this heading may belong to a part.
 abbrev pub later_heading : List ℕ → Option (List ℕ)

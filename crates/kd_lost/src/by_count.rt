@@ -14,9 +14,9 @@ use itoa::Buffer;
 use kd_state::SheetDay;
 use std::alloc::Global;
 
-/// The short line of `part`, if 50 letters on this line would make the heading's count right.
+/// If the short line of `part` explains the wrong count, this line. Otherwise `None`.
 ///
-/// Otherwise `None`.
+/// The line explains the count if the count would be right with 50 letters on the line.
 pub fn part_line(part: &DamagedPart) -> Option<ShortLine>
     ensures { result ≡ part_line part.now }
 {

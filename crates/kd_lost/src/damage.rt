@@ -6,7 +6,7 @@
 /// wheel has the wheel's number, from 1 to 6.
 #[derive(Clone, Copy, Debug, PartialEq, Eq)]
 pub enum PartDamage {
-    /// The part doesn't begin with a valid heading of the day's model. A heading may be valid though letters of its
+    /// The part doesn't begin with a valid heading of the day's model. A heading may be valid even if letters of its
     /// keys are lost.
     HeadingDamaged,
     /// A letter of the ground setting or of the enciphered message key is lost in the heading.

@@ -145,8 +145,8 @@ fn read_placed(
     }
 }
 
-/// Reads `part` as it stands, if its first line is a heading. Otherwise reads `part` with single spaces between the
-/// words of the first line.
+/// If the first line of `part` is a heading, reads `part` as it stands. Otherwise reads `part` with single spaces
+/// between the words of the first line.
 fn read_as_meant(
     alloc: Global,
     day: &SheetDay,

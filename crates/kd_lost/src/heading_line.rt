@@ -40,7 +40,7 @@ fn has_short_word(bytes: &[u8]) -> bool
     is_blank_at(bytes.get(3).copied()) || is_blank_at(bytes.get(4).copied())
 }
 
-/// Whether there is a byte that is a blank.
+/// Whether `byte` is a blank. False for `None`.
 fn is_blank_at(byte: Option<u8>) -> bool
     ensures { result ≡ is_blank_at byte }
 {
@@ -273,7 +273,7 @@ fn is_letter_at(bytes: &[u8], place: usize) -> bool
     is_letter(bytes.get(place).copied())
 }
 
-/// Whether there is a byte that is a letter, capital or small.
+/// Whether `byte` is a letter, capital or small. False for `None`.
 #[tactic(auto, unfolding(crate::specs::HeadingLine::is_letter))]
 fn is_letter(byte: Option<u8>) -> bool
     ensures { result ≡ is_letter byte }

@@ -2,7 +2,7 @@
 ghost use Rattle.kd_lost.specs.Laws.{CiphersAgreeWhereTextsDo, PartsReadAreShownWhole, PartsReadHaveNumbers};
 ghost use Rattle.kd_lost.specs.Laws.{FormsReadAreShownWhole, FormsReadAreTidy, FormsReadHaveTheirParts, RepetitionsAgree};
 
-/// Where two texts have the same letter, their ciphertexts under one key have the same letter.
+/// If two texts have the same letter at a place, their ciphertexts under one key have the same letter there.
 ///
 /// The texts may differ at all other places.
 #[tactic(auto, using(crate::proofs::Ciphers::ciphers_agree))]
@@ -18,7 +18,7 @@ pub fn parts_read_are_shown_whole()
 
 /// If `receive` reads a form, this crate shows the text that `receive` gives, without a warning.
 ///
-/// The form's parts are those that `receive` finds, and nothing before the first heading is dropped.
+/// This crate finds the same parts as `receive`, and drops nothing before the first heading.
 pub fn forms_read_are_shown_whole()
     ensures tidy { FormsReadAreTidy }
     ensures parts { FormsReadHaveTheirParts }

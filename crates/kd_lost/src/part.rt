@@ -57,7 +57,7 @@ pub struct DamagedPart {
     /// The first short line of the body: it has letters, but not exactly 50, and letters follow the line. `None` if no
     /// line is short.
     pub short_line: Option<ShortLine>,
-    /// The number of the first group that doesn't have five letters, though letters follow the group. `None` if each
+    /// The number of the first short group: it doesn't have five letters, and more letters follow. `None` if each
     /// group but the last has five letters.
     pub short_group: Option<usize>,
     /// Whether needless blanks in the part's first line were dropped. They are dropped if the line, with its blanks,
@@ -76,9 +76,9 @@ pub struct DamagedPart {
 pub struct PartNumbers {
     /// The part's number, counted from 1.
     pub part: u8,
-    /// How many parts the form has, as the heading says.
+    /// The number of parts that the heading gives.
     pub parts: u8,
-    /// How many letters the body has, as the heading says.
+    /// The letter count in the heading.
     pub letters: usize,
 }
 

@@ -82,7 +82,7 @@ fn completed_byte(
     }
 }
 
-/// The received letter at `place` of the part `read`, from the first copy of this part that has the letter.
+/// The letter at `place` of the part `read`. It comes from the first copy of this part in which the letter isn't lost.
 fn known_letter(
     copies: &[DamagedPart],
     read: &DamagedPart,

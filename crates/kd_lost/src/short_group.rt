@@ -1,4 +1,4 @@
-//! The first *short group* of a body: it doesn't have five letters, though letters follow the group.
+//! The first *short group* of a body: it doesn't have five letters, and more letters follow.
 ghost use Rattle.std.specs.Prelude.{◌≡◌, ◌≤◌, ◌^◌, ◌+◌, ◌<◌, if◌then◌else◌, is_some};
 ghost use Rattle.kd_lost.specs.Lost.{received_letter};
 ghost use Rattle.kd_lost.specs.ShortGroup.{IsFirstShortGroup};
@@ -8,7 +8,7 @@ use crate::short_line::letters_on;
 
 /// The number of the first short group of `body`, counted from 1.
 ///
-/// A short group doesn't have five letters, though letters follow the group.
+/// A short group doesn't have five letters, and more letters follow.
 pub(crate) fn first_short_group(body: &[u8]) -> Option<usize>
     ensures { IsFirstShortGroup body.now result }
 {

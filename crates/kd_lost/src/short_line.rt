@@ -5,7 +5,7 @@ ghost use Rattle.kd_lost.specs.ShortLine.{is_short, letters_on, short_line};
 use crate::received::letter_count;
 use kd_tables::split_once;
 
-/// A line of a body that has letters, but not exactly 50, though letters follow it.
+/// A short line of a body: it has letters, but not exactly 50, and letters follow it.
 #[derive(Clone, Copy, Debug, PartialEq, Eq)]
 pub struct ShortLine {
     /// The line's number in the part, counted from 1. The heading is line 1.

@@ -108,9 +108,8 @@ pub fn is_one_message(parts: &[DamagedPart]) -> bool
     are_of_one_message(parts) && are_covered(parts, parts)
 }
 
-/// Whether, for each of `parts`, the part that is shown under its number has all its letters.
-///
-/// The shown parts are from `all`. Parts without a number don't count.
+/// Whether the shown parts have all letters of `parts`: each part's letters must be in the part that is shown under
+/// its number. The shown parts are from `all`. Parts without a number don't count.
 fn are_covered(all: &[DamagedPart], parts: &[DamagedPart]) -> bool
     ensures { result ≡ are_covered all.now parts.now }
 {

@@ -1,4 +1,5 @@
-//! Drops noise from forms: bytes that no operator sent, such as a byte order mark, or lines typed above the form.
+//! Drops noise from forms: bytes that no operator sent, such as a byte order mark, or lines that were typed above the
+//! form.
 ghost use Rattle.std.specs.Prelude.{◌≡◌, ◌++◌, None, Some, MatchOption, MatchResult};
 ghost use Rattle.kd_lost.specs.DamagedPart.{first_line};
 ghost use Rattle.kd_lost.specs.Tidy.{as_space, ends_word, from_line_end, is_gap, later_heading, respaced};
@@ -39,7 +40,7 @@ fn without_mark(form: &[u8]) -> &[u8]
     }
 }
 
-/// All bytes from the first heading after the first line on. `None` in two cases:
+/// The bytes that begin with the first heading after the first line. `None` in two cases:
 /// - No heading stands after the first line.
 /// - A line between the first line and this heading may belong to a part. A part with a damaged heading mustn't be
 ///   dropped in silence.

@@ -1,4 +1,4 @@
--- What the laws of this crate say about the rows of a page, and about the page for receiving a whole message.
+-- This crate's laws about the rows of a page, and about the page for receiving a whole message.
 use Rattle.std.specs.Prelude.{◌≡◌, ℕ, ◌≤◌, List, [], ◌∷◌, ◌++◌, All, Contains, IsFalse, IsTrue, filter, flat_map, length, map, slice_get, Option, Some, None, Ok}
 use Rattle.std.specs.List.{range_with_len}
 use Rattle.kd_state.specs.SheetDay.{Day, day_model}
@@ -42,7 +42,7 @@ letter_of signs.Open = None
 letter_of signs.Lost = None
 letter_of (signs.Letter letter) = Some letter
 
--- those of `cells` whose letters the operator presses
+-- the cells whose letters the operator presses
 abbrev pub pressed_of : List Cell → List Cell
 pressed_of cells = filter (λ cell. cell.is_pressed) cells
 
@@ -70,8 +70,8 @@ abbrev pub message_letters : List DamagedPart → List (Option ℕ)
 message_letters parts =
     flat_map (λ number. letters_of_part (shown_under parts number)) (range_with_len 1 (total_of parts))
 
--- If `desk receive` reads a form, the form is one whole message. The page shows a text for each part number. Joined in
--- the order of the numbers, these texts are the text that `desk receive` gives.
+-- If `desk receive` reads a form, the form is one whole message. The page shows a text for each part number. If these
+-- texts are joined in the order of the numbers, with an LF at the end, they are the text that `desk receive` gives.
 abbrev pub FormsReadAreWhole : Type 0
 FormsReadAreWhole =
     (s : Day) (form text : List ℕ) (parts : List DamagedPart) → IsTextOf s form text → AreFormParts s form parts

@@ -13,8 +13,8 @@ use Rattle.kd_part_sheet.specs.declared.markup.TheConstants.{SECTION_END}
 use Rattle.kd_message.specs.declared.texts.TheConstants as texts
 use Rattle.kd_message.specs.TextSheet.{heading_fault}
 
--- The words that say where a part without a number stands: after the part with the number `after`. If `after` is 0, it
--- stands before all numbered parts.
+-- The words that say where a part without a number stands: after the part with the number `after`. If `after` is 0,
+-- the part stands before all numbered parts.
 abbrev pub lone_words : Language → ℕ → List ℕ
 lone_words l after =
     if after == 0 then text_in l texts.LONE_FIRST else filled (text_in l texts.LONE_AFTER) (decimal after ∷ [])
@@ -23,7 +23,8 @@ lone_words l after =
 unfoldable pub listed_lone : Language → ℕ → List ℕ
 listed_lone l after = texts.LISTED_LONE.now ++ lone_words l after ++ text_in l texts.LISTED_LONE_END
 
--- the words that say what to ask for: the heading, or the whole part if no letter of the body came (`came` is 0)
+-- What to ask for, in words. If no letter of the body came (`came` is 0), it is the whole part. Otherwise, it is the
+-- heading.
 abbrev pub lone_asked : Language → ℕ → List ℕ
 lone_asked l came = if came == 0 then text_in l texts.ALL_OF_IT else text_in l texts.ITS_HEADING
 

@@ -29,8 +29,8 @@ unfoldable pub note_line : Language → PartName → List ℕ → List ℕ → L
 note_line l name reason words =
     note_name l name ++ reason ++ text_in l texts.NOTE_ASK ++ words ++ texts.NOTE_END.now
 
--- the note that the form is from another day or network; empty unless the part's indicator group or list letters show
--- this
+-- the note that the form is from another day or network; empty if the part's indicator group or list letters don't
+-- show this
 abbrev pub day_note : Language → PartName → GroupTest → List ℕ
 day_note l name group = if is_wrong_day group then note_name l name ++ text_in l texts.NOTE_OTHER_DAY else []
 
@@ -69,7 +69,7 @@ part_note l name part = part_note_of l name part part.text
 abbrev pub missing_note : Language → PartName → List ℕ
 missing_note l name = note_line l name (text_in l texts.DID_NOT_COME) (text_in l texts.ALL_OF_IT)
 
--- the words that say what to ask for if a part has no number
+-- for a part without a number, the words that say what to ask for
 abbrev pub lone_asked_note : Language → ℕ → List ℕ
 lone_asked_note l came = text_in l texts.NOTE_ASK ++ lone_asked l came ++ texts.ASKED_END.now
 

@@ -71,7 +71,7 @@ counted_or_damage l s name part damage (Some shown) =
     counted_text l (sheet_to_receive (day_model s)) s name part damage shown
 counted_or_damage l s name part damage None = damage_text l (sheet_to_receive (day_model s)) name part damage
 
--- a part's text, else its text by count, else the reason why the part isn't read
+-- a part's text; if it has none, its text by count; if it has neither, the reason why the part isn't read
 abbrev pub text_or_damage : Language → Day → PartName → DamagedPart → Result DamagedText PartDamage → List ℕ
 text_or_damage l s name part (Ok shown) = read_text l (sheet_to_receive (day_model s)) s name shown
 text_or_damage l s name part (Err damage) = counted_or_damage l s name part damage part.by_count
@@ -89,7 +89,7 @@ abbrev pub part_text : Language → Day → PartName → ℕ → DamagedPart →
 part_text l s name times part =
     text_part_head l name ++ came_text l times ++ text_or_damage l s name part part.text ++ SECTION_END.now
 
--- what section `section` has for a part that came `times` times
+-- the text of section `section` about a part that came `times` times
 abbrev pub part_in : Section → Language → Day → PartName → ℕ → DamagedPart → List ℕ
 part_in sections.Listed l s name times part = listed_text l name (shown_text part)
 part_in (sections.Worked results) l s name times part = worked_text l s name (shown_text part)
@@ -100,15 +100,15 @@ part_in (sections.Texts results) l s name times part = part_text l s name times 
 abbrev pub missing_part_text : Language → PartName → List ℕ
 missing_part_text l name = text_part_head l name ++ missing_text l name ++ SECTION_END.now
 
--- what section `section` has for a part that didn't come
+-- the text of section `section` about a part that didn't come
 abbrev pub missing_in : Section → Language → PartName → List ℕ
 missing_in sections.Listed l name = listed_unread l name
 missing_in (sections.Worked results) l name = []
 missing_in sections.Noted l name = missing_note l name
 missing_in (sections.Texts results) l name = missing_part_text l name
 
--- What section `section` has for a part without a number. `after` is the number of the last numbered part before this
--- part.
+-- The text of section `section` about a part without a number. `after` is the number of the last numbered part before
+-- this part.
 abbrev pub lone_in : Section → Language → Day → ℕ → DamagedPart → List ℕ
 lone_in sections.Listed l s after part = listed_lone l after
 lone_in (sections.Worked results) l s after part = []
@@ -122,36 +122,36 @@ abbrev pub number_or : ℕ → Option PartNumbers → ℕ
 number_or before (Some numbers) = numbers.part
 number_or before None = before
 
--- What section `section` has for some unnumbered parts of a list: for each of them, the last numbered part before it
--- has the number `after`. If `after` is 0, no numbered part stands before them. `before` is the number of the last
--- numbered part before the list; 0 if there is none.
+-- The text of section `section` about the unnumbered parts between part `after` and the next numbered part. If `after`
+-- is 0, about the parts before the first numbered part. `before` is the number of the last numbered part before the
+-- list; 0 if there is none.
 abbrev pub lone_after : Section → Language → Day → ℕ → ℕ → List DamagedPart → List ℕ
 lone_after section l s after before [] = []
 lone_after section l s after before (part ∷ parts) =
     (if is_none part.numbers && before == after then lone_in section l s after part else [])
     ++ lone_after section l s after (number_or before part.numbers) parts
 
--- What section `section` has for the part that is shown under a number. If no part is shown, this is what the section
--- has for a part that didn't come.
+-- The text of section `section` about the part that is shown under a part number. If no part is shown, the text about
+-- a part that didn't come.
 abbrev pub shown_in : Section → Language → Day → PartName → ℕ → Option DamagedPart → List ℕ
 shown_in section l s name times (Some part) = part_in section l s name times part
 shown_in section l s name times None = missing_in section l name
 
--- what section `section` has for the part with number `number`, then for the unnumbered parts after this part
+-- the text of section `section` about the part with number `number`, then about the unnumbered parts after this part
 abbrev pub number_in : Section → Language → Day → List DamagedPart → ℕ → List ℕ
 number_in section l s parts number =
     shown_in section l s (part_name (results_of section) s number (total_of parts)) (times_of parts number)
     (shown_under parts number)
     ++ lone_after section l s number 0 parts
 
--- What section `section` has for the parts of one message, in the order of their numbers. First come the unnumbered
--- parts at the beginning of the form. After each numbered part stand the unnumbered parts that came between it and the
--- next numbered part.
+-- The text of section `section` about the parts of one message, in the order of their numbers. First come the
+-- unnumbered parts at the beginning of the form. After each numbered part stand the unnumbered parts that came between
+-- it and the next numbered part.
 abbrev pub by_number : Section → Language → Day → List DamagedPart → List ℕ
 by_number section l s parts =
     lone_after section l s 0 0 parts ++ flat_map (number_in section l s parts) (range_with_len 1 (total_of parts))
 
--- ---- Parts that aren't of one message, as they came. Each has the sheet with the number of its place.
+-- ---- Parts that aren't of one message, as they came. Each part's sheet has the number of the part's place.
 
 abbrev pub name_at : Results → Day → ℕ → PartNumbers → PartName
 name_at results s place numbers = record {
@@ -163,15 +163,15 @@ name_at results s place numbers = record {
   results = results;
 }
 
--- What section `section` has for the part that has the place `place` in the order of arrival. `before` is the number of
--- the last numbered part before this part.
+-- The text of section `section` about the part that has the place `place` in the order of arrival. `before` is the
+-- number of the last numbered part before this part.
 abbrev pub part_at : Section → Language → Day → ℕ → ℕ → Option PartNumbers → DamagedPart → List ℕ
 part_at section l s place before (Some numbers) part =
     part_in section l s (name_at (results_of section) s place numbers) 1 part
 part_at section l s place before None part = lone_in section l s before part
 
--- What section `section` has for `parts`, in the order of arrival. The first of these parts has the place `place` in
--- this order. `before` is the number of the last numbered part before it.
+-- The text of section `section` about `parts`, in the order of arrival. The first of these parts has the place `place`
+-- in this order. `before` is the number of the last numbered part before it.
 abbrev pub as_they_came : Section → Language → Day → ℕ → ℕ → List DamagedPart → List ℕ
 as_they_came section l s place before [] = []
 as_they_came section l s place before (part ∷ parts) =
@@ -206,7 +206,7 @@ receive_text results l s parts =
 unfoldable pub receive_notes : Language → Day → List DamagedPart → List ℕ
 receive_notes l s parts = several_note l parts ++ section_text sections.Noted l s parts
 
--- ---- What `write_receive_page` answers.
+-- ---- The answer.
 
 -- What `write_receive_page` answers:
 -- - `ReceivedPageWritten`: the page was written, and the answer says whether the parts are one whole message. Or the

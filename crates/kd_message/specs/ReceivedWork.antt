@@ -58,7 +58,7 @@ received_work s shown = work_with s shown.keys shown
 
 -- ---- What the code holds. No public contract cites this definition.
 
--- A machine for the day `s` can show the letters of the given keys.
+-- A machine for the day `s` can show the letters of the keys.
 abbrev pub AreShowable : Day → TextKeys → Type 0
 AreShowable s (text_keys.Rotor i) = HasIndicator s (Some i)
 AreShowable s (text_keys.Pin k) =

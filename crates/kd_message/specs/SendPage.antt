@@ -110,7 +110,7 @@ sheets_text results l s place parts works made =
 unfoldable pub send_text : Language → Day → List ℕ → List ℕ
 send_text l s sheets = title_text l (text_in l texts.TITLE_TO_SEND) s ++ sheets ++ page_texts.FOOT.now
 
--- ---- What is worked for an order, and its form.
+-- ---- What the operator works out for an order, and the order's form.
 
 -- `works` has, for each part, the letters to press and the letters that light up. For this, each piece of the text is
 -- enciphered with the keys of its part.

@@ -140,8 +140,8 @@ run_length (group ∷ groups) = if has_lost group then run_length groups + 1 els
 
 -- The words for the groups with lost letters in a list that begins with group `number`. Groups in a row are named
 -- together, as *groups 3 to 5*. `first` stands before the first words, and commas stand between the words. If `before`
--- is true, the group just before the list also has lost letters. Then the words for it are already written. They also
--- name the groups with lost letters at the start of the list, so these are left out.
+-- is true, the group just before the list also has lost letters. Then this group is already named, together with the
+-- groups with lost letters at the start of the list. So these groups are left out.
 abbrev pub lost_groups : Language → List ℕ → Bool → ℕ → List (List (Option ℕ)) → List ℕ
 lost_groups l first before number [] = []
 lost_groups l first before number (group ∷ groups) =
@@ -200,7 +200,7 @@ warnings_of shown = record {
 abbrev pub text_begin : Model → List ℕ
 text_begin model = if is_converter model then texts.TEXT_WORDS.now else texts.TEXT_LETTERS.now
 
--- the checkbox to ask for the groups in which letters are lost, if there are any
+-- the checkbox to ask for the groups with lost letters; empty if no letter is lost
 abbrev pub ask_for_lost : Language → PartName → List (Option ℕ) → List ℕ
 ask_for_lost l name letters =
     if has_lost letters
@@ -279,7 +279,7 @@ abbrev pub short_text : Language → ℕ → Option ShortLine → List ℕ
 short_text l line (Some short) = short_words l line short
 short_text l line None = []
 
--- The words that say what to ask for if the count is wrong or damaged:
+-- If the count is wrong or damaged, the words that say what to ask for:
 -- - if a group is short: the count, and the first short group
 -- - if no group is short, and the count is damaged: the count
 -- - if no group is short, and the count is wrong: the count, or the part's lines if the other station says that the
@@ -289,14 +289,14 @@ count_asked l damage (Some group) = text_in l texts.ITS_COUNT ++ COMMA.now ++ gr
 count_asked l damages.HeadingDamaged None = text_in l texts.ITS_COUNT
 count_asked l _ None = text_in l texts.ITS_COUNT_OR_LINES
 
--- The words that say what to ask for if a part isn't read because its count is wrong. If a short line explains the
+-- If a part isn't read because its count is wrong, the words that say what to ask for. If a short line explains the
 -- wrong count, the words name the ten groups of this line. Otherwise, they are the words of `count_asked`.
 abbrev pub short_groups : Language → Option ℕ → Option ShortLine → List ℕ
 short_groups l group (Some short) = groups_words l (short.before / 5 + 1) (short.before / 5 + 10)
 short_groups l group None = count_asked l damages.CountWrong group
 
--- the sentences about a wrong count: the heading's count, the number of letters that came, and the short line that
--- explains the difference, if there is one
+-- The sentences about a wrong count: the heading's count, and the number of letters that came. If a short line
+-- explains the difference, also how many letters it has.
 unfoldable pub count_text : Language → DamagedPart → List ℕ
 count_text l part =
     counts_text l part.line (heading_count part.numbers) part.came ++ short_text l part.line (part_line part)
@@ -314,13 +314,13 @@ reason_text l part (damages.KeyLetterLost number) =
 reason_text l part damages.KeyNotOnWheel = text_in l texts.KEY_NOT_ON_WHEEL
 reason_text l part damages.NoInternalKey = text_in l texts.NO_INTERNAL_KEY
 
--- The words that say what to ask for if a letter of the ground setting or of the enciphered key is lost. The words name
--- both keys, and each group of the text with a lost letter or a wrong sign. `body` has the letters of the body; its
--- text begins with the second group.
+-- If a letter of the ground setting or of the enciphered key is lost, the words that say what to ask for. The words
+-- name both keys, and each group of the text with a lost letter or a wrong sign. `body` has the letters of the body;
+-- its text begins with the second group.
 abbrev pub keys_and_groups : Language → List (Option ℕ) → List ℕ
 keys_and_groups l body = text_in l texts.ITS_KEYS ++ lost_groups l COMMA.now false 2 (pieces 5 (drop 5 body))
 
--- the words that say what to ask for if a part isn't read
+-- for a part that isn't read, the words that say what to ask for
 abbrev pub asked_words : Language → DamagedPart → PartDamage → List ℕ
 asked_words l part damages.HeadingDamaged =
     if part.came == 0 then text_in l texts.ALL_OF_IT else text_in l texts.ITS_HEADING

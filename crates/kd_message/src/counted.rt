@@ -67,10 +67,10 @@ fn draw_damaged_count<W: Sink>(sink: &mut W, language: Language, line: usize, ca
     draw_in(sink, language, COUNT_DAMAGED_END);
 }
 
-/// Writes the number of the first short group. If no group is short, writes that the number of letters that came may be
-/// right.
+/// Writes the number of the first short group. If no group is short, writes that the number of letters that came may
+/// be right.
 ///
-/// A short group doesn't have five letters, though letters follow the group.
+/// A short group doesn't have five letters, and more letters follow.
 pub(crate) fn draw_groups_told<W: Sink>(
     sink: &mut W,
     language: Language,

@@ -4,14 +4,14 @@ ghost use Rattle.kd_message.specs.Laws.{FormsReadAreWhole, NothingReadIsHidden, 
 ghost use Rattle.kd_message.specs.Laws.{RepetitionsHaveTheLetters, WholeMessagesAreOnThePage, WholeMessagesAreRead};
 ghost use Rattle.kd_message.specs.Laws.{SheetsHaveTheirOwnNumbers, WholeMessagesHaveOneTotal};
 
-/// The lamps of a row depend only on the letters pressed in the row, and on the windows at its start.
+/// The lamps of a row depend only on the letters that are pressed in the row, and on the windows at the row's start.
 ///
 /// So an operator can encipher a row without enciphering the rows before it.
 pub fn rows_are_enciphered()
     ensures { RowsAreEnciphered }
 {}
 
-/// On a received part's sheet, the letters below the line to write on are the plaintext of those above it.
+/// On a received part's sheet, the letters below the line to write on are the plaintext of the letters above it.
 ///
 /// For lost letters, the operator may press any keys.
 pub fn rows_are_deciphered()
@@ -48,9 +48,10 @@ pub fn whole_messages_are_on_the_page()
     ensures { WholeMessagesAreOnThePage }
 {}
 
-/// From one part for each number, `desk receive` gives the text that a whole message's page shows.
+/// If a form has one part for each number of a whole message, `desk receive` gives the text that the message's page
+/// shows.
 ///
-/// These parts are in the order of their numbers. The form must have no lost letter, no small letter, no tab, and no
+/// The parts must be in the order of their numbers. The form must have no lost letter, no small letter, no tab, and no
 /// needless blank in a heading.
 pub fn whole_messages_are_read()
     ensures { WholeMessagesAreRead }

@@ -20,8 +20,8 @@ use kd_pictures::{draw, draw_in};
 use kd_state::SheetDay;
 use kd_tables::{Model, Sink};
 
-/// Writes where a part without a number stands: after the part with the number `after`. If `after` is 0, it stands
-/// before all numbered parts.
+/// Writes where a part without a number stands: after the part with the number `after`. If `after` is 0, the part
+/// stands before all numbered parts.
 pub(crate) fn draw_lone_words<W: Sink>(sink: &mut W, language: Language, after: u8)
     ensures { Draws W.taken W.has_failed sink.old sink.new (lone_words language after) }
 {
@@ -127,7 +127,8 @@ fn draw_lone_ask<W: Sink>(sink: &mut W, language: Language, part: &DamagedPart)
     }
 }
 
-/// Writes the checkbox to ask for the heading, or for the whole part if no letter of the body came (`came` is 0).
+/// Writes the checkbox to ask for the heading. If no letter of the body came (`came` is 0), the checkbox asks for the
+/// whole part.
 fn draw_lone_box<W: Sink>(sink: &mut W, language: Language, came: usize)
     ensures { Draws W.taken W.has_failed sink.old sink.new (lone_box language came) }
 {
@@ -136,7 +137,8 @@ fn draw_lone_box<W: Sink>(sink: &mut W, language: Language, came: usize)
     draw(sink, ASK_END);
 }
 
-/// The words that say what to ask for: the heading, or the whole part if no letter of the body came (`came` is 0).
+/// What to ask for, in words. If no letter of the body came (`came` is 0), it is the whole part. Otherwise, it is the
+/// heading.
 pub(crate) fn lone_asked(language: Language, came: usize) -> &'static str
     ensures { result.now ≡ lone_asked language came }
 {

@@ -51,7 +51,7 @@ pub(crate) fn take_piece<'a>(day: &SheetDay, text: &'a [u8]) -> (ArrayVec<Letter
     (letters, &[])
 }
 
-/// Appends the letter that `byte` stands for, if any.
+/// If `byte` stands for a letter, appends this letter.
 fn push_letter(letters: &mut ArrayVec<Letter, 500>, for_space: &Option<Letter>, byte: u8)
     requires { length letters.old.items < 500 }
     ensures { letters.new.items ≡ letters.old.items ++ letters_from for_space.now (byte ∷ []) }

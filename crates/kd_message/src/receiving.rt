@@ -178,7 +178,7 @@ struct PageSection {
     language: Language,
 }
 
-/// Writes what the section has for the parts of one message, in the order of their numbers.
+/// Writes the section's text about the parts of one message, in the order of their numbers.
 ///
 /// First come the unnumbered parts at the beginning of the form. After each numbered part stand the unnumbered parts
 /// that came between it and the next numbered part.
@@ -191,7 +191,7 @@ fn draw_by_number<W: Sink>(sink: &mut W, page: PageSection, day: &SheetDay, part
     draw_numbers(sink, page, day, parts, 1, u16::from(total_of(parts)));
 }
 
-/// Writes what the section has for the parts with `count` successive numbers, from `number` on.
+/// Writes the section's text about the parts with `count` successive numbers, from `number` on.
 fn draw_numbers<W: Sink>(
     sink: &mut W,
     page: PageSection,
@@ -212,8 +212,7 @@ fn draw_numbers<W: Sink>(
     }
 }
 
-/// Writes what the section has for the part with `number`, then for the unnumbered parts after this
-/// part.
+/// Writes the section's text about the part with `number`, then about the unnumbered parts after this part.
 fn draw_number<W: Sink>(
     sink: &mut W,
     page: PageSection,
@@ -230,8 +229,8 @@ fn draw_number<W: Sink>(
     draw_lone_after(sink, page, day, number as u8, 0, parts);
 }
 
-/// Writes what the section has for the part that is shown under `number`. If no part is shown,
-/// writes what the section has for a part that didn't come.
+/// Writes the section's text about the part that is shown under `number`. If no part is shown, writes the section's
+/// text about a part that didn't come.
 fn draw_shown<W: Sink>(
     sink: &mut W,
     page: PageSection,
@@ -256,10 +255,10 @@ fn draw_shown<W: Sink>(
     }
 }
 
-/// Writes what the section has for some unnumbered parts of the list `parts`.
+/// Writes the section's text about the unnumbered parts in `parts` between part `after` and the next numbered part.
 ///
-/// For each of these parts, the last numbered part before it has the number `after`. If `after` is 0, no numbered part
-/// stands before them. `before` is the number of the last numbered part before the list; 0 if there is none.
+/// If `after` is 0, about the parts before the first numbered part. `before` is the number of the last numbered part
+/// before the list; 0 if there is none.
 fn draw_lone_after<W: Sink>(
     sink: &mut W,
     page: PageSection,
@@ -301,7 +300,7 @@ fn number_or(before: u8, numbers: &Option<PartNumbers>) -> u8
     }
 }
 
-/// Writes what the section has for a part without a number, if `is_there` is true.
+/// If `is_there` is true, writes the section's text about a part without a number.
 ///
 /// Otherwise writes nothing. `after` is the number of the last numbered part before this part.
 fn draw_lone_if<W: Sink>(
@@ -322,8 +321,8 @@ fn draw_lone_if<W: Sink>(
     }
 }
 
-/// Writes what the section has for a part without a number. `after` is the number of the last
-/// numbered part before this part.
+/// Writes the section's text about a part without a number. `after` is the number of the last numbered part before
+/// this part.
 fn draw_lone<W: Sink>(
     sink: &mut W,
     page: PageSection,
@@ -343,7 +342,7 @@ fn draw_lone<W: Sink>(
     }
 }
 
-/// Writes what the section has for `parts`, in the order of arrival. The first of these parts has the place `place` in
+/// Writes the section's text about `parts`, in the order of arrival. The first of these parts has the place `place` in
 /// this order. `before` is the number of the last numbered part before it.
 fn draw_as_they_came<W: Sink>(
     sink: &mut W,
@@ -365,7 +364,7 @@ fn draw_as_they_came<W: Sink>(
     }
 }
 
-/// Writes what the section has for the part that has the place `place` in the order of arrival.
+/// Writes the section's text about the part that has the place `place` in the order of arrival.
 ///
 /// `before` is the number of the last numbered part before this part.
 fn draw_part_at<W: Sink>(
@@ -403,7 +402,7 @@ fn name_at(results: Results, day: &SheetDay, place: u8, numbers: &PartNumbers) -
     }
 }
 
-/// Writes what the section has for a part that came `times` times.
+/// Writes the section's text about a part that came `times` times.
 fn draw_part<W: Sink>(
     sink: &mut W,
     page: PageSection,
@@ -451,7 +450,7 @@ fn draw_listed_unread<W: Sink>(sink: &mut W, language: Language, name: PartName)
     );
 }
 
-/// Writes the sheet for a part, if the part is read.
+/// If a part is read, writes the sheet for this part.
 fn draw_worked<W: Sink>(
     sink: &mut W,
     language: Language,
@@ -545,7 +544,7 @@ fn draw_text_or_damage<W: Sink>(
     }
 }
 
-/// Writes what the section has for a part that didn't come.
+/// Writes the section's text about a part that didn't come.
 fn draw_missing_in<W: Sink>(sink: &mut W, page: PageSection, name: PartName)
     ensures { Draws W.taken W.has_failed sink.old sink.new
         (missing_in page.section page.language name) }

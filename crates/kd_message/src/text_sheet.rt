@@ -130,7 +130,7 @@ fn draw_heading_words<W: Sink>(sink: &mut W, numbers: &PartNumbers)
     draw_count(sink, usize::from(numbers.parts));
 }
 
-/// Writes how often a part came, if the part came more than once.
+/// If a part came more than once, writes how often it came.
 pub(crate) fn draw_came<W: Sink>(sink: &mut W, language: Language, times: usize)
     ensures { Draws W.taken W.has_failed sink.old sink.new (came_text language times) }
 {
@@ -325,7 +325,7 @@ fn is_not_tested(group: GroupTest) -> bool
     }
 }
 
-/// Writes the checkbox to ask for the groups in which letters are lost, if there are any.
+/// If letters are lost, writes the checkbox to ask for the groups with lost letters.
 fn draw_ask_for_lost<W: Sink>(
     sink: &mut W,
     language: Language,

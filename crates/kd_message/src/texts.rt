@@ -308,8 +308,8 @@ pub const NO_INTERNAL_KEY: Text = (
     "Die Kennbuchstaben ergeben keinen inneren Schlüssel.",
 );
 
-/// The head of the sheet with the form for the radio, up to an order's number, if there is one. `FORM` is the rest of
-/// this head; its values are the model and the day.
+/// The start of the sheet with the form for the radio. An order's number follows, if there is one, and then `FORM`.
+/// The values of `FORM` are the model and the day.
 pub const FORM_ID: &str = "<article id=form";
 
 pub const FORM: Text = (

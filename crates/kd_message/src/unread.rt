@@ -208,8 +208,8 @@ pub(crate) fn draw_counts<W: Sink>(sink: &mut W, language: Language, part: &Dama
     draw_in(sink, language, COUNT_END);
 }
 
-/// Writes the heading's count, the number of letters that came, and the short line that explains the difference, if
-/// there is one.
+/// Writes the heading's count, and the number of letters that came. If a short line explains the difference, writes
+/// how many letters it has.
 fn draw_count_wrong<W: Sink>(sink: &mut W, language: Language, part: &DamagedPart)
     ensures { Draws W.taken W.has_failed sink.old sink.new (count_text language part.now) }
 {
@@ -237,7 +237,7 @@ fn draw_short_words<W: Sink>(sink: &mut W, language: Language, line: usize, shor
     draw_in(sink, language, FULL_LINE);
 }
 
-/// Writes what to ask for if a part isn't read because its count is wrong.
+/// If a part isn't read because its count is wrong, writes what to ask for.
 ///
 /// If the short line `short` explains the wrong count, asks for the ten groups of this line.
 fn draw_short_groups<W: Sink>(
@@ -257,8 +257,8 @@ fn draw_short_groups<W: Sink>(
     }
 }
 
-/// Writes what to ask for if the count is wrong or damaged. `group` is the number of the first short group. A short
-/// group doesn't have five letters, though letters follow the group.
+/// If the count is wrong or damaged, writes what to ask for. `group` is the number of the first short group. A short
+/// group doesn't have five letters, and more letters follow.
 pub(crate) fn draw_count_asked<W: Sink>(
     sink: &mut W,
     language: Language,
@@ -313,7 +313,7 @@ fn key_letter_group(number: u8) -> usize
     if indicator_place(number) <= 5 { 1 } else { 2 }
 }
 
-/// Writes what to ask for if a part isn't read.
+/// For a part that isn't read, writes what to ask for.
 pub(crate) fn draw_asked<W: Sink>(
     sink: &mut W,
     language: Language,
@@ -343,10 +343,10 @@ pub(crate) fn draw_asked<W: Sink>(
     }
 }
 
-/// Writes what to ask for if a letter of the ground setting or of the enciphered key is lost.
+/// If a letter of the ground setting or of the enciphered key is lost, writes what to ask for.
 ///
-/// Asks for both keys, and for each group of the text with a lost letter or a wrong sign. `body` has the letters of the
-/// body.
+/// Asks for both keys, and for each group of the text with a lost letter or a wrong sign. `body` has the letters of
+/// the body.
 fn draw_keys_and_groups<W: Sink>(sink: &mut W, language: Language, body: &[Option<Letter>])
     requires { length body.now ≤ 525 }
     ensures { Draws W.taken W.has_failed sink.old sink.new

@@ -1,4 +1,4 @@
--- Files by their names, and what a new file adds to these files.
+-- Files by their names, before and after a new file is written.
 -- Code: `begin` makes the new file under another name, and `publish` renames it. Files in memory are a `BTreeMap`.
 -- Test: tests/new-files
 use Rattle.std.specs.Prelude.{codes, decimal, ◌≡◌, ◌≢◌, ◌≤◌, ◌++◌, ℕ, List, Option, Some, None, String, Vec, bytes_eq}
@@ -26,9 +26,8 @@ AddsFile (Some files) new name bytes = (files name ≡ None) × (new ≡ Some (w
 abbrev pub part_name : List ℕ → ℕ → List ℕ
 part_name name number = name ++ (codes ".part" ++ decimal number)
 
--- `fault` is the reason why no file could be begun for `name`. A taken name is no reason: after it, the next of the 100
--- names that `part_name` gives is tried. If the files are known, the reason is `Device` only if all 100 names are
--- taken.
+-- `fault` is the reason why no file could be begun for `name`. It isn't `Taken`: if a name is taken, the next of the
+-- 100 names of `part_name` is tried. If the files are known, and the reason is `Device`, all 100 names are taken.
 pub record IsWhyNotBegun (files : Option FilesByName) (name : List ℕ) (fault : NewFileFault) : Type 0 where
   pub other : fault ≢ Taken
   pub device : IfSome files (λ known. fault ≡ Device → (number : ℕ) → 1 ≤ number → number ≤ 100

@@ -12,8 +12,8 @@ pub trait NewFiles {
     /// A file that is being written.
     type Written: Sink + Drop;
 
-    /// The files, by their names. `None` if the files aren't known, as on the host. Known files are in memory, where no
-    /// device fails.
+    /// The files, by their names. `None` if the files aren't known. The host's files aren't known. Known files are in
+    /// memory, where no device fails.
     ///
     /// A file that is still being written counts as empty.
     ghost held: { Self → Option FilesByName } = { λ _. None };
@@ -29,8 +29,8 @@ pub trait NewFiles {
         ensures device { IfSome (held self.old) (λ _. result ≢ Err NewFileFault.Device) }
         ensures refused { OnErr result (held self.new ≡ held self.old) };
 
-    /// Stores all bytes written to `file`, and gives the file the second name `name`. The file was made under the name
-    /// `other`.
+    /// Stores all bytes that were written to `file`, and gives the file the second name `name`. The file was made
+    /// under the name `other`.
     ///
     /// Returns `Taken` if there already is a file called `name`.
     fn link(&mut self, file: Self::Written, other: &str, name: &str) -> Result<(), NewFileFault>
@@ -41,7 +41,7 @@ pub trait NewFiles {
         ensures device { IfSome (held self.old) (λ _. result ≢ Err NewFileFault.Device) }
         ensures refused { OnErr result (held self.new ≡ held self.old) };
 
-    /// Removes the name `name`, if the folder allows this.
+    /// If the folder allows it, removes the name `name`.
     fn remove(&mut self, name: &str)
         ensures { held self.new ≡ option_map (λ files. with_content files name.now None) (held self.old) };
 

@@ -5,12 +5,12 @@ ghost use Rattle.kd_new_file.specs.WhyUnread.{why_by_kind};
 
 use std::io;
 
-/// Why a file can't be opened or read, as far as the system says it.
+/// Why a file can't be opened or read: the reason that the system gives.
 #[derive(Clone, Copy, Debug, PartialEq, Eq)]
 pub enum WhyUnread {
     /// There is no file with this name.
     NotThere,
-    /// The name is the name of a folder.
+    /// A folder has this name.
     Folder,
     /// The user isn't allowed to read the file.
     NotAllowed,
@@ -19,7 +19,7 @@ pub enum WhyUnread {
 }
 
 impl WhyUnread {
-    /// The reason why a file can't be read, if opening it gives `error`.
+    /// Turns `error`, the fault of opening a file, into the reason why the file can't be read.
     pub fn of_error(error: &io::Error) -> WhyUnread
         ensures { result ≡ why_by_kind (error_kind error.now) }
     {

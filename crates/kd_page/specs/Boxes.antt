@@ -86,8 +86,8 @@ pin_mark effective = if effective then Effective else Ineffective
 abbrev pub pin_word : Bool → Word
 pin_word effective = if effective then On else Off
 
--- The checkbox of a setting on a page. For the setting TURN, only the setting's line, which stands within the checkbox
--- of a window or of a pin wheel's letter.
+-- The checkbox of a setting on a page. The setting TURN has only its line here, within the checkbox of a window or of
+-- a pin wheel's letter.
 abbrev pub box_text : Page → Setting → List ℕ
 box_text page (settings.Pull cable letter) =
     filled PLUG.now (letter_text letter ∷ setting_line (settings.Pull cable letter) ∷ [])

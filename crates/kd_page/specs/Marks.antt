@@ -1,5 +1,6 @@
--- A page marks a thing (a ring, a plug, a pin) as changed only if a setting of the page sets this thing. A Converter's
--- page also has marks for pins and lugs that stay. The laws in this file leave out the windows of an Enigma.
+-- If a page marks a part of the machine as changed, a setting of the page sets this part. A part is, for example, a
+-- ring or a plug. A Converter's page also has marks for pins and lugs that stay. The laws in this file leave out the
+-- windows of an Enigma.
 use Rattle.std.specs.Prelude.{◌≡◌, ℕ, nat_eq, Bool, true, false, ◌&&◌, List}
 use Rattle.std.specs.List.{list_any}
 use Rattle.kd_tables.specs.declared.wheel.Wheel.{Wheel}
@@ -12,7 +13,7 @@ use Rattle.kd_state.specs.Setting.{Leads}
 use Rattle.kd_pictures.specs.Board.{has_plug}
 use Rattle.kd_pictures.specs.Wheels.{is_seated}
 
--- ---- Whether a setting sets a thing.
+-- ---- Whether a setting sets a ring, a pin, or another part of the machine.
 
 abbrev pub sets_ring : Wheel → Setting → Bool
 sets_ring wheel (settings.RingTo other letter) = same_wheel wheel other
@@ -48,7 +49,7 @@ turns_pin_wheel wheel _ = false
 
 -- ---- The laws.
 
--- `m` is the machine before the settings `list`, and `n` is the machine after them. A thing that no setting of `list`
+-- `m` is the machine before the settings `list`, and `n` is the machine after them. A part that no setting of `list`
 -- sets is the same on both machines, so a page doesn't mark it as changed. A slot gets a new wheel only if `list` puts
 -- this wheel into the slot.
 pub record MarksHaveSettings (m n : Parts) (list : List Setting) : Type 0 where

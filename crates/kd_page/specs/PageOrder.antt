@@ -15,7 +15,7 @@ use Rattle.kd_page.specs.Spots.{cell_of, is_at, row_of, row_spot, step_of, step_
 abbrev pub settings_at : Spot → List Setting → List Setting
 settings_at spot settings = filter (is_at spot) settings
 
--- those settings whose checkboxes are in the rows `rows` of the table of `step`, row by row
+-- the settings whose checkboxes are in the rows `rows` of the table of `step`, row by row
 abbrev pub row_by_row : Step → List ℕ → List Setting → List Setting
 row_by_row step rows settings = flat_map (λ row. settings_at (row_spot step row) settings) rows
 

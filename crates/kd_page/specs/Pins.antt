@@ -47,8 +47,8 @@ abbrev pub pin_item : Page → ℕ → ℕ → Bool → List ℕ
 pin_item page wheel letter effective =
     cell_text (is_same_pin effective (machine_pin page.before wheel letter)) ++ pin_inside page wheel letter effective
 
--- The cell of a pin, as the pin is after the settings. The cell is framed if the pin changes, and empty if the wheel
--- doesn't have the letter.
+-- The cell of a pin. It shows the pin after the settings. The cell is framed if the pin changes, and empty if the
+-- wheel doesn't have the letter.
 abbrev pub pin_cell : Page → ℕ → ℕ → Option Bool → List ℕ
 pin_cell page wheel letter None = texts.NO_PIN.now
 pin_cell page wheel letter (Some effective) = pin_item page wheel letter effective

@@ -57,12 +57,12 @@ again_all separator has_number m =
 abbrev pub letters_again : Parts → List ℕ
 letters_again m = if is_converter (model_of m) then again_all (codes " ") false m else again_all (codes ", ") true m
 
--- the end of the sentence about the letters to set again, and a line on which to write the letters when the machine is
--- put away
+-- The end of the sentence about the letters to set again. Then a field for the letters that the machine shows when it
+-- is put away.
 abbrev pub again_end : Language → Model → List ℕ
 again_end l model = if is_converter model then text_in l texts.AGAIN_END_PIN else text_in l texts.AGAIN_END_ROTOR
 
--- the note that fewer than `count` settings aren't possible; nothing if there are no settings
+-- the note that the page has `count` settings, and that fewer aren't possible; nothing if `count` is 0
 abbrev pub fewest_text : Language → ℕ → List ℕ
 fewest_text l count = if count == 0 then [] else filled (text_in l texts.FEWEST) (count_text l count ∷ [])
 

@@ -40,7 +40,7 @@ has_lone_wheel m n (slot ∷ slots) = is_some (lone_wheel m n slot) || has_lone_
 
 -- ---- The wheels that come from the box.
 
--- the wheel that comes from the box into slot `slot`, if one does, with the letter of the wheel's ring on machine `m`
+-- for a slot whose wheel comes from the box: this wheel, and the letter of its ring on machine `m`; otherwise `None`
 abbrev pub wheel_from_box : Page → Parts → ℕ → Option (Wheel × ℕ)
 wheel_from_box page m slot =
     option_and_then (λ wheel. option_map (λ ring. (wheel, ring)) (machine_ring m wheel))
@@ -51,7 +51,8 @@ from_box_shown None = []
 from_box_shown (Some (wheel, ring)) =
     filled BOX_WHEEL.now (wheel_text wheel ∷ letter_text ring ∷ ordinal_text ring ∷ [])
 
--- the words `told`, then the wheels that come from the box, slot by slot, each with its ring's letter on machine `m`
+-- The words `told`, then a list. Each slot whose wheel comes from the box has an item: the wheel, and its ring on
+-- machine `m`.
 unfoldable pub all_rings_in_box : Page → List ℕ → Parts → List ℕ
 all_rings_in_box page told m =
     told ++ flat_map (λ slot. from_box_shown (wheel_from_box page m slot)) SLOTS ++ BOXED_END.now

@@ -140,7 +140,7 @@ fn draw_seat<W: Sink>(sink: &mut W, page: &Page<'_>, slot: u8, wheel: Wheel)
 }
 
 /// Writes the checkbox to put a spare wheel into a slot. The checkbox says on which letter the wheel's ring has to
-/// stand, as the ring can't be seen later.
+/// stand, because the ring can't be seen later.
 fn draw_from_box<W: Sink>(sink: &mut W, page: &Page<'_>, slot: u8, wheel: Wheel)
     ensures { Draws W.taken W.has_failed sink.old sink.new
         (from_box_text page.now (Seat slot wheel) slot wheel) }

@@ -17,7 +17,7 @@ pub fn pages_have_the_boxes()
     ensures pin { PinPageHasTheBoxes }
 {}
 
-/// If a page marks a thing as changed, a setting of the page sets this thing.
+/// If a page marks a part of the machine as changed, a setting of the page sets this part.
 pub fn marks_have_settings()
     ensures { AllMarksHaveSettings }
 {}

@@ -96,7 +96,7 @@ fn draw_plug_rows<W: Sink>(sink: &mut W, page: &Page<'_>, step: Step, numbers: &
     }
 }
 
-/// Writes the row of a cable, if a plug of the cable moves.
+/// If a plug of the cable moves in `step`, writes the row of the cable.
 fn draw_plug_row<W: Sink>(sink: &mut W, page: &Page<'_>, step: Step, number: u8)
     ensures { Draws W.taken W.has_failed sink.old sink.new (plug_row page.now step number) }
 {

@@ -62,7 +62,7 @@ pub(crate) fn draw_idle<W: Sink>(sink: &mut W, language: Language, title: Word)
     );
 }
 
-/// Writes a step's head that doesn't give the number of settings.
+/// Writes a step's head without the number of settings.
 pub(crate) fn draw_plain_step<W: Sink>(sink: &mut W, page: &Page<'_>, title: Word)
     ensures { Draws W.taken W.has_failed sink.old sink.new (plain_step_text page.now title) }
 {
@@ -70,8 +70,8 @@ pub(crate) fn draw_plain_step<W: Sink>(sink: &mut W, page: &Page<'_>, title: Wor
     draw_titled(sink, page);
 }
 
-/// Writes the head of the step of windows or letters, which may have more checkboxes than settings. `count` is the
-/// number of settings. The head gives this number if it isn't 0.
+/// Writes the head of a step that sets windows or letters. `count` is the number of settings, and the head gives it if
+/// it isn't 0.
 pub(crate) fn draw_full_step<W: Sink>(sink: &mut W, page: &Page<'_>, title: Word, count: u8)
     ensures { Draws W.taken W.has_failed sink.old sink.new (full_step_text page.now title count) }
 {

@@ -39,8 +39,8 @@ fn draw_rings<W: Sink>(sink: &mut W, page: &Page<'_>, count: u8)
     draw_list(sink, page, Step::Rings);
 }
 
-/// Writes the words `told`, and the wheels that come from the box, each with the letter of its ring on `machine`.
-/// Writes nothing if no wheel comes from the box.
+/// Writes the words `told`, then a list of the wheels that come from the box, with the rings of `machine`. Writes
+/// nothing if no wheel comes from the box.
 pub(crate) fn draw_rings_in_box<W: Sink>(
     sink: &mut W,
     page: &Page<'_>,
@@ -86,7 +86,7 @@ fn draw_from_box<W: Sink>(sink: &mut W, language: Language, from_box: Option<(Wh
     }
 }
 
-/// The wheel that comes from the box into slot `slot`, with the letter of the wheel's ring on `machine`.
+/// For a slot whose wheel comes from the box: this wheel, and the letter of its ring on `machine`. Otherwise `None`.
 fn wheel_from_box(page: &Page<'_>, machine: &Machine, slot: u8) -> Option<(Wheel, Letter)>
     ensures { result ≡ wheel_from_box page.now machine.now slot }
 {
@@ -116,7 +116,7 @@ fn draw_seats<W: Sink>(sink: &mut W, page: &Page<'_>, count: u8)
     draw_list(sink, page, Step::Seats);
 }
 
-/// Writes which wheels and which reflector go into the box, if any do.
+/// Writes which wheels and which reflector go into the box. If none do, writes nothing.
 fn draw_boxed<W: Sink>(sink: &mut W, page: &Page<'_>)
     ensures { Draws W.taken W.has_failed sink.old sink.new (boxed_text page.now) }
 {
@@ -181,7 +181,7 @@ fn has_lone_wheel(machine: &Machine, other: &Machine, slots: &[u8]) -> bool
     }
 }
 
-/// The wheel in a slot of `machine`, unless a slot of `other` has this wheel.
+/// The wheel in slot `slot` of `machine`. `None` if the slot has no wheel, or if a slot of `other` has this wheel.
 fn lone_wheel(machine: &Machine, other: &Machine, slot: u8) -> Option<Wheel>
     ensures { result ≡ lone_wheel machine.now other.now slot }
 {
@@ -192,7 +192,7 @@ fn lone_wheel(machine: &Machine, other: &Machine, slot: u8) -> Option<Wheel>
     }
 }
 
-/// The reflector before the settings, unless the machine still has it after the settings.
+/// The reflector before the settings. `None` if the machine still has this reflector after the settings.
 fn boxed_reflector(page: &Page<'_>) -> Option<Reflector>
     ensures { result ≡ boxed_reflector page.now }
 {

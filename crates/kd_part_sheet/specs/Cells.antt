@@ -73,8 +73,8 @@ mark_of taken letter =
     if taken == 6 then marks.NotNeeded
     else if is_some (place_on (ring_of (taken + 1)) letter) then marks.Taken (taken + 1) else marks.StruckOut
 
--- The last wheel that has taken a letter, after a further letter was printed and got the given mark. Before this
--- letter, `taken` was the last wheel that had taken one; 0 if none had.
+-- The last wheel that took a letter, after one more letter was printed and got the given mark. `taken` is the last
+-- wheel that took a letter before; 0 if no wheel took one.
 abbrev pub taken_after : ℕ → Mark → ℕ
 taken_after taken marks.NoMark = taken
 taken_after taken marks.NotNeeded = taken

@@ -1,4 +1,4 @@
--- What the law about worksheets says.
+-- The law about worksheets: they don't tell which letters the machine gives.
 use Rattle.std.specs.Prelude.{◌≡◌, IsFalse, IsTrue, List, [], ◌∷◌}
 use Rattle.kd_state.specs.SheetDay.{Day}
 use Rattle.kd_language.specs.declared.language.Language.{Language}

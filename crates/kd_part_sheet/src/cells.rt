@@ -39,7 +39,7 @@ pub struct Cell {
 pub enum Mark {
     /// No mark: the cell isn't for the internal key, or is on a worksheet.
     NoMark,
-    /// No wheel needs the letter, as the internal key is already complete.
+    /// No wheel needs the letter, because the internal key is already complete.
     NotNeeded,
     StruckOut,
     /// The wheel with this number takes the letter.
@@ -200,9 +200,9 @@ fn mark_of(taken: u8, letter: Letter) -> Mark
     }
 }
 
-/// The last wheel that has taken a letter, after a further letter was printed and got the mark `mark`.
+/// The last wheel that took a letter, after one more letter was printed and got the mark `mark`.
 ///
-/// Before this letter, `taken` was the last wheel that had taken one; 0 if none had.
+/// `taken` is the last wheel that took a letter before; 0 if no wheel took one.
 fn taken_after(taken: u8, mark: Mark) -> u8
     ensures { result ≡ taken_after taken mark }
 {

@@ -125,10 +125,10 @@ pub struct Warnings {
     pub not_tested: bool,
 }
 
-/// Writes those of three warnings that apply.
+/// Writes the warnings that apply, of these three: a copy of the indicators has lost letters, the form is of another
+/// day, and its day can't be tested.
 ///
-/// They are: copies of the indicators have lost letters, the form is of another day, its day can't be tested.
-/// `letters_lost` isn't among them.
+/// Doesn't write the warning `letters_lost`.
 pub fn draw_warnings<W: Sink>(sink: &mut W, language: Language, sheet: Sheet, warnings: Warnings)
     ensures { Draws W.taken W.has_failed sink.old sink.new
         (warnings_text language sheet warnings) }

@@ -18,7 +18,8 @@ use kd_state::SheetDay;
 use kd_tables::Letter;
 use std::marker::Model;
 
-/// The letters on a part's sheet: to set, to press, and those that the machine then gives.
+/// The letters on a part's sheet: the letters to set, the letters to press, and the letters that the machine then
+/// gives.
 #[derive(Drop)]
 pub struct PartWork {
     /// The windows before the letters `key` are pressed: the ground setting, or the external letters.
@@ -44,7 +45,7 @@ impl Model for PartWork {
     } };
 }
 
-/// The letters to set, the letters to press, and their ciphertext, if `text` is enciphered with `keys`.
+/// How `text` is enciphered with `keys`: the letters to set, the letters to press, and their ciphertext.
 pub fn work_of(day: &SheetDay, part: u8, keys: &Keys, text: &[Letter]) -> PartWork
     requires keys { AreKeys day.now keys.now }
     requires suits { IsKeysAnswer day.now part keys.now (Ok tt) }

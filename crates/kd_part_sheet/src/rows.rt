@@ -56,7 +56,7 @@ pub(crate) fn draw_rows<W: Sink>(
     }
 }
 
-/// The progress of a step after `row`, if the progress before `row` is `progress`.
+/// The progress of a step after `row`. Before `row`, the progress is `progress`.
 pub(crate) fn progress_after(progress: Progress, row: &[Cell]) -> Progress
     requires presses { progress.presses ≤ progress.letters }
     requires few { progress.letters + length row.now ≤ 520 }

@@ -193,7 +193,7 @@ const PIN_LOST_LETTER: Text = (
 );
 
 /// The warning that the form is from another day or network. `NOT_TESTED` is the warning that the form's day can't be
-/// tested, as letters are lost.
+/// tested, because letters are lost.
 pub const WRONG_DAY: SheetText = (
     (ROTOR_WRONG_DAY, PIN_WRONG_DAY),
     (ROTOR_WRONG_DAY, PIN_WRONG_DAY),

@@ -52,8 +52,8 @@ is_plugged m number = is_some (cable_of m number).0
 abbrev pub cable_after : List ℕ → Parts → ℕ → List ℕ
 cable_after separator m number = separator ++ cable_words number (cable_of m number)
 
--- The words for those cables in the list that have a plug. `separator` stands before the first of them, and a comma
--- before each later one.
+-- The words for the cables in the list; a cable without a plug is left out. `separator` stands before the first cable,
+-- and a comma before each later one.
 abbrev pub cables_after : List ℕ → Parts → List ℕ → List ℕ
 cables_after separator m [] = []
 cables_after separator m (number ∷ numbers) =
@@ -72,17 +72,18 @@ all_cables l m = if has_cables m CABLES then cables_after [] m CABLES else text_
 abbrev pub lane : ℕ → ℕ
 lane number = 139 + 9 * number
 
--- the height at which a cable's line begins to bend on its way from a socket at height `y` to the lane at height `lane`
+-- The height at which a cable's line begins to bend. The line leads from a socket at height `y` to the lane at height
+-- `lane`.
 abbrev pub bend : ℕ → ℕ → ℕ
 bend y lane = if nat_lt y lane then lane - 5 else lane + 5
 
--- the first piece of a cable's line: from a socket into the cable's lane, where the line runs level
+-- the first piece of a cable's line: from a socket into the cable's lane
 abbrev pub left_half : Class → ℕ → ℕ → List ℕ
 left_half class lane letter = filled texts.LEFT_HALF.now (
     class_text class ∷ decimal (line_x letter) ∷ decimal (socket_y letter) ∷ decimal (bend (socket_y letter) lane)
     ∷ decimal (line_x letter) ∷ decimal lane ∷ decimal (line_x letter + 5) ∷ decimal lane ∷ [])
 
--- the last piece of a cable's line: along the cable's lane, where the line runs level, and to a socket
+-- the last piece of a cable's line: along the cable's lane, and then to a socket
 abbrev pub right_half : ℕ → ℕ → List ℕ
 right_half lane letter = filled texts.RIGHT_HALF.now (
     decimal (line_x letter - 5) ∷ decimal (line_x letter) ∷ decimal lane

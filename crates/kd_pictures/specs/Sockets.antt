@@ -45,7 +45,7 @@ label_y letter = if socket_row letter == 0 then 24 else if socket_row letter == 
 abbrev pub line_x : ℕ → ℕ
 line_x letter = if socket_row letter == 2 then socket_x letter + 10 else socket_x letter
 
--- whether the cable lines to the sockets of two letters are at least 10 units of the picture apart
+-- whether the cable lines to two letters' sockets are at least 10 units apart in the picture
 abbrev pub are_apart : ℕ → ℕ → Bool
 are_apart one other = nat_le (line_x one + 10) (line_x other) || nat_le (line_x other + 10) (line_x one)
 

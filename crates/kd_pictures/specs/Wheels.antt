@@ -115,13 +115,14 @@ unfoldable pub band_head : Language → ℕ → Word → List ℕ
 band_head l y name = filled (text_in l texts.BAND) (
     decimal (y + 16) ∷ word_text l name ∷ decimal (y + 54) ∷ decimal (y + 84) ∷ decimal (y + 125) ∷ decimal (y + 16) ∷ [])
 
--- the picture's band for machine `m`, at height `y`; what differs from machine `n` is marked
+-- the picture's band for machine `m`, at height `y`; differences from machine `n` are marked
 unfoldable pub band_text : Language → ℕ → Word → Parts → Parts → List ℕ
 band_text l y name m n =
     band_head l y name ++ reflector_shown y (machine_reflector m) (machine_reflector n)
     ++ flat_map (λ slot. slot_shown l (slot_x slot) y m n slot (machine_slot m slot)) SLOTS
 
--- ---- The picture: the machine before the settings, without marks, and after them; or only after them.
+-- ---- The picture: a band for the machine before the settings, without marks, and a band for the machine after them;
+-- or only the second band.
 
 unfoldable pub both_bands : Language → Parts → Parts → List ℕ
 both_bands l m n =

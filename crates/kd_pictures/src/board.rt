@@ -66,7 +66,7 @@ fn picture_name(plugs: Plugs) -> Word
     }
 }
 
-/// Writes in words the cables that have a plug, or that there are none.
+/// Writes in words which cables have a plug, or that none has a plug.
 #[tactic(auto, unfolding(crate::specs::Board::all_cables))]
 pub fn draw_all_cables<W: Sink>(sink: &mut W, language: Language, machine: &Machine)
     ensures { Draws W.taken W.has_failed sink.old sink.new (all_cables language machine.now) }
@@ -96,8 +96,8 @@ fn is_plugged(machine: &Machine, number: u8) -> bool
     one.is_some()
 }
 
-/// Writes in words those of the cables `numbers` that have a plug. `separator` stands before the first of them, and a
-/// comma before each later one.
+/// Writes in words which of the cables `numbers` have a plug. `separator` stands before the first of them, and a comma
+/// before each later one.
 fn draw_cables_after<W: Sink>(
     sink: &mut W,
     language: Language,
@@ -256,7 +256,7 @@ fn draw_between<W: Sink>(
     draw_right_half(sink, language, lane, right);
 }
 
-/// Writes the line of a cable with one plug, which leads to an open end.
+/// Writes the line of a cable with one plug: from the plug to an open end.
 fn draw_open<W: Sink>(sink: &mut W, language: Language, class: Class, lane: u16, letter: Letter)
     requires low { 100 ≤ lane }
     requires high { lane < 10000 }
@@ -266,7 +266,7 @@ fn draw_open<W: Sink>(sink: &mut W, language: Language, class: Class, lane: u16,
     draw_open_end(sink, language, letter);
 }
 
-/// Writes the first piece of a cable's line: from a socket into the cable's lane, where the line runs level.
+/// Writes the first piece of a cable's line: from a socket into the cable's lane.
 fn draw_left_half<W: Sink>(
     sink: &mut W,
     language: Language,
@@ -295,7 +295,7 @@ fn draw_left_half<W: Sink>(
     );
 }
 
-/// Writes the last piece of a cable's line: along the cable's lane, where the line runs level, and to a socket.
+/// Writes the last piece of a cable's line: along the cable's lane, and then to a socket.
 fn draw_right_half<W: Sink>(sink: &mut W, language: Language, lane: u16, letter: Letter)
     requires low { 100 ≤ lane }
     requires high { lane < 10000 }

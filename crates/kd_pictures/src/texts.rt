@@ -295,8 +295,8 @@ pub const BOXED_REFLECTOR: Text = (" reflector <b>~</b>", " Umkehrwalze <b>~</b>
 pub const BOXED_END: &str = "</p>\n";
 
 /// A list of wheels in the box, with their rings.
-/// - `BOX_BEFORE`: the words before the list of the rings as they are before the settings.
-/// - `BOX_AFTER`: the words before the list of the rings as they are after the step that sets rings.
+/// - `BOX_BEFORE`: the start of the list of rings before the first step.
+/// - `BOX_AFTER`: the start of the list of rings after the step that sets rings.
 /// - `BOX_WHEEL`: an item of the list, for one wheel.
 pub const BOX_BEFORE: Text = (
     "<p>Compare these rings in the box, too:",
@@ -558,8 +558,8 @@ pub const PIN_SHOWN: &str = "~<br>~";
 
 pub const PINS_END: &str = "</table>\n</section>\n";
 
-/// The table of bars: its caption and head, the head of a bar's row, and the cells of a bar's places. The row ends with
-/// `NO_BOXES`, `ONE_BOX` or `BOXES`: these follow no checkbox, one checkbox or two checkboxes.
+/// The table of bars: its caption and head, the head of a bar's row, and the cells of a bar's places. A row without a
+/// checkbox ends with `NO_BOXES`, a row with one checkbox with `ONE_BOX`, and a row with two with `BOXES`.
 pub const DRUM: Text = (
     "<table class=drum>\n<caption>~ a lug stays here, ~ a lug leaves, ~ a lug comes. Move the lugs of a bar in the order shown.</caption>\n<thead>\n<tr><th scope=col>Bar<th scope=col>1<th scope=col>0L<th scope=col>2<th scope=col>3<th scope=col>4<th scope=col>5<th scope=col>0R<th scope=col>6<th scope=col colspan=2>Lugs to move\n<tbody>\n",
     "<table class=drum>\n<caption>~ Reiter bleibt, ~ Reiter geht, ~ Reiter kommt. Die Reiter einer Stange in der gezeigten Reihenfolge versetzen.</caption>\n<thead>\n<tr><th scope=col>Stange<th scope=col>1<th scope=col>0L<th scope=col>2<th scope=col>3<th scope=col>4<th scope=col>5<th scope=col>0R<th scope=col>6<th scope=col colspan=2>Reiter versetzen\n<tbody>\n",

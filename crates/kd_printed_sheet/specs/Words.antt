@@ -13,7 +13,7 @@ pair_text pair = letters_text (pair.0 ∷ pair.1 ∷ [])
 abbrev pub group_text : List ℕ → List ℕ
 group_text group = letters_text group
 
--- the letter of a wheel in the ground setting
+-- the ground setting's letter for a wheel
 abbrev pub ground_text : SheetWheel → List ℕ
 ground_text wheel = letter_text wheel.letter
 

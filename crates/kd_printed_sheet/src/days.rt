@@ -50,7 +50,7 @@ pub(crate) fn has_any_day(sheet: &Sheet, numbers: &[u8]) -> bool
     }
 }
 
-/// Adds those of the days `numbers` that the sheet has for the model.
+/// Adds each of the days `numbers` that the sheet has for the model.
 fn add_days(days: &mut ArrayVec<u8, 31>, model: Model, sheet: &Sheet, numbers: &[u8])
     requires { array_vec_len days.old + length numbers.now ≤ 31 }
     ensures { days.new.items ≡ days.old.items ++ filter (has_day_of model sheet.now) numbers.now }

@@ -26,7 +26,7 @@ pub(crate) struct SingleLetter;
 /// A kind of word in a table's cell: a value, written as in key sheets.
 pub(crate) struct Item;
 
-/// A kind of word in a table's cell: the letter of a wheel in the ground setting.
+/// A kind of word in a table's cell: the ground setting's letter for a wheel.
 pub(crate) struct Ground;
 
 /// A kind of word in a table's cell: the ring of a wheel, as a letter.
@@ -57,7 +57,7 @@ impl CellWord<SingleLetter> for Letter {
     }
 }
 
-/// The word of a value is its text in key sheets: a cable's two letters, a group's three, a wheel's name or a reading.
+/// The word of a value is its text in key sheets, for example `AB` for a cable, or `VIII` for a wheel.
 impl<T: ItemText> CellWord<Item> for T {
     ghost text = { T.item_text };
 

@@ -54,8 +54,8 @@ few_words l start counted day most =
     start ++ filled (text_in l FEW) (decimal day.day ∷ count_words l counted (count counted day)
     ∷ decimal most.day ∷ decimal (count counted most) ∷ [])
 
--- The warning that `day` has fewer pairs, or fewer groups, than another day of its model. Empty if no such day has
--- more. `counted` says whether pairs or groups are compared.
+-- The warning that `day` has fewer pairs, or fewer groups, than another day of its model. Empty if no day of the model
+-- has more. `counted` says whether pairs or groups are compared.
 abbrev pub few_line : Language → List ℕ → List DayCounts → DayCounts → Counted → List ℕ
 few_line l start days day counted =
     option_map_or (few_words l start counted day) (find (has_most counted days day) days) []

@@ -1,5 +1,5 @@
--- The item number in a slip. A slip says in words why a value is refused. If the slip has an item number, it is that of
--- the first list item that the desk's reader refuses, and the words are about this item.
+-- The item number in a slip. A slip says in words why a value is refused. If the slip has an item number, its words
+-- are about this list item: the first one that the desk's reader refuses.
 -- Test: tests/cases/curator-look.toml
 use Rattle.std.specs.Prelude.{◌≡◌, ℕ, ◌==◌, not, Bool, true, List, length, find, Option, Some, None, is_some}
 use Rattle.std.specs.Prelude.{if◌then◌else◌}
@@ -28,7 +28,7 @@ abbrev pub IsOfItem : Option ℕ → Slip → Type 0
 IsOfItem item (slips.Fault found told words) = told ≡ item
 IsOfItem item slips.NoMemory = Unit {0}
 
--- the row number in a fault, if the fault has one
+-- the row number in a fault; `None` if the fault has none
 abbrev pub row_in : SheetFault → Option ℕ
 row_in (BadRow number) = Some number
 row_in fault = None

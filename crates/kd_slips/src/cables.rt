@@ -70,7 +70,7 @@ fn check_cables(
     Ok(())
 }
 
-/// Refuses the cable `text` if it has a letter twice, or a letter of an earlier cable.
+/// If the cable `text` has a letter twice, or a letter of an earlier cable, refuses this cable.
 ///
 /// `text` is the item at place `place` of `items`.
 fn check_new(wording: Wording, items: &[Value], place: usize, text: &str) -> Result<(), Slip>
@@ -87,7 +87,7 @@ fn check_new(wording: Wording, items: &[Value], place: usize, text: &str) -> Res
     Ok(())
 }
 
-/// Refuses the cable `text` if it has the same letter at both ends.
+/// If the cable `text` has the same letter at both ends, refuses this cable.
 fn check_twice_within(wording: Wording, text: &str) -> Result<(), Slip>
     ensures { IfErr result (HasFault LetterTwice None) }
 {
@@ -108,7 +108,7 @@ fn both_ends_words(wording: Wording, byte: u8, text: &str) -> Result<String, All
     wording.fill(texts::LETTER_AT_BOTH_ENDS, &[letter.as_str(), text])
 }
 
-/// Refuses the letter `byte` of the cable `text`, if the cable `earlier` has this letter, too.
+/// If the cable `earlier` has the letter `byte`, refuses this letter in the cable `text`.
 fn check_apart(wording: Wording, earlier: &str, text: &str, byte: u8) -> Result<(), Slip>
     ensures { IfErr result (HasFault LetterTwice None) }
 {

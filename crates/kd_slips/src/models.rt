@@ -260,7 +260,7 @@ fn slot_words(language: Language, model: Model, slot: u8) -> &'static str {
     }
 }
 
-/// Refuses the wheel `name` in slot `slot`, if an earlier slot has this wheel, too.
+/// If an earlier slot has the wheel `name`, refuses this wheel in slot `slot`.
 fn check_first(wording: Wording, items: &[Value], slot: u8, name: &str) -> Result<(), Slip>
     ensures { IfErr result (HasFault WheelTwice None) }
 {

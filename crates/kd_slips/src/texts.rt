@@ -260,8 +260,8 @@ pub const FEW: Text = (
 /// The word for no pairs or no groups, as in `no pairs`.
 pub const NO: Text = ("no", "keine");
 
-/// The nouns for a number of pairs or groups: this text, and the next three texts. Each begins with a space, as the
-/// number stands before it.
+/// The nouns for a number of pairs or groups: this text, and the next three texts. Each begins with a space, because
+/// the number stands before it.
 pub const PAIR: Text = (" pair", " Steckerpaar");
 
 pub const PAIRS: Text = (" pairs", " Steckerpaare");

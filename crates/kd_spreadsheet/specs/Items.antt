@@ -127,7 +127,7 @@ groups_in cell = values_in words group_of cell
 abbrev pub readings_in : List ℕ → Option (List (ℕ × ℕ))
 readings_in cell = values_in hyphened reading_of_text cell
 
--- the list `values`, if it has exactly `count` values; otherwise `None`
+-- the list `values`; `None` if it doesn't have exactly `count` values
 abbrev pub exactly : {A : Type 0} → ℕ → List A → Option (List A)
 exactly count values = if nat_eq (length values) count then Some values else None
 

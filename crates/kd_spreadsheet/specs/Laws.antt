@@ -1,11 +1,10 @@
--- The statements of this crate's laws about tables: no table is both accepted and refused, and no table has two
--- meanings.
+-- This crate's laws about tables: no table is both accepted and refused, and no table has two meanings.
 use Rattle.std.specs.Prelude.{◌≡◌, ℕ, List}
 use Rattle.kd_state.specs.SheetDay.{Day}
 use Rattle.kd_spreadsheet.specs.Options.{OptionTexts}
 use Rattle.kd_spreadsheet.specs.Table.{IsRefusedTable, TableMeans}
 
--- A table that means days isn't refused.
+-- If a table means days, it isn't refused.
 abbrev pub MeansOrIsRefused : Type 0
 MeansOrIsRefused = (options : OptionTexts) (table : List ℕ) (days : List Day) → TableMeans options table days
     → ¬ (IsRefusedTable options table)

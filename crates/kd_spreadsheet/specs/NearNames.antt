@@ -1,5 +1,5 @@
 -- Misnamed columns: the table lacks a column, and an unread column has nearly this column's name. Such a table is
--- refused, as the unread column may be the missing column with a mistyped name.
+-- refused, because the unread column may be the missing column with a mistyped name.
 -- Test: tests/cases/curator-sheet.toml
 use Rattle.std.specs.Prelude.{ℕ, nat_lt, ◌&&◌, ◌||◌, not, Bool, List, [], ◌∷◌, find, is_some, length, Option, Some, if◌then◌else◌}
 use Rattle.std.specs.List.{list_any, range_with_len}
@@ -27,21 +27,21 @@ abbrev pub is_near_column : Cell → List ℕ → Bool
 is_near_column cell name =
     is_near_name name (english_name cell) || is_near_name name (german_name cell) || is_near_name name (short_name cell)
 
--- whether the column at `place` may be meant as the cell's column: it isn't read, and its name nearly equals one of
--- that column's three names
+-- whether the column at `place` isn't read, and has nearly one of the three names of the cell's column
 unfoldable pub is_meant : Columns → List (List ℕ) → Cell → ℕ → Bool
 is_meant columns head cell place =
     not (is_column_read columns place) && is_near_column cell (cell_at (Some place) head)
 
--- the first column that may be meant as the cell's column; only the `count` columns from `place` on are searched
+-- the first unread column with nearly the name of the cell's column; only the `count` columns from `place` on are
+-- searched
 unfoldable pub near_from : Columns → List (List ℕ) → Cell → ℕ → ℕ → Option ℕ
 near_from columns head cell place count = find (is_meant columns head cell) (range_with_len place count)
 
--- the first column that may be meant as the cell's column; only the first 64 columns are searched
+-- the first unread column with nearly the name of the cell's column; only the first 64 columns are searched
 abbrev pub near_column : Columns → List (List ℕ) → Cell → Option ℕ
 near_column columns head cell = near_from columns head cell 0 64
 
--- whether the cell's column is misnamed: the table lacks this column, but an unread column may be meant as this column
+-- whether the table lacks the cell's column, but has an unread column with nearly this column's name
 abbrev pub lacks_near : Columns → List (List ℕ) → Cell → Bool
 lacks_near columns head cell = not (is_some (column_of columns cell)) && is_some (near_column columns head cell)
 

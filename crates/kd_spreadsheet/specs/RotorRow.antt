@@ -30,7 +30,7 @@ seated_in options columns row = do
   wheels_with wheels rings window
 
 -- The plugged pairs of a row. `None` if the table lacks the column of pairs. A missing column doesn't mean a day
--- without pairs, as the column's name may be mistyped.
+-- without pairs, because the column's name may be mistyped.
 abbrev pub plugs_in : Columns → List (List ℕ) → Option (List (ℕ × ℕ))
 plugs_in columns row = do
   place ← columns.plugs

@@ -21,8 +21,7 @@ pub data RowPlace : Type 0 where
   AtStart : Bool → RowPlace
   Within : Quoting → RowPlace
 
--- The numbers of the rows that start in the given bytes, the rest of a table. Empty rows are left out. The first of
--- these bytes is in row `number`.
+-- The numbers of the rows that start in the rest of a table, without empty rows. The rest begins in row `number`.
 abbrev pub numbers_from : ℕ → RowPlace → ℕ → List ℕ → List ℕ
 numbers_from separator place number [] = []
 numbers_from separator (AtStart after_return) number (byte ∷ bytes) =
@@ -43,7 +42,7 @@ row_numbers table = numbers_from (separator_of table) (AtStart false) 1 (strip_b
 abbrev pub numbers_left : RowNumbers → List ℕ
 numbers_left rows = numbers_from rows.separator (AtStart false) rows.number rows.rest.now
 
--- No bytes are left, or so few that all numbers of their rows fit into 64 bits.
+-- If bytes are left, they are so few that all numbers of their rows fit into 64 bits.
 abbrev pub IsCounted : RowNumbers → Type 0
 IsCounted rows = (rows.rest.now ≡ []) ⊎ (rows.number + length rows.rest.now ≤ 2 ^ 64 - 2)
 
@@ -56,14 +55,14 @@ abbrev pub StartsRow : List ℕ → Type 0
 StartsRow [] = Unit {0}
 StartsRow (byte ∷ bytes) = IsFalse (ends_line byte)
 
--- Rows are numbered as if `bytes` were `count` empty rows and then `left`. `left` is at least `count` bytes shorter
--- than `bytes`.
+-- `bytes` count as `count` empty rows, and then the rows in `left`. `left` is at least `count` bytes shorter than
+-- `bytes`.
 pub record AreLineEnds (bytes : List ℕ) (count : ℕ) (left : List ℕ) : Type 0 where
   pub same : (separator number : ℕ) → numbers_from separator (AtStart false) number bytes
       ≡ numbers_from separator (AtStart false) (number + count) left
   pub shorter : count + length left ≤ length bytes
 
--- Rows are numbered as if `bytes` were one row that isn't empty and then `left`. `left` is empty, or at least two bytes
+-- `bytes` count as one row that isn't empty, and then the rows in `left`. `left` is empty, or at least two bytes
 -- shorter than `bytes`. Or both `bytes` and `left` are empty.
 pub data IsRowBefore (separator : ℕ) (bytes left : List ℕ) : Type 0 where
   NoRow : bytes ≡ [] → left ≡ [] → IsRowBefore separator bytes left

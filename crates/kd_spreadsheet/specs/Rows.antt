@@ -25,7 +25,7 @@ separated separator = record default_config { delimiter = separator }
 abbrev pub ends_cell : ℕ → ℕ → Bool
 ends_cell separator byte = byte == separator || byte == 13 || byte == 10
 
--- the state of quotes in a table after `byte`, if the state before `byte` is `quoting`
+-- the state of quotes in a table after `byte`; before `byte`, the state is `quoting`
 abbrev pub quoting_after_byte : ℕ → Quoting → ℕ → Quoting
 quoting_after_byte separator CellStart byte =
     if byte == 34 then Quoted else if ends_cell separator byte then CellStart else Unquoted

@@ -173,7 +173,7 @@ impl FromWord for Option<Wheel> {
     }
 }
 
-/// A letter, which is read as itself, or as a number from 1 (A) to 26 (Z).
+/// A letter. In a table, it stands as itself, or as a number from 1 (A) to 26 (Z).
 impl FromWord for Letter {
     ghost rule = { word_rules.Letters };
 

@@ -39,14 +39,14 @@ pub fn is_misnamed(columns: &Columns, head: &ByteRecord) -> bool
     lacks_near_any(columns, head, &ALL_CELLS)
 }
 
-/// The first column that may be meant as the column of `cell`, among the first 64.
+/// The first unread column with nearly the name of the column of `cell`, among the first 64 columns.
 pub fn near_column(columns: &Columns, head: &ByteRecord, cell: Cell) -> Option<usize>
     ensures { result ≡ near_column columns.now (fields_of head.now) cell }
 {
     near_from(columns, head, cell, 0, COLUMNS)
 }
 
-/// The first column that may be meant as the column of `cell`, among the `count` columns from `place` on.
+/// The first unread column with nearly the name of the column of `cell`, among the `count` columns from `place` on.
 #[tactic(auto, unfolding(crate::specs::NearNames::near_from))]
 fn near_from(
     columns: &Columns,
@@ -90,16 +90,14 @@ fn lacks_near_any(columns: &Columns, head: &ByteRecord, cells: &[Cell]) -> bool
     }
 }
 
-/// Whether the column of `cell` is misnamed: the table lacks this column, but an unread column may be meant as it.
+/// Whether the table lacks the column of `cell`, but has an unread column with nearly this column's name.
 fn lacks_near(columns: &Columns, head: &ByteRecord, cell: Cell) -> bool
     ensures { result ≡ lacks_near columns.now (fields_of head.now) cell }
 {
     column_of(columns, cell).is_none() && near_column(columns, head, cell).is_some()
 }
 
-/// Whether the column at `place` may be meant as the column of `cell`.
-///
-/// Such a column isn't read, and its name nearly equals one of the three names of the column of `cell`.
+/// Whether the column at `place` isn't read, and has nearly one of the three names of the column of `cell`.
 #[tactic(auto, unfolding(crate::specs::NearNames::is_meant))]
 fn is_meant(columns: &Columns, head: &ByteRecord, cell: Cell, place: usize) -> bool
     ensures { result ≡ is_meant columns.now (fields_of head.now) cell place }

@@ -37,7 +37,7 @@ pub fn pin_day(
     SheetDay::pin(number, rows, pins, window, list)
 }
 
-/// The letters in a cell, if there are exactly `N` of them.
+/// The letters in a cell. `None` if there aren't exactly `N` letters.
 fn letters_in<const N: usize>(text: &[u8]) -> Option<[Letter; N]>
     ensures { result ≡ option_and_then (exactly N) (letters_in text.now) }
 {
@@ -94,7 +94,7 @@ fn pins_after(
     })
 }
 
-/// The readings in a cell, if there is a reading for each bar.
+/// The readings in a cell. `None` if there isn't one reading for each bar.
 fn bars_in(text: &[u8]) -> Option<[Reading; 27]>
     ensures { result ≡ option_and_then (exactly 27) (readings_in text.now) }
 {

@@ -82,7 +82,7 @@ fn take_table(
     }
 }
 
-/// Writes the notes on the table, if `fault` is `Refused`. Returns `fault`, or `NoMemory` if memory runs out for the
+/// If `fault` is `Refused`, writes the notes on the table. Returns `fault`, or `NoMemory` if memory runs out for the
 /// notes.
 fn tell_refused<N: Sink>(
     fault: SpreadsheetFault,

@@ -1,4 +1,4 @@
--- The statements of this crate's laws. Typing on a machine's table gives the letters that the machine itself gives.
+-- This crate's laws: typing on a machine's table gives the letters that the machine itself gives.
 use Rattle.std.specs.Prelude.{◌≡◌, ◌<◌, List, ℕ, All}
 use Rattle.kd_enigma.specs.Cipher.{RotorKey, enigma_cipher, key_turned}
 use Rattle.kd_drum.specs.Converter.{PinKey, converter_cipher, pin_key_turned}

@@ -1,4 +1,4 @@
--- The key of the machine to which the rows of a table belong.
+-- The key of a machine, from the rows of its table.
 use Rattle.kd_state.specs.EngineKey as keys
 use Rattle.kd_state.specs.EngineKey.{EngineKey}
 use Rattle.kd_typing.specs.declared.machine_rows.MachineRows.{MachineRows}

@@ -65,8 +65,8 @@ typed_by table window (key ∷ text) =
 
 -- ---- The table of a key.
 
--- for each key, the place that the key's current reaches through the plugboard and the right wheel, while the right
--- window shows `letter`
+-- For each key, the place that the key's current reaches through the plugboard and the right wheel. The right window
+-- shows `letter`.
 unfoldable pub into_row : RotorKey → ℕ → List ℕ
 into_row key letter = product (key.plugs ∷ rotors (right_slot key.wheels) (right_slot key.rings) (letter ∷ []))
 
@@ -96,7 +96,7 @@ abbrev pub is_at_notch : List Wheel → ℕ → ℕ → Bool
 is_at_notch wheels from_right letter =
     option_map_or (λ wheel. is_notch wheel letter) (slice_get wheels (length wheels - (from_right + 1))) false
 
--- how many wheels move at the next key press, if the middle window shows `middle`, and the right window `right`
+-- How many wheels move at the next key press. The middle window shows `middle`, and the right window shows `right`.
 unfoldable pub wheels_moved : List Wheel → ℕ → ℕ → ℕ
 wheels_moved wheels middle right =
     if is_at_notch wheels 1 middle then 3 else (if is_at_notch wheels 0 right then 2 else 1)

@@ -25,7 +25,7 @@ pub enum MachineRows {
 impl MachineRows {
     /// The rows of the table of `machine`. Typing on the table gives the machine's ciphertext.
     ///
-    /// Returns `NotReady` if a slot is empty, or a cable has exactly one letter.
+    /// If a slot is empty, or a cable has exactly one letter, returns `NotReady`.
     pub fn of(machine: &Machine) -> Result<MachineRows, NotReady>
         ensures ready { IsOk result ↔ IsReady machine.now }
         ensures key { IfOk result (λ rows. rows_key rows ≡ physical_key machine.now) }
@@ -67,7 +67,7 @@ impl MachineRows {
     }
 }
 
-/// The rows of the table of a rotor machine, if the machine is ready.
+/// The rows of a rotor machine's table. `None` if the machine isn't ready.
 fn rotor_rows(parts: &RotorParts) -> Option<RotorRows>
     requires { AreLegalRotorParts parts.now }
     ensures ready { IsSome result ↔ IsReady (Parts.Rotor parts.now) }

@@ -77,7 +77,8 @@ impl RotorRows {
         )
     }
 
-    /// How many wheels move at the next key press, if the middle window shows `middle`, and the right window `right`.
+    /// How many wheels move at the next key press. The middle window shows `middle`, and the right window shows
+    /// `right`.
     #[tactic(auto, unfolding(crate::specs::RotorTable::wheels_moved))]
     pub fn steps_at(&self, middle: Letter, right: Letter) -> u8
         ensures value { result ≡ wheels_moved self.now.wheels middle right }

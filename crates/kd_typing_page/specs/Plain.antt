@@ -4,7 +4,7 @@ use Rattle.kd_pictures.specs.Checked.{Takes}
 use Rattle.kd_language.specs.Template.{is_gap}
 use Rattle.kd_typing_page.specs.declared.texts.TheConstants as texts
 
--- Each template has exactly as many gaps as the page fills values into it.
+-- Each template has exactly as many gaps as it gets values.
 abbrev pub TemplatesTakeTheirValues : Type 0
 TemplatesTakeTheirValues =
     Takes texts.TITLE 1 × Takes texts.ROTOR_HEAD 1 × Takes texts.PIN_HEAD 1 × Takes texts.WINDOW 3

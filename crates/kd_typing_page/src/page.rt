@@ -25,10 +25,10 @@ use kd_state::{Machine, NotReady};
 use kd_tables::{Model, Sink};
 use kd_typing::MachineRows;
 
-/// Writes the page for typing on `machine`, in `language`. A text typed with the page's table becomes the machine's
-/// ciphertext.
+/// Writes the page for typing on `machine`, in `language`. A text that is typed with the page's table becomes the
+/// machine's ciphertext.
 ///
-/// Returns `NotReady`, and writes nothing, if a slot is empty, or a cable has exactly one letter.
+/// If a slot is empty, or a cable has exactly one letter, writes nothing, and returns `NotReady`.
 pub fn draw_typing_page<W: Sink>(
     sink: &mut W,
     language: Language,

@@ -1,5 +1,5 @@
-//! The script of the page, which is the same on every page. It looks letters up in the page's table, and shows the
-//! letters found. Nothing is proved about the script.
+//! The script of the page, which is the same on every page. It looks letters up in the page's table, and shows what it
+//! finds. Nothing is proved about the script.
 
 /// The text between the tags of the script. Its SHA-256 is in the page's policy.
 pub const SCRIPT: &str = "'use strict'

@@ -1,5 +1,5 @@
-//! `MessageFault`: a fault of an order or a form that shows without a machine, with its place, and words that explain
-//! it.
+//! `MessageFault`: a fault of an order or a form that can be found without a machine, with its place, and words that
+//! explain it.
 ghost use Rattle.std.specs.Prelude.{◌≡◌};
 ghost use Rattle.kd_look.specs.MessageWords.{letter_words, reason_words, space_words};
 
@@ -8,7 +8,7 @@ use crate::texts;
 use kd_form::FormFault;
 use kd_language::Language;
 
-/// A fault of an order or a form that shows without a machine.
+/// A fault of an order or a form that can be found without a machine.
 #[derive(Clone, Copy)]
 pub struct MessageFault {
     /// The index of the wrong byte. If no single byte is wrong, it is the index of:

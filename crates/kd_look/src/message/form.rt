@@ -21,7 +21,7 @@ pub struct FormPart {
     pub end: usize,
 }
 
-/// The first heading of the form `text`, or the first fault that the form shows without a machine.
+/// The first heading of the form `text`, or the first fault of the form that can be found without a machine.
 pub fn form_answer(text: &[u8]) -> Result<FormHeading, MessageFault>
     ensures { result ≡ form_answer text.now }
 {
@@ -193,7 +193,7 @@ fn body_end(text: &[u8], body: usize) -> usize
     }
 }
 
-/// The index of the first LF that a heading line follows, from index `first` on.
+/// The index of the first LF, from index `first` on, with a heading line after it.
 fn next_heading(text: &[u8], first: usize) -> Option<usize>
     ensures found { result ≡ find (heading_follows text.now)
         (range_with_len first (length text.now - first)) }

@@ -124,7 +124,7 @@ fn with_digit(text: &[u8], number: Number) -> Number
     }
 }
 
-/// The machine that a heading is for, as the bytes after the number of letters show.
+/// Finds out which machine a heading is for. The bytes from `index` on, after the number of letters, show it.
 #[tactic(auto, unfolding(crate::specs::FormHeading::heading_keys))]
 fn heading_keys(text: &[u8], index: usize) -> KeyLine
     requires { index ≤ length text.now }
@@ -154,7 +154,7 @@ fn keys_or(own: KeyLine, first: Option<KeyLine>) -> KeyLine
     }
 }
 
-/// The pattern of what follows the number of letters in a heading line.
+/// The pattern for the end of a heading line, after the number of letters.
 fn keys_pattern(keys: KeyLine) -> &'static [u8]
     ensures { result.now ≡ keys_pattern keys }
 {

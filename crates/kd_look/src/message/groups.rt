@@ -108,7 +108,7 @@ fn order_groups(
     Ok(groups)
 }
 
-/// Appends the group whose fillers begin at `index`. Appends nothing if no fillers begin there.
+/// If the two fillers of a line of keys begin at `index`, appends the group after them. Otherwise appends nothing.
 fn push_order_group(
     groups: &mut Vec<[Letter; 3]>,
     text: &[u8],
@@ -206,7 +206,7 @@ fn first_line_end(text: &[u8]) -> Option<usize>
     text.iter().position(|byte| *byte == b'\n')
 }
 
-/// Appends `group`, if there is one.
+/// If there is a group, appends it.
 fn push_group(groups: &mut Vec<[Letter; 3]>, group: Option<[Letter; 3]>) -> Result<(), AllocError>
     ensures { OnOk result (groups.new.items ≡ groups.old.items ++ option_to_list group) }
 {
@@ -216,7 +216,7 @@ fn push_group(groups: &mut Vec<[Letter; 3]>, group: Option<[Letter; 3]>) -> Resu
     Ok(())
 }
 
-/// The group in `text`, which begins with two fillers.
+/// The group of `text`: its letters 3 to 5, after two fillers.
 ///
 /// `None` if `text` has fewer than five letters.
 fn group_of(text: &[u8]) -> Option<[Letter; 3]>

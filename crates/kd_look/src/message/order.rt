@@ -1,4 +1,4 @@
-//! Reads an order as far as that is possible without a machine: its lines of keys, and its text.
+//! Reads an order as far as possible without a machine: its lines of keys, and its text.
 ghost use Rattle.std.specs.Prelude.{◌≡◌, ◌≤◌, find, length, IfOk};
 ghost use Rattle.std.specs.List.{range_with_len};
 ghost use Rattle.kd_look.specs.Order.{gives_letter, head_fault, is_off_wheel, is_off_wheel_at, keys_given};
@@ -12,7 +12,7 @@ use kd_findings::place_after;
 use kd_form::FormFault;
 use kd_tables::{Letter, place_on_wheel};
 
-/// The index at which the order's text begins, or the first fault that shows without a machine.
+/// The index at which the order's text begins, or the first fault that can be found without a machine.
 pub fn order_start(text: &[u8]) -> Result<usize, MessageFault>
     ensures value { result ≡ order_start text.now }
     ensures within { IfOk result (λ start. start ≤ length text.now) }
@@ -20,8 +20,8 @@ pub fn order_start(text: &[u8]) -> Result<usize, MessageFault>
     order_answer(text, key_line_of(text))
 }
 
-/// The index at which an order's text begins, or the first fault that the order shows without a machine. `form` says
-/// how the order's keys are written.
+/// The index at which an order's text begins, or the first fault of the order that can be found without a machine.
+/// `form` says how the order's keys are written.
 #[tactic(auto, unfolding(crate::specs::Order::order_answer))]
 fn order_answer(text: &[u8], form: KeyLine) -> Result<usize, MessageFault>
     ensures value { result ≡ order_answer text.now form }
@@ -182,7 +182,7 @@ pub fn letter_count(text: &[u8], form: KeyLine, start: usize) -> usize
         .count()
 }
 
-/// Whether a byte of the text counts as a letter: a capital letter does and, on the Converter, a space.
+/// Whether a byte of the text counts as a letter. A capital letter does. On the Converter, a space does too.
 fn gives_letter(form: KeyLine, byte: u8) -> bool
     ensures { result ≡ gives_letter form byte }
 {

@@ -18,7 +18,7 @@ pub enum KeyLine {
     Converter,
 }
 
-/// The machine that the order `text` is for, shown by its first word of keys.
+/// Finds out from the first word of keys which machine the order `text` is for.
 #[tactic(auto, unfolding(crate::specs::OrderHead::key_line_of))]
 pub fn key_line_of(text: &[u8]) -> KeyLine
     ensures { result ≡ key_line_of text.now }

@@ -16,7 +16,7 @@ use kd_language::{Language, Wording};
 use kd_slips::texts::AN_M4;
 use std::alloc::AllocError;
 
-/// Whether a file with the bytes `text` is an order or a form: it begins with `PART `.
+/// Whether a file with the bytes `text` is a message (an order or a form): it begins with `PART `.
 pub fn is_message(text: &[u8]) -> bool
     ensures { result ≡ is_message text.now }
 {
@@ -135,7 +135,8 @@ fn push_number_line(words: &mut String, title: &str, number: usize) -> Result<()
     words.push_str("\n")
 }
 
-/// The machine that a message is for, or both machines that it may be for, as named after the word `for`.
+/// The words for the machine of a message, such as `a Converter M-209`. The messages of an Enigma I and of an M3 look
+/// alike: then the words name both.
 #[tactic(auto, unfolding(crate::specs::MessageWords::machine_name))]
 fn machine_name(language: Language, form: KeyLine) -> &'static str
     ensures { result.now ≡ machine_name language form }
