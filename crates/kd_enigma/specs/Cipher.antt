@@ -34,7 +34,7 @@ key_after key n = key_turned key (window_after key.wheels key.window n)
 
 -- ---- The current's path as a product of permutations, and the cipher that steps the wheels before each letter.
 -- Source: the published accounts of the current's path.
--- Code: `Enigma` keeps one table: the whole path while the windows show their present letters. Each step makes this
+-- Code: `Enigma` keeps the whole path as one table, for the letters that the windows show now. Each step makes this
 -- table anew.
 -- Test: tests/refusals
 

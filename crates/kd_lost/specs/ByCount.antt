@@ -56,8 +56,8 @@ abbrev pub telling_line : ℕ → ℕ → Option ShortLine → Option ShortLine
 telling_line counted came None = None
 telling_line counted came (Some short) = if explains counted came short then Some short else None
 
--- If the short line of the part explains the wrong count, this line. Otherwise `None`. The line explains the count if
--- the count would be right with 50 letters on the line.
+-- The part's short line, if it explains the wrong count: with 50 letters on this line, the count would be right. `None`
+-- if there is no such line.
 abbrev pub part_line : DamagedPart → Option ShortLine
 part_line part = telling_line (heading_count part.numbers) part.came part.short_line
 

@@ -24,8 +24,8 @@ pub(crate) fn has_lost(letters: &[Option<Letter>]) -> bool
 
 /// Writes which groups of `letters` have lost letters. `first` stands before the first named group.
 ///
-/// If `before` is true, the group just before `letters` also has lost letters. Then this group is already named,
-/// together with the groups with lost letters at the start of `letters`. So these groups are left out.
+/// If `before` is true, the group just before `letters` has lost letters, too. In this case, an earlier call has named
+/// this group and the groups with lost letters at the start of `letters`, and this call leaves them out.
 pub(crate) fn draw_lost_groups<W: Sink>(
     sink: &mut W,
     language: Language,

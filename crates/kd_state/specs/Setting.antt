@@ -115,8 +115,8 @@ abbrev pub Leads : Parts → List Setting → Parts → Type 0
 Leads machine [] last = last ≡ machine
 Leads machine (setting ∷ rest) last = (next : Parts) × Carries machine setting next × Leads next rest last
 
--- The machine carries out the settings before setting `line`, counted from 1. Then it refuses setting `line`, for the
--- reason `why`.
+-- The first setting that the machine refuses has number `line`, counted from 1, and is refused for the reason `why`.
+-- The machine has carried out all settings before this one.
 pub record IsFirstIllegal (machine : Parts) (settings : List Setting) (line : ℕ) (why : Why) : Type 0 where
   pub front : List Setting
   pub setting : Setting
