@@ -109,7 +109,8 @@ fn cause_words(wording: Wording, message: &str, mistake: Text) -> Result<String,
     Ok(words)
 }
 
-/// The likely mistake in line `number` of `bytes`, in which the parser found a fault. `message` is the parser's message.
+/// The likely mistake in line `number` of `bytes`, in which the parser found a fault. `message` is the parser's
+/// message.
 fn hint(bytes: &[u8], number: usize, message: &str) -> Text {
     let line = numbered_line(bytes, number);
     if message == "invalid UTF-8" {
