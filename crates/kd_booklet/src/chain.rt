@@ -19,7 +19,7 @@ pub type DayPlans = ArrayVec<DayPlan, 31>;
 /// the previous plan leads.
 ///
 /// The fault names the first day that can't be planned: the sheet doesn't have the day, or the day is for another
-/// model.
+/// model than the machine's.
 pub fn plan_days(machine: &Machine, sheet: &Sheet, numbers: &[u8]) -> Result<DayPlans, DayFault>
     requires { length numbers.now ≤ 31 }
     ensures planned { IfOk result

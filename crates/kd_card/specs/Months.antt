@@ -18,8 +18,8 @@ pub record IsProvedCard (machine : Parts) (day : Day) (settings : List Setting) 
   pub proves : Proves machine day settings prices
 
 -- Each of `days` has one list of settings. The first list is carried out on `machine`, and each later list on the
--- machine that the previous list has reached. `Sets` relates the machine before a list, the day, the list, and the
--- machine after the list, as `ReachesDay` does.
+-- machine that the previous list has reached. For each list, `Sets` holds of the machine before the list, the day, the
+-- list, and the machine after the list. For example, `Sets` is `ReachesDay`.
 abbrev pub DayAfterDay : (Parts → Day → List Setting → Parts → Type 0) → Parts → List Day → List (List Setting) → Type 0
 DayAfterDay Sets machine [] [] = Unit {0}
 DayAfterDay Sets machine (day ∷ days) (settings ∷ lists) =

@@ -33,8 +33,8 @@ pub record EndsKindsAt {K X : Type 0} (format : KindFormat K X) (last : Option K
   pub ends : EndsGroup format.word bytes
   pub none_more : HasNoNext format last bytes
 
--- The group of kinds goes on at `bytes`, but the first line of `bytes` is bad. A bad line has no LF, isn't the line of
--- a valid kind, or has a kind that doesn't come after `last`.
+-- The group of kinds doesn't end before `bytes`, but the first line of `bytes` is bad. A bad line has no LF, isn't the
+-- line of a valid kind, or has a kind that doesn't come after `last`.
 pub record IsBadKindAt {K X : Type 0} (format : KindFormat K X) (last : Option K) (bytes : List ℕ) : Type 0 where
   pub goes_on : ¬ (EndsGroup format.word bytes)
   pub none_more : HasNoNext format last bytes

@@ -408,7 +408,7 @@ pub(crate) fn are_kinds<K: Kind>(kinds: &[K], last: Option<K>, number: usize) ->
     }
 }
 
-/// Lists the prices of all kinds. A kind with the count 3, for example, gives its price three times.
+/// Lists the prices of all kinds, kind after kind. A kind with the count 3, for example, gives its price three times.
 pub(crate) fn prices_of_kinds<K: Kind>(kinds: &[K]) -> ArrayVec<i16, 27>
     requires kinds { AreKinds K.format None kinds.now }
     requires few { total_count K.format kinds.now ≤ 27 }

@@ -21,12 +21,12 @@ fault_of_message message.Device = faults.Device
 fault_of_message message.ReadTooLong = faults.ReadTooLong
 fault_of_message fault = faults.Message fault
 
--- the desk's answer after a message was typed, sent or received: a fault of the message becomes a `DeskFault`
+-- the desk's answer for the answer of a call that types, sends or receives a message: a fault becomes a `DeskFault`
 abbrev pub answer_to_message : Result (Unit {0}) FormFault → Result (Unit {0}) DeskFault
 answer_to_message answer = result_map_both (λ done. done) fault_of_message answer
 
--- A call typed, sent or received a message, and its answer satisfies `is_so`. `answer` is this answer, with its fault
--- turned into a `DeskFault`.
+-- The answer of a call that types, sends or receives a message satisfies `is_so`. `answer` is this answer, with its
+-- fault turned into a `DeskFault`.
 pub record IsAnswered (is_so : Result (Unit {0}) FormFault → Type 0) (answer : Result (Unit {0}) DeskFault)
     : Type 0 where
   pub told : Result (Unit {0}) FormFault

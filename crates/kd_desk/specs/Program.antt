@@ -48,7 +48,7 @@ abbrev pub with_file : {F X : Type 0} → Result F FileFault → (F → Result X
 with_file (Ok file) made = made file
 with_file (Err fault) made = Err fault
 
--- the task with the content of its file, or the fault if the file can't be read or opened
+-- the task with what is known of its file, or the fault if the file can't be read or opened
 abbrev pub known_task : (List ℕ → Option (List ℕ)) → NamedTask → Result KnownTask FileFault
 known_task held tasks.Card = Ok tasks.Card
 known_task held (tasks.Check card) = with_file (content_of (held card)) (λ bytes. Ok (tasks.Check bytes))

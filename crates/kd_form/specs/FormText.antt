@@ -27,7 +27,7 @@ next_part_start p count part = record
     { number = p.number + 1; expected = Some count; bytes_before = p.bytes_before + length part }
 
 -- a condition on the unread parts of a form: on the start of the first one, and on the bytes of each. For example,
--- `IsLastPart` says that one part is unread.
+-- `IsLastPart` says that exactly one part is unread.
 abbrev pub PartsProperty : Type 1
 PartsProperty = PartStart → List (List ℕ) → Type 0
 

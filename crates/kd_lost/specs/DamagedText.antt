@@ -115,8 +115,8 @@ abbrev pub text_window : Day → TextKeys → List ℕ
 text_window s (text_keys.Rotor i) = deciphered_key s i
 text_window s (text_keys.Pin pin) = pin.internal.items
 
--- `shown` has the text of the body `received`, with `None` for each lost letter. The other letters of the text are
--- right, whatever the lost letters were. `shown` also has `received` itself, the keys, and the warnings. With these
+-- `shown` has the text of the body `received`, with `None` for each lost letter. The other letters of the text are the
+-- same, whatever the lost letters were. `shown` also has `received` itself, the keys, and the warnings. With these
 -- keys, the machine deciphers the body to the letters in `shown`.
 pub record IsTextShown (s : Day) (i : Option Indicator) (received : List (Option ℕ))
     (shown : DamagedText) : Type 0 where

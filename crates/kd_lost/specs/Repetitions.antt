@@ -43,7 +43,8 @@ abbrev pub letter_or : Option ℕ → Option ℕ → Option ℕ
 letter_or (Some letter) other = Some letter
 letter_or None other = other
 
--- The letter at `place` of the part `read`. It comes from the first copy of this part in which the letter isn't lost.
+-- The received letter at `place` of the part `read`. It comes from the first copy of this part in which the letter
+-- isn't lost.
 abbrev pub known_letter : List DamagedPart → DamagedPart → DamagedText → ℕ → Option ℕ
 known_letter [] read shown place = None
 known_letter (copy ∷ copies) read shown place =

@@ -16,7 +16,7 @@ use Rattle.kd_lost.specs.DamagedPart.{first_line}
 abbrev pub without_mark : List ℕ → List ℕ
 without_mark form = if bytes_eq (take 3 form) (239 ∷ 187 ∷ 191 ∷ []) then drop 3 form else form
 
--- The bytes that begin with the first heading after the first line. `None` in two cases:
+-- All bytes from the first heading after the first line to the end. `None` in two cases:
 -- - No heading stands after the first line.
 -- - A line between the first line and this heading may belong to a part.
 abbrev pub later_heading : List ℕ → Option (List ℕ)

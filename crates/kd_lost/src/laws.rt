@@ -18,7 +18,7 @@ pub fn parts_read_are_shown_whole()
 
 /// If `receive` reads a form, this crate shows the text that `receive` gives, without a warning.
 ///
-/// This crate finds the same parts as `receive`, and drops nothing before the first heading.
+/// In this form, this crate finds the same parts as `receive`, and drops nothing before the first heading.
 pub fn forms_read_are_shown_whole()
     ensures tidy { FormsReadAreTidy }
     ensures parts { FormsReadHaveTheirParts }

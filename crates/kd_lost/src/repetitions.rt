@@ -82,7 +82,8 @@ fn completed_byte(
     }
 }
 
-/// The letter at `place` of the part `read`. It comes from the first copy of this part in which the letter isn't lost.
+/// The received letter at `place` of the part `read`. It comes from the first copy of this part in which the letter
+/// isn't lost.
 fn known_letter(
     copies: &[DamagedPart],
     read: &DamagedPart,

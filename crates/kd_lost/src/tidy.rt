@@ -40,7 +40,7 @@ fn without_mark(form: &[u8]) -> &[u8]
     }
 }
 
-/// The bytes that begin with the first heading after the first line. `None` in two cases:
+/// All bytes from the first heading after the first line to the end. `None` in two cases:
 /// - No heading stands after the first line.
 /// - A line between the first line and this heading may belong to a part. A part with a damaged heading mustn't be
 ///   dropped in silence.

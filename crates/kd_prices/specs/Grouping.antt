@@ -50,7 +50,7 @@ pub record AppendsKinds {K X : Type 0} (format : KindFormat K X) (kind : KindOf 
 abbrev pub HasNoneLeft : {X : Type 0} → List (KindOf X) → X → Type 0
 HasNoneLeft kinds key = All (λ pair. pair.0 ≢ key) (expansion kinds)
 
--- Taking one `key` with the price `price` away from `kinds` leaves the kinds `left`. For example, a kind with the
--- count 3 is left with the count 2.
+-- The kinds `kinds` stand for the same keys and prices as `left`, in any order, and for one more `key` with the price
+-- `price`. For example, a kind has the count 3 in `kinds`, and the count 2 in `left`.
 abbrev pub TakesOne : {X : Type 0} → List (KindOf X) → X → ℤ → List (KindOf X) → Type 0
 TakesOne kinds key price left = IsPermutation (expansion kinds) ((key, price) ∷ expansion left)

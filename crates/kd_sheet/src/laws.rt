@@ -20,7 +20,8 @@ pub fn written_sheets_are_read_back()
 
 /// A day is legal exactly if a key sheet with only one entry can describe this day.
 ///
-/// If a key sheet is read without a fault, its days are exactly those that its entries describe.
+/// If a key sheet is read without a fault, its days are exactly those that its entries describe, each under its own
+/// number.
 pub fn days_are_the_entries()
     ensures legal { LegalDaysAreDescribed }
     ensures sheet { DaysAreTheEntries }

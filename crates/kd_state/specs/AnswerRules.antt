@@ -14,8 +14,8 @@ pub data ThenNext {F X Y : Type 0} (First : Result X F → Type 0) (Next : X →
   HasFault : (fault : F) → First (Err fault) → answer ≡ Err fault → ThenNext First Next answer
   GoesOn : (x : X) → First (Ok x) → Next x answer → ThenNext First Next answer
 
--- Joins the rules of two steps: `says >>= next` is `ThenNext says next`. From the value `x` that the first step finds,
--- `next x` makes the rule for the second step.
+-- Joins the rules of two steps: `says >>= next` is `ThenNext says next`. If the first step finds the value `x`,
+-- `next x` is the rule for the second step.
 infixl 10 ◌>>=◌
 abbrev pub ◌>>=◌ : {F X Y : Type 0} → AnswerRule F X → (X → AnswerRule F Y) → AnswerRule F Y
 says >>= next = ThenNext says next

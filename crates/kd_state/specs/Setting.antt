@@ -42,7 +42,7 @@ with_lug Right place bar = (bar.0, place)
 abbrev pub cable_without : ℕ → Option ℕ × Option ℕ → Option ℕ × Option ℕ
 cable_without letter cable = if option_map_or (nat_eq letter) cable.0 false then (cable.1, None) else (cable.0, None)
 
--- the letters of `cable` and `letter`, in alphabetical order; `cable` must have an empty end
+-- `cable` with `letter` at an empty end, and with its letters in alphabetical order; `cable` must have an empty end
 abbrev pub cable_with : ℕ → Option ℕ × Option ℕ → Option ℕ × Option ℕ
 cable_with letter cable = cable_in_order (option_or cable.0 cable.1) (Some letter)
 

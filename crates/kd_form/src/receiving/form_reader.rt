@@ -33,8 +33,8 @@ pub(crate) struct FormReader {
     pub(crate) stage: FormStage,
 }
 
-/// What a reader keeps of the current part: first the bytes of its heading line, then its heading and the letters of
-/// its body.
+/// What a reader keeps of the current part: at first bytes of its heading line, then its heading, and letters of its
+/// body.
 #[derive(Drop)]
 pub(crate) enum FormStage {
     /// The heading line; its first `KEPT_LINE` bytes are kept.
