@@ -130,7 +130,7 @@ fn judge_rotors(
     )
 }
 
-/// If the value of `key` has a fault, appends this fault. The value must have a letter for each wheel of the box.
+/// If there is a fault at `key`, appends this fault. The value of `key` must have a letter for each wheel of the box.
 fn judge_box_letters(
     list: &mut Vec<Finding>,
     wording: Wording,

@@ -142,7 +142,7 @@ fn line_hint(line: &[u8]) -> Text {
     }
 }
 
-/// Whether a file's first line names the columns of a spreadsheet: it has at least two separators, and no `=`.
+/// Whether a file's first line may name the columns of a spreadsheet: it has at least two separators, and no `=`.
 fn is_spreadsheet_head(line: &[u8]) -> bool {
     let separators = line
         .iter()

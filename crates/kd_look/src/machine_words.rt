@@ -14,7 +14,7 @@ use kd_state::Machine;
 use kd_tables::{Letter, Wheel};
 use std::alloc::AllocError;
 
-/// The parts of a machine that come several times: slots, cables, pin wheels and bars. They are numbered from 1.
+/// A sort of numbered parts of a machine: slots, cables, pin wheels or bars. Each sort is numbered from 1.
 #[derive(Clone, Copy)]
 pub enum Thing {
     Slot,

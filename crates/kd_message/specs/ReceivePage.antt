@@ -122,9 +122,9 @@ abbrev pub number_or : ℕ → Option PartNumbers → ℕ
 number_or before (Some numbers) = numbers.part
 number_or before None = before
 
--- The text of section `section` about the unnumbered parts between part `after` and the next numbered part. If `after`
--- is 0, about the parts before the first numbered part. `before` is the number of the last numbered part before the
--- list; 0 if there is none.
+-- The text of section `section` about the unnumbered parts after a part with the number `after`, up to the next
+-- numbered part. If `after` is 0, about the parts before the first numbered part. `before` is the number of the last
+-- numbered part before the list; 0 if there is none.
 abbrev pub lone_after : Section → Language → Day → ℕ → ℕ → List DamagedPart → List ℕ
 lone_after section l s after before [] = []
 lone_after section l s after before (part ∷ parts) =

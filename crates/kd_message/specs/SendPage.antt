@@ -135,7 +135,7 @@ AreMade s part parts (k ∷ keys) [] made = ⊥
 abbrev pub text_pieces : Day → List ℕ → List (List ℕ)
 text_pieces s text = pieces (part_size s) (text_letters s text)
 
--- `sheets` are the sheets of the order, in language `l`: first a sheet for each part, then the form's parts. If
+-- `sheets` are the sheets of the order, in language `l`: their list, a sheet for each part, then the form. If
 -- `results` are left open, the sheets have neither the ciphertext nor the windows after a row. `place` is the order's
 -- number in a file of several orders; it is `None` in a file of one order.
 pub record AreOrderSheets (results : Results) (l : Language) (s : Day) (place : Option ℕ) (order form sheets : List ℕ)

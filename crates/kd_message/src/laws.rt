@@ -48,10 +48,9 @@ pub fn whole_messages_are_on_the_page()
     ensures { WholeMessagesAreOnThePage }
 {}
 
-/// If a form has one part for each number of a whole message, `desk receive` gives the text that the message's page
-/// shows.
+/// If a form is one whole message, `desk receive` gives the text on the message's page from one part for each number.
 ///
-/// The parts must be in the order of their numbers. The form must have no lost letter, no small letter, no tab, and no
+/// These parts are in the order of their numbers. The form must have no lost letter, no small letter, no tab, and no
 /// needless blank in a heading.
 pub fn whole_messages_are_read()
     ensures { WholeMessagesAreRead }

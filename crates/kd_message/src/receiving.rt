@@ -255,7 +255,8 @@ fn draw_shown<W: Sink>(
     }
 }
 
-/// Writes the section's text about the unnumbered parts in `parts` between part `after` and the next numbered part.
+/// Writes the section's text about the unnumbered parts in `parts` after a part with the number `after`, up to the
+/// next numbered part.
 ///
 /// If `after` is 0, about the parts before the first numbered part. `before` is the number of the last numbered part
 /// before the list; 0 if there is none.
@@ -450,7 +451,7 @@ fn draw_listed_unread<W: Sink>(sink: &mut W, language: Language, name: PartName)
     );
 }
 
-/// If a part is read, writes the sheet for this part.
+/// If a part has a text, or else a text by count, writes the sheet for this part.
 fn draw_worked<W: Sink>(
     sink: &mut W,
     language: Language,

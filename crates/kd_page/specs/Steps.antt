@@ -33,8 +33,8 @@ idle_text l title = filled IDLE_STEP.now (word_text l title ∷ count_text l 0 �
 unfoldable pub plain_step_text : Page → Word → List ℕ
 plain_step_text page title = filled PLAIN_STEP.now (word_text page.language title ∷ []) ++ titled_text page
 
--- The head of a step that sets windows or letters. `count` is the number of settings, and the head gives it if it
--- isn't 0.
+-- The head of a step that sets windows or letters. The step may have more checkboxes than settings. `count` is the
+-- number of settings, and the head gives it if it isn't 0.
 abbrev pub full_step_text : Page → Word → ℕ → List ℕ
 full_step_text page title count = if count == 0 then plain_step_text page title else step_text page title count
 

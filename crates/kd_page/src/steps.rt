@@ -70,8 +70,8 @@ pub(crate) fn draw_plain_step<W: Sink>(sink: &mut W, page: &Page<'_>, title: Wor
     draw_titled(sink, page);
 }
 
-/// Writes the head of a step that sets windows or letters. `count` is the number of settings, and the head gives it if
-/// it isn't 0.
+/// Writes the head of a step that sets windows or letters. The step may have more checkboxes than settings. `count` is
+/// the number of settings, and the head gives it if it isn't 0.
 pub(crate) fn draw_full_step<W: Sink>(sink: &mut W, page: &Page<'_>, title: Word, count: u8)
     ensures { Draws W.taken W.has_failed sink.old sink.new (full_step_text page.now title count) }
 {

@@ -192,7 +192,7 @@ fn lone_wheel(machine: &Machine, other: &Machine, slot: u8) -> Option<Wheel>
     }
 }
 
-/// The reflector before the settings. `None` if the machine still has this reflector after the settings.
+/// The reflector before the settings. `None` if there is none, or if the machine still has it after the settings.
 fn boxed_reflector(page: &Page<'_>) -> Option<Reflector>
     ensures { result ≡ boxed_reflector page.now }
 {

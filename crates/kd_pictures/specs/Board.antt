@@ -52,8 +52,8 @@ is_plugged m number = is_some (cable_of m number).0
 abbrev pub cable_after : List ℕ → Parts → ℕ → List ℕ
 cable_after separator m number = separator ++ cable_words number (cable_of m number)
 
--- The words for the cables in the list; a cable without a plug is left out. `separator` stands before the first cable,
--- and a comma before each later one.
+-- The words for the cables in the list that have a plug, such as `1 A-B, 2 C-D`. `separator` stands before the first
+-- of these cables, and a comma before each later one.
 abbrev pub cables_after : List ℕ → Parts → List ℕ → List ℕ
 cables_after separator m [] = []
 cables_after separator m (number ∷ numbers) =

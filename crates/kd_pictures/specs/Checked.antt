@@ -17,7 +17,7 @@ HasGaps template number = count_by is_gap template ≡ number
 abbrev pub Takes : record { now : List ℕ } × record { now : List ℕ } → ℕ → Type 0
 Takes text number = HasGaps (text_in English text) number × HasGaps (text_in German text) number
 
--- Each template has a sign `~` for each value that pages fill into it.
+-- Each template has exactly as many signs `~` as it gets values.
 abbrev pub TemplatesTakeTheirValues : Type 0
 TemplatesTakeTheirValues =
     HasGaps texts.HEAD.now 1 × Takes texts.TITLE_DAY 2 × Takes texts.TITLE_DAYS 3 × Takes texts.NAV_DAY 3

@@ -66,7 +66,7 @@ fn picture_name(plugs: Plugs) -> Word
     }
 }
 
-/// Writes in words which cables have a plug, or that none has a plug.
+/// Writes each cable that has a plug, in words such as `1 A-B`. If no cable has a plug, says so.
 #[tactic(auto, unfolding(crate::specs::Board::all_cables))]
 pub fn draw_all_cables<W: Sink>(sink: &mut W, language: Language, machine: &Machine)
     ensures { Draws W.taken W.has_failed sink.old sink.new (all_cables language machine.now) }
@@ -96,8 +96,8 @@ fn is_plugged(machine: &Machine, number: u8) -> bool
     one.is_some()
 }
 
-/// Writes in words which of the cables `numbers` have a plug. `separator` stands before the first of them, and a comma
-/// before each later one.
+/// Writes each of the cables `numbers` that has a plug, in words such as `1 A-B`. `separator` stands before the first
+/// of these cables, and a comma before each later one.
 fn draw_cables_after<W: Sink>(
     sink: &mut W,
     language: Language,

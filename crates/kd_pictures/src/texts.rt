@@ -295,8 +295,8 @@ pub const BOXED_REFLECTOR: Text = (" reflector <b>~</b>", " Umkehrwalze <b>~</b>
 pub const BOXED_END: &str = "</p>\n";
 
 /// A list of wheels in the box, with their rings.
-/// - `BOX_BEFORE`: the start of the list of rings before the first step.
-/// - `BOX_AFTER`: the start of the list of rings after the step that sets rings.
+/// - `BOX_BEFORE`: the start of the list that gives the rings before the settings.
+/// - `BOX_AFTER`: the start of the list that gives the rings after the step that sets rings.
 /// - `BOX_WHEEL`: an item of the list, for one wheel.
 pub const BOX_BEFORE: Text = (
     "<p>Compare these rings in the box, too:",

@@ -70,7 +70,7 @@ fn push_day(
     push_few(lines, wording, start, days, day, Counted::Groups)
 }
 
-/// If another day of the model in `days` has more pairs, or more groups, than `day`, appends the warning about `day`.
+/// If another day of `day`'s model in `days` has more pairs, or more groups, appends the warning about `day`.
 ///
 /// `counted` says whether pairs or groups are compared.
 fn push_few(

@@ -52,7 +52,7 @@ printed_text table letters (letter ∷ text) =
 
 -- ---- The table of a key.
 
--- Whether wheel `wheel`, from 1 to 6, is in set number `number`. In binary, the number has six digits, for the wheels
+-- Whether `wheel` is from 1 to 6, and is in set number `number`. In binary, the number has six digits, for the wheels
 -- 1 to 6. For example, 110000 is the set of the wheels 1 and 2.
 abbrev pub is_in_row : ℕ → ℕ → Bool
 is_in_row number wheel = (nat_le 1 wheel && nat_le wheel 6) && nat_eq (number / 2 ^ (6 - wheel) % 2) 1

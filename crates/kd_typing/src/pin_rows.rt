@@ -93,7 +93,7 @@ fn is_met(bar: Reading, number: usize) -> bool
     is_in_row(number, smaller) || is_in_row(number, larger)
 }
 
-/// Whether wheel `wheel`, from 1 to 6, is in set number `number`.
+/// Whether `wheel` is from 1 to 6, and is in set number `number`.
 ///
 /// In binary, the number has six digits, for the wheels 1 to 6. For example, 110000 is the set of the wheels 1 and 2.
 fn is_in_row(number: usize, wheel: u8) -> bool
