@@ -1,6 +1,6 @@
 -- Notes that are written, and lines that make up a note.
-use Rattle.std.proofs.Common.{◌≡◌, ◌∙◌, ◌&&◌, ◌||◌, ◌+◌, ◌<◌, ◌++◌, ◌∷◌, ℕ, Bool, true, false, List, [], ap, length, Option, Some, Result, Ok, Err, is_err, refl, sym, subst, arith, append_assoc}
-use Rattle.std.proofs.lemmas.Grind.{common_steps}
+use Rattle.std.proofs.Common.{◌≡◌, ◌∙◌, ◌&&◌, ◌||◌, ◌+◌, ◌<◌, ◌++◌, ◌∷◌, ℕ, Bool, true, false, List, [], ap, length, length-append, Option, Some, Result, Ok, Err, is_err, refl, sym, subst, arith, append_assoc}
+use Rattle.std.proofs.lemmas.Grind.{common_steps, flat_map-append}
 use Rattle.std.proofs.lemmas.List.{append-nil}
 use Rattle.std.specs.Prelude.{flat_map}
 use Rattle.std.specs.List.{after_first, before_first, list_all}
@@ -14,7 +14,7 @@ use Rattle.kd_spreadsheet.specs.Cells.{day_in, has_columns, is_faulty, row_cells
 use Rattle.kd_spreadsheet.specs.Columns.{cell_at, columns_of}
 use Rattle.kd_spreadsheet.specs.Items.{is_blank}
 use Rattle.kd_spreadsheet.specs.Options.{OptionTexts}
-use Rattle.kd_spreadsheet.specs.Notes.{NextCell, NoCells, TellsCells, TellsPlacedRow, TellsText, cell_place, line_at, unread_line, unread_note, unread_words, HasRowsNote, OfRows, TellsRow, TellsTable, row_place}
+use Rattle.kd_spreadsheet.specs.Notes.{NextCell, NoCells, TellsCells, TellsPlacedRow, TellsText, cell_place, line_at, unread_line, unread_note, unread_words, HasRowsNote, HasSomeLine, OfRows, TellsRow, TellsTable, row_place}
 use Rattle.kd_spreadsheet.specs.NearNames.{is_misnamed}
 use Rattle.kd_spreadsheet.specs.Row.{IsDayOfRow, IsNoDay, is_column_read, row_values}
 use Rattle.kd_spreadsheet.specs.declared.cell.Cell.{Cell}
@@ -159,16 +159,42 @@ pub of_text : (l : Language) (options : OptionTexts) (table text old new : List 
     → TellsTable l options table text → TellsTable l options table new
 of_text l options table text old new none is told = rw (is, none) told
 
-pub of_rows : (l : Language) (options : OptionTexts) (table : List ℕ) (head : List (List ℕ)) (old middle new : List ℕ)
-    → old ≡ []
-    → ((missing : List (List ℕ))
-    × (middle ≡ old ++ (unread_note l head ++ flat_map (line_at (text_in l FIRST_ROW)) missing))
+-- a line was appended, if there was none before
+line_in_all : (f g : List ℕ → List ℕ) (missing : List (List ℕ)) (text : List ℕ) (words last : List (List ℕ))
+    (before after : List ℕ) (is_due : Bool)
+    → after ≡ before ++ (flat_map f missing ++ (text ++ flat_map g words)) → (is_due ≡ true → 0 < length last)
+    → (length after ≡ length before → is_due ≡ true) → HasSomeLine missing text (words ++ last)
+line_in_all f g [] [] [] last before after is_due appended some due =
+    let told = some (due (ap length appended ∙ ap length (append-nil before))) in omega arith
+line_in_all f g [] [] (line ∷ words) last before after is_due appended some due = omega arith
+line_in_all f g [] (byte ∷ text) words last before after is_due appended some due = omega arith
+line_in_all f g (line ∷ missing) text words last before after is_due appended some due = omega arith
+
+four_parts : (a b c d : List ℕ) → a ++ (b ++ c) ++ d ≡ a ++ (b ++ (c ++ d))
+four_parts a b c d = append_assoc a (b ++ c) d ∙ ap (λ t. a ++ t) (append_assoc b c d)
+
+pub of_faults : (l : Language) (options : OptionTexts) (table : List ℕ) (head : List (List ℕ)) (n0 n1 n2 n3 : List ℕ)
+    (is_due : Bool)
+    → ((missing : List (List ℕ)) × (n1 ≡ n0 ++ flat_map (line_at (text_in l FIRST_ROW)) missing)
     × (is_misnamed (columns_of head) head ≡ true → 0 < length missing))
-    → HasRowsNote l options (columns_of head) head table middle new → TellsTable l options table new
-of_rows l options table head old middle new none (missing, first, named) has =
+    → HasRowsNote l options (columns_of head) head table n1 n2
+    → ((last : List (List ℕ)) × (n3 ≡ n2 ++ flat_map (line_at []) last) × (is_due ≡ true → 0 < length last))
+    → (length n2 ≡ length n0 → is_due ≡ true)
+    → (rest : List ℕ) × (n3 ≡ n0 ++ rest) × TellsTable l options table (unread_note l head ++ rest)
+of_faults l options table head n0 n1 n2 n3 is_due (missing, first, named) has (last, third, some) due =
     let of_missing = flat_map (line_at (text_in l FIRST_ROW)) missing in
-    let of_end = flat_map (line_at []) has.words in
-    let is : new ≡ unread_note l head ++ (of_missing ++ (has.text ++ of_end)) =
-    has.appended ∙ ap (λ t. t ++ (has.text ++ of_end)) (first ∙ ap (λ t. t ++ (unread_note l head ++ of_missing)) none)
-    ∙ append_assoc (unread_note l head) of_missing (has.text ++ of_end) in
-    rw is (OfRows head has.rows missing has.text has.words has.are has.told has.empty named)
+    let of_words = flat_map (line_at []) has.words in
+    let of_last = flat_map (line_at []) last in
+    let words = has.words ++ last in
+    let second = two_parts n0 n1 n2 of_missing (has.text ++ of_words) first has.appended in
+    let all = two_parts n0 n2 n3 (of_missing ++ (has.text ++ of_words)) of_last second third in
+    let joined : of_missing ++ (has.text ++ of_words) ++ of_last ≡ of_missing ++ (has.text ++ flat_map (line_at []) words) =
+    four_parts of_missing has.text of_words of_last
+    ∙ ap (λ t. of_missing ++ (has.text ++ t)) (sym (flat_map-append (line_at []) has.words last)) in (
+      of_missing ++ (has.text ++ flat_map (line_at []) words),
+      all ∙ ap (λ t. n0 ++ t) joined,
+      OfRows head has.rows missing has.text words has.are has.told
+          (λ is. let told = has.empty is in omega (arith, length-append has.words last)) named
+          (line_in_all (line_at (text_in l FIRST_ROW)) (line_at []) missing has.text has.words last n0 n2 is_due second
+          some due),
+    )

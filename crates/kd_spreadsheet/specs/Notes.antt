@@ -180,12 +180,16 @@ quotes_note l = line_at [] (text_in l texts.OPEN_QUOTE)
 abbrev pub nothing_note : Language → List ℕ
 nothing_note l = line_at [] (text_in l texts.NO_ROW)
 
+-- There is at least one line: about columns (`missing`), on a row (`note`), or about the whole table (`words`).
+abbrev pub HasSomeLine : List (List ℕ) → List ℕ → List (List ℕ) → Type 0
+HasSomeLine missing note words = 0 < length missing + (length note + length words)
+
 -- The notes on a refused table:
 -- - If the table's quotes are wrong, a single line.
 -- - If the table has no rows, a single line.
--- - Otherwise, the notes on unread columns, on misnamed or missing columns, and on each row. If a column is misnamed,
---   there is at least one line about columns. If all rows under the first row are blank, there is at least one line
---   about the whole table.
+-- - Otherwise, the notes on unread columns, on misnamed or missing columns, on each row, and on the whole table. Besides
+--   the notes on unread columns, there is at least one line. If a column is misnamed, there is at least one line about
+--   columns. If all rows under the first row are blank, there is at least one line about the whole table.
 pub data TellsTable (l : Language) (options : OptionTexts) (table : List ℕ) : List ℕ → Type 0 where
   OfQuotes : is_well_quoted table ≡ false → TellsTable l options table (quotes_note l)
   OfNothing : AreRows table [] → TellsTable l options table (nothing_note l)
@@ -193,7 +197,7 @@ pub data TellsTable (l : Language) (options : OptionTexts) (table : List ℕ) : 
       (words : List (List ℕ)) → AreRows table (head ∷ rows)
       → TellsRows l options (columns_of head) head (drop 1 (row_numbers table)) rows note
       → (list_all (is_blank_row (columns_of head)) rows ≡ true → 0 < length words)
-      → (is_misnamed (columns_of head) head ≡ true → 0 < length missing)
+      → (is_misnamed (columns_of head) head ≡ true → 0 < length missing) → HasSomeLine missing note words
       → TellsTable l options table (unread_note l head
       ++ (flat_map (line_at (text_in l texts.FIRST_ROW)) missing ++ (note ++ flat_map (line_at []) words)))
 

@@ -6,6 +6,7 @@ ghost use Rattle.std.specs.Prelude.{◌≡◌, ◌<◌, ◌&&◌, ◌++◌, ◌�
 ghost use Rattle.csv.specs.Records.{fields_of};
 ghost use Rattle.kd_language.specs.Language.{text_in};
 ghost use Rattle.kd_tables.specs.Ports.{port};
+ghost use Rattle.kd_spreadsheet.specs.Columns.{columns_of};
 ghost use Rattle.kd_spreadsheet.specs.Notes.{line_at, unread_note, HasRowsNote, Tells, TellsRows, TellsTable, TellsText};
 ghost use Rattle.kd_spreadsheet.specs.NearNames.{is_misnamed};
 ghost use Rattle.kd_spreadsheet.specs.Options.{texts_of};
@@ -31,7 +32,7 @@ use crate::options::TableOptions;
 use crate::quotes::{is_well_quoted, separator_of, strip_bom};
 use crate::records::read_records;
 use crate::row::is_blank_row;
-use crate::texts::{FIRST_ROW, MISNAMED, NO_ROW, OPEN_QUOTE};
+use crate::texts::{FIRST_ROW, MISNAMED, NO_ROW, NO_SHEET, OPEN_QUOTE};
 use csv::ByteRecord;
 use found::Found;
 use head::Head;
@@ -89,19 +90,52 @@ fn push_table(
     };
     let columns = Columns::of_head(names);
     let head = Head::new(wording, options, &columns, names);
-    push_head(note, &head)?;
-    push_rows(note, table, &head, rows)
+    push_unread_note(note, &head)?;
+    push_faults(note, table, &head, rows)
 }
 
-/// Appends the notes on unread columns, on misnamed columns, and on missing columns that every table needs.
-fn push_head(note: &mut Vec<u8>, head: &Head<'_>) -> Result<(), AllocError>
-    ensures { IfOk result (λ _. (missing : List (List ℕ)) × (note.new.items ≡ note.old.items
-        ++ (unread_note head.now.language head.now.names
-        ++ flat_map (line_at (text_in head.now.language FIRST_ROW_TEXT)) missing))
-        × (is_misnamed head.now.columns head.now.names ≡ true → 0 < length missing)) }
+/// Appends the notes on unread columns.
+fn push_unread_note(note: &mut Vec<u8>, head: &Head<'_>) -> Result<(), AllocError>
+    ensures { IfOk result (λ _. note.new.items
+        ≡ note.old.items ++ unread_note head.now.language head.now.names) }
 {
     let unread = unread_note(head.wording(), head.names())?;
-    push_bytes(note, unread.as_slice())?;
+    push_bytes(note, unread.as_slice())
+}
+
+/// Appends the notes on misnamed or missing columns, on the rows, and on the whole table. Appends at least one line.
+fn push_faults(
+    note: &mut Vec<u8>,
+    table: &[u8],
+    head: &Head<'_>,
+    rows: &[ByteRecord],
+) -> Result<(), AllocError>
+    requires columns { head.now.columns ≡ columns_of head.now.names }
+    requires are { AreRows table.now (head.now.names ∷ map fields_of rows.now) }
+    ensures { IfOk result (λ _. (rest : List ℕ) × (note.new.items ≡ note.old.items ++ rest)
+        × TellsTable head.now.language head.now.options table.now
+        (unread_note head.now.language head.now.names ++ rest)) }
+{
+    let start = note.len();
+    push_head(note, head)?;
+    push_rows(note, table, head, rows)?;
+    let is_due = note.len() == start;
+    let language = head.language();
+    push_due_words(
+        note,
+        b"",
+        &Words::new(language),
+        is_due,
+        language.text(NO_SHEET),
+    )
+}
+
+/// Appends the notes on misnamed columns, and on missing columns that every table needs.
+fn push_head(note: &mut Vec<u8>, head: &Head<'_>) -> Result<(), AllocError>
+    ensures { IfOk result (λ _. (missing : List (List ℕ)) × (note.new.items ≡ note.old.items
+        ++ flat_map (line_at (text_in head.now.language FIRST_ROW_TEXT)) missing)
+        × (is_misnamed head.now.columns head.now.names ≡ true → 0 < length missing)) }
+{
     let is_due = is_misnamed(head.columns(), head.names());
     let place = head.language().text(FIRST_ROW).as_bytes();
     let otherwise = head.language().text(MISNAMED);

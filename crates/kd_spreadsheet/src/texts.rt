@@ -40,6 +40,12 @@ pub const NO_ROW: Text = (
     "die Tabelle hat keine Zeile mit einem Tag",
 );
 
+/// The words for a refused table, if no other line says why it is refused.
+pub const NO_SHEET: Text = (
+    "the rows aren't the days of one key sheet",
+    "die Zeilen sind nicht die Tage einer Schlüsseltafel",
+);
+
 // ---- Columns.
 
 /// The words for a table with a misnamed column, if no other line says what is wrong with the columns.
