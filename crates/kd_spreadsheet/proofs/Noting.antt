@@ -3,18 +3,18 @@ use Rattle.std.proofs.Common.{◌≡◌, ◌∙◌, ◌&&◌, ◌||◌, ◌+◌,
 use Rattle.std.proofs.lemmas.Grind.{common_steps, flat_map-append}
 use Rattle.std.proofs.lemmas.List.{append-nil}
 use Rattle.std.specs.Prelude.{flat_map}
-use Rattle.std.specs.List.{after_first, before_first, list_all}
+use Rattle.std.specs.List.{after_first, before_first, list_all, list_any}
 use Rattle.kd_state.specs.SheetDay.{Day}
 use Rattle.kd_language.specs.Language.{text_in}
 use Rattle.kd_language.specs.Template.{is_gap}
 unfoldable use Rattle.kd_language.specs.Template.{filled}
 use Rattle.kd_language.specs.declared.language.Language.{Language}
 use Rattle.kd_tables.specs.Writing.{Writes}
-use Rattle.kd_spreadsheet.specs.Cells.{day_in, has_columns, is_faulty, row_cells, row_model}
+use Rattle.kd_spreadsheet.specs.Cells.{has_columns, row_cells, row_model}
 use Rattle.kd_spreadsheet.specs.Columns.{cell_at, columns_of}
 use Rattle.kd_spreadsheet.specs.Items.{is_blank}
 use Rattle.kd_spreadsheet.specs.Options.{OptionTexts}
-use Rattle.kd_spreadsheet.specs.Notes.{NextCell, NoCells, TellsCells, TellsPlacedRow, TellsText, cell_place, line_at, unread_line, unread_note, unread_words, HasRowsNote, HasSomeLine, OfRows, TellsRow, TellsTable, row_place}
+use Rattle.kd_spreadsheet.specs.Notes.{NextCell, NoCells, TellsCells, TellsPlacedRow, TellsText, cell_place, line_at, unread_line, unread_note, unread_words, HasRowsNote, HasSomeLine, OfRows, TellsRow, TellsTable, day_of_row, needs_note, repeats_day, row_place}
 use Rattle.kd_spreadsheet.specs.NearNames.{is_misnamed}
 use Rattle.kd_spreadsheet.specs.Row.{IsDayOfRow, IsNoDay, is_column_read, row_values}
 use Rattle.kd_spreadsheet.specs.declared.cell.Cell.{Cell}
@@ -61,25 +61,27 @@ line_alone place old new line is =
 
 -- ---- the note on a row's cells
 
-module _ (options : OptionTexts) (columns : Columns) (head : List (List ℕ)) (place : List ℕ) (row : List (List ℕ)) where
+module _ (options : OptionTexts) (columns : Columns) (head : List (List ℕ)) (place : List ℕ) (row : List (List ℕ))
+    (repeated : Bool) where
   abbrev pub TellsCell : Cell → List ℕ → List ℕ → Type 0
   TellsCell cell old new = (lines : List (List ℕ))
       × (new ≡ old ++ flat_map (line_at (cell_place columns head place cell)) lines)
-      × (is_faulty options columns row cell ≡ true → 0 < length lines)
+      × (needs_note options columns row repeated cell ≡ true → 0 < length lines)
 
   abbrev pub TellsMore : List Cell → List ℕ → List ℕ → Type 0
-  TellsMore cells old new = (more : List ℕ) × (new ≡ old ++ more) × TellsCells options columns head place row cells more
+  TellsMore cells old new =
+      (more : List ℕ) × (new ≡ old ++ more) × TellsCells options columns head place row repeated cells more
 
   pub cell_first : (cell : Cell) (cells all : List Cell) (old middle new : List ℕ) → all ≡ cell ∷ cells
       → TellsCell cell old middle → TellsMore cells middle new → TellsMore all old new
   cell_first cell cells all old middle new split (lines, first, some) (more, rest, told) =
       let of_cell = flat_map (line_at (cell_place columns head place cell)) lines in
-      let P : List Cell → Type 0 = λ cs. TellsCells options columns head place row cs (of_cell ++ more) in
+      let P : List Cell → Type 0 = λ cs. TellsCells options columns head place row repeated cs (of_cell ++ more) in
       (of_cell ++ more, two_parts old middle new of_cell more first rest, subst P (sym split) (NextCell cell cells lines more some told))
 
   pub no_cells : (cells : List Cell) (old : List ℕ) → cells ≡ [] → TellsMore cells old old
   no_cells cells old none =
-      let P : List Cell → Type 0 = λ cs. TellsCells options columns head place row cs [] in
+      let P : List Cell → Type 0 = λ cs. TellsCells options columns head place row repeated cs [] in
       ([], sym (append-nil old), subst P (sym none) NoCells)
 
   -- a line was appended, if nothing was said of the cells of a row that is no day
@@ -94,7 +96,7 @@ module _ (options : OptionTexts) (columns : Columns) (head : List (List ℕ)) (p
       → ((words : List (List ℕ)) × (n3 ≡ n2 ++ flat_map (line_at place) words) × (is_due ≡ true → 0 < length words))
       → (IsNoDay (row_values options columns row) → has_columns options columns row ≡ true → length n2 ≡ length n1
       → is_due ≡ true)
-      → TellsPlacedRow options columns head place row n1 n3
+      → TellsPlacedRow options columns head place row repeated n1 n3
   placed_told n1 n2 n3 is_due (of_cells, second, told) (words, third, some) due = record {
     of_cells = of_cells;
     words = words;
@@ -103,31 +105,34 @@ module _ (options : OptionTexts) (columns : Columns) (head : List (List ℕ)) (p
     some = λ none has. some_line of_cells words n1 n2 is_due second some (due none has);
   }
 
-  pub row_told : (l : Language) (number : ℕ) (n0 n1 n2 : List ℕ)
-      → place ≡ row_place l number (day_in (cell_at columns.day row))
+  pub row_told : (l : Language) (number : ℕ) (n0 n1 n2 : List ℕ) → place ≡ row_place l number (day_of_row columns row)
       → ((missing : List (List ℕ)) × (n1 ≡ n0 ++ flat_map (line_at (text_in l FIRST_ROW)) missing))
-      → TellsPlacedRow options columns head place row n1 n2
-      → (more : List ℕ) × (n2 ≡ n0 ++ more) × TellsRow l options columns head number row more
+      → TellsPlacedRow options columns head place row repeated n1 n2
+      → (more : List ℕ) × (n2 ≡ n0 ++ more) × ((earlier : List (List (List ℕ)))
+      → repeated ≡ repeats_day columns earlier row → TellsRow l options columns head number earlier row more)
   row_told l number n0 n1 n2 same (missing, first) told =
       let of_missing = flat_map (line_at (text_in l FIRST_ROW)) missing in
       let of_row = flat_map (line_at place) told.words in
-      let P : List ℕ → Type 0 = λ p.
-      TellsCells options columns head p row (row_cells (row_model options columns row)) told.of_cells in (
+      let cells = row_cells (row_model options columns row) in
+      let P : List ℕ → Type 0 = λ p. TellsCells options columns head p row repeated cells told.of_cells in (
         of_missing ++ (told.of_cells ++ of_row),
         two_parts n0 n1 n2 of_missing (told.of_cells ++ of_row) first told.appended,
-        record {
-          missing = missing;
-          of_cells = told.of_cells;
-          of_row = of_row;
-          words = told.words;
-          joined = refl;
-          cells = subst P same told.cells;
-          whole = ap (λ p. flat_map (line_at p) told.words) same;
-          some = told.some;
-        },
+        λ earlier again.
+            let Q : Bool → Type 0 = λ r.
+            TellsCells options columns head (row_place l number (day_of_row columns row)) row r cells told.of_cells in
+            record {
+              missing = missing;
+              of_cells = told.of_cells;
+              of_row = of_row;
+              words = told.words;
+              joined = refl;
+              cells = subst Q again (subst P same told.cells);
+              whole = ap (λ p. flat_map (line_at p) told.words) same;
+              some = told.some;
+            },
       )
 
--- ---- blank rows
+-- ---- tests of all rows
 
 and_true : (b : Bool) → (b && true) ≡ b
 and_true true = refl
@@ -140,6 +145,18 @@ and_assoc false b c = refl
 pub all_more : {A : Type 0} (p : A → Bool) (xs : List A) (x : A) → list_all p (xs ++ x ∷ []) ≡ (list_all p xs && p x)
 all_more p [] x = and_true (p x)
 all_more p (y ∷ xs) x = ap (λ b. p y && b) (all_more p xs x) ∙ and_assoc (p y) (list_all p xs) (p x)
+
+pub or_false : (b : Bool) → (b || false) ≡ b
+or_false true = refl
+or_false false = refl
+
+or_assoc : (a b c : Bool) → (a || (b || c)) ≡ ((a || b) || c)
+or_assoc true b c = refl
+or_assoc false b c = refl
+
+pub any_more : {A : Type 0} (p : A → Bool) (xs : List A) (x : A) → list_any p (xs ++ x ∷ []) ≡ (list_any p xs || p x)
+any_more p [] x = or_false (p x)
+any_more p (y ∷ xs) x = ap (λ b. p y || b) (any_more p xs x) ∙ or_assoc (p y) (list_any p xs) (p x)
 
 -- a template with one value
 pub one_value : (template value : List ℕ)

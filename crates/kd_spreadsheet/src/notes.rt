@@ -7,7 +7,7 @@ ghost use Rattle.csv.specs.Records.{fields_of};
 ghost use Rattle.kd_language.specs.Language.{text_in};
 ghost use Rattle.kd_tables.specs.Ports.{port};
 ghost use Rattle.kd_spreadsheet.specs.Columns.{columns_of};
-ghost use Rattle.kd_spreadsheet.specs.Notes.{line_at, unread_note, HasRowsNote, Tells, TellsRows, TellsTable, TellsText};
+ghost use Rattle.kd_spreadsheet.specs.Notes.{line_at, unread_note, HasReadRows, HasRowsNote, Tells, TellsTable, TellsText};
 ghost use Rattle.kd_spreadsheet.specs.NearNames.{is_misnamed};
 ghost use Rattle.kd_spreadsheet.specs.Options.{texts_of};
 ghost use Rattle.kd_spreadsheet.specs.Row.{is_blank_row};
@@ -182,10 +182,8 @@ fn push_body_row(
     ensures { IfOk result (λ _. (more : List ℕ) × (note.new.items ≡ note.old.items ++ more)
         × ((numbers : List ℕ) (rows : List (List (List ℕ))) (text : List ℕ)
         → IfSome (slice_get numbers (length rows)) (λ due. number ≡ due)
-        → TellsRows head.now.language head.now.options head.now.columns head.now.names
-        numbers rows text
-        → TellsRows head.now.language head.now.options head.now.columns head.now.names
-        numbers (rows ++ fields_of row.now ∷ []) (text ++ more))) }
+        → HasReadRows head.now numbers rows text found.old
+        → HasReadRows head.now numbers (rows ++ fields_of row.now ∷ []) (text ++ more) found.new)) }
 {
     if is_blank_row(head.columns(), row) {
         return Ok(());
