@@ -1,5 +1,6 @@
 -- Notes that are written, and lines that make up a note.
-use Rattle.std.proofs.Common.{◌≡◌, ◌∙◌, ◌&&◌, ◌||◌, ◌+◌, ◌<◌, ◌++◌, ◌∷◌, ℕ, Bool, true, false, List, [], ap, length, length-append, Option, Some, Result, Ok, Err, is_err, refl, sym, subst, arith, append_assoc}
+use Rattle.std.proofs.Common.{◌≡◌, ◌∙◌, ◌&&◌, ◌||◌, ◌+◌, ◌<◌, ◌++◌, ◌∷◌, ℕ, Bool, true, false, List, [], ap, get_or, length, length-append, map, suc, zero, Option, Some, Result, Ok, Err, is_err, refl, sym, subst, arith, append_assoc}
+use Rattle.std.proofs.lemmas.Bool.{or_left, or_right}
 use Rattle.std.proofs.lemmas.Grind.{common_steps, flat_map-append}
 use Rattle.std.proofs.lemmas.List.{append-nil}
 use Rattle.std.specs.Prelude.{flat_map}
@@ -14,9 +15,10 @@ use Rattle.kd_spreadsheet.specs.Cells.{has_columns, row_cells, row_model}
 use Rattle.kd_spreadsheet.specs.Columns.{cell_at, columns_of}
 use Rattle.kd_spreadsheet.specs.Items.{is_blank}
 use Rattle.kd_spreadsheet.specs.Options.{OptionTexts}
-use Rattle.kd_spreadsheet.specs.Notes.{NextCell, NoCells, TellsCells, TellsPlacedRow, TellsText, cell_place, line_at, unread_line, unread_note, unread_words, HasRowsNote, HasSomeLine, OfRows, TellsRow, TellsTable, day_of_row, needs_note, repeats_day, row_place}
+use Rattle.kd_spreadsheet.specs.Notes.{NextCell, NoCells, TellsCells, TellsPlacedRow, TellsText, cell_place, line_at, unread_line, unread_note, unread_words, HasRowsNote, HasSomeLine, OfRows, TellsRow, TellsTable, day_of_row, lacks_column, needs_note, repeats_day, row_place}
 use Rattle.kd_spreadsheet.specs.NearNames.{is_misnamed}
 use Rattle.kd_spreadsheet.specs.Row.{IsDayOfRow, IsNoDay, is_column_read, row_values}
+use Rattle.kd_spreadsheet.specs.Table.{AreRows}
 use Rattle.kd_spreadsheet.specs.declared.cell.Cell.{Cell}
 use Rattle.kd_spreadsheet.specs.declared.columns.Columns.{Columns}
 use Rattle.kd_spreadsheet.specs.declared.texts.TheConstants.{FIRST_ROW}
@@ -105,23 +107,20 @@ module _ (options : OptionTexts) (columns : Columns) (head : List (List ℕ)) (p
     some = λ none has. some_line of_cells words n1 n2 is_due second some (due none has);
   }
 
-  pub row_told : (l : Language) (number : ℕ) (n0 n1 n2 : List ℕ) → place ≡ row_place l number (day_of_row columns row)
-      → ((missing : List (List ℕ)) × (n1 ≡ n0 ++ flat_map (line_at (text_in l FIRST_ROW)) missing))
-      → TellsPlacedRow options columns head place row repeated n1 n2
-      → (more : List ℕ) × (n2 ≡ n0 ++ more) × ((earlier : List (List (List ℕ)))
+  pub row_told : (l : Language) (number : ℕ) (old new : List ℕ) → place ≡ row_place l number (day_of_row columns row)
+      → TellsPlacedRow options columns head place row repeated old new
+      → (more : List ℕ) × (new ≡ old ++ more) × ((earlier : List (List (List ℕ)))
       → repeated ≡ repeats_day columns earlier row → TellsRow l options columns head number earlier row more)
-  row_told l number n0 n1 n2 same (missing, first) told =
-      let of_missing = flat_map (line_at (text_in l FIRST_ROW)) missing in
+  row_told l number old new same told =
       let of_row = flat_map (line_at place) told.words in
       let cells = row_cells (row_model options columns row) in
       let P : List ℕ → Type 0 = λ p. TellsCells options columns head p row repeated cells told.of_cells in (
-        of_missing ++ (told.of_cells ++ of_row),
-        two_parts n0 n1 n2 of_missing (told.of_cells ++ of_row) first told.appended,
+        told.of_cells ++ of_row,
+        told.appended,
         λ earlier again.
             let Q : Bool → Type 0 = λ r.
             TellsCells options columns head (row_place l number (day_of_row columns row)) row r cells told.of_cells in
             record {
-              missing = missing;
               of_cells = told.of_cells;
               of_row = of_row;
               words = told.words;
@@ -158,6 +157,14 @@ pub any_more : {A : Type 0} (p : A → Bool) (xs : List A) (x : A) → list_any 
 any_more p [] x = or_false (p x)
 any_more p (y ∷ xs) x = ap (λ b. p y || b) (any_more p xs x) ∙ or_assoc (p y) (list_any p xs) (p x)
 
+pub any_at : {A B : Type 0} (p : B → Bool) (f : A → B) (xs : List A) (index : ℕ) (x : A) → index < length xs
+    → x ≡ get_or xs index x → p (f x) ≡ true → list_any p (map f xs) ≡ true
+any_at p f [] index x within is has = absurd (omega arith)
+any_at p f (y ∷ xs) zero x within is has =
+    or_left (p (f y)) (list_any p (map f xs)) (ap (λ one. p (f one)) (sym is) ∙ has)
+any_at p f (y ∷ xs) (suc index) x within is has =
+    or_right (p (f y)) (list_any p (map f xs)) (any_at p f xs index x (omega arith) is has)
+
 -- a template with one value
 pub one_value : (template value : List ℕ)
     → filled template (value ∷ []) ≡ before_first is_gap template ++ (value ++ after_first is_gap template)
@@ -190,15 +197,16 @@ line_in_all f g (line ∷ missing) text words last before after is_due appended 
 four_parts : (a b c d : List ℕ) → a ++ (b ++ c) ++ d ≡ a ++ (b ++ (c ++ d))
 four_parts a b c d = append_assoc a (b ++ c) d ∙ ap (λ t. a ++ t) (append_assoc b c d)
 
-pub of_faults : (l : Language) (options : OptionTexts) (table : List ℕ) (head : List (List ℕ)) (n0 n1 n2 n3 : List ℕ)
-    (is_due : Bool)
+pub of_faults : (l : Language) (options : OptionTexts) (table : List ℕ) (head : List (List ℕ))
+    (rows : List (List (List ℕ))) (n0 n1 n2 n3 : List ℕ) (is_due : Bool) → AreRows table (head ∷ rows)
     → ((missing : List (List ℕ)) × (n1 ≡ n0 ++ flat_map (line_at (text_in l FIRST_ROW)) missing)
-    × (is_misnamed (columns_of head) head ≡ true → 0 < length missing))
-    → HasRowsNote l options (columns_of head) head table n1 n2
+    × (is_misnamed (columns_of head) head ≡ true → 0 < length missing)
+    × (list_any (lacks_column options (columns_of head)) rows ≡ true → 0 < length missing))
+    → HasRowsNote l options (columns_of head) head table rows n1 n2
     → ((last : List (List ℕ)) × (n3 ≡ n2 ++ flat_map (line_at []) last) × (is_due ≡ true → 0 < length last))
     → (length n2 ≡ length n0 → is_due ≡ true)
     → (rest : List ℕ) × (n3 ≡ n0 ++ rest) × TellsTable l options table (unread_note l head ++ rest)
-of_faults l options table head n0 n1 n2 n3 is_due (missing, first, named) has (last, third, some) due =
+of_faults l options table head rows n0 n1 n2 n3 is_due are (missing, first, named, lacking) has (last, third, some) due =
     let of_missing = flat_map (line_at (text_in l FIRST_ROW)) missing in
     let of_words = flat_map (line_at []) has.words in
     let of_last = flat_map (line_at []) last in
@@ -210,8 +218,8 @@ of_faults l options table head n0 n1 n2 n3 is_due (missing, first, named) has (l
     ∙ ap (λ t. of_missing ++ (has.text ++ t)) (sym (flat_map-append (line_at []) has.words last)) in (
       of_missing ++ (has.text ++ flat_map (line_at []) words),
       all ∙ ap (λ t. n0 ++ t) joined,
-      OfRows head has.rows missing has.text words has.are has.told
-          (λ is. let told = has.empty is in omega (arith, length-append has.words last)) named
+      OfRows head rows missing has.text words are has.told
+          (λ is. let told = has.empty is in omega (arith, length-append has.words last)) named lacking
           (line_in_all (line_at (text_in l FIRST_ROW)) (line_at []) missing has.text has.words last n0 n2 is_due second
           some due),
     )

@@ -2,11 +2,11 @@
 -- groups, are defined to the byte.
 --
 -- The notes on a refused table have at least one line for each cell that can't be read, and for each cell with the day
--- of an earlier row. They also have one for each row that is neither blank nor a day, unless the table lacks a column
--- that the row needs. Each of these lines begins with the place of the cell or the row. The words after the place aren't
--- defined, nor is their language.
+-- of an earlier row. They also have one for each row that is neither blank nor a day. The exception: if the table lacks
+-- a column that the row needs, there may be only a line about the columns. Each of these lines begins with the place of
+-- the cell, the row or the first row. The words after the place aren't defined, nor is their language.
 -- Test: tests/cases/curator-sheet.toml
-use Rattle.std.specs.Prelude.{◌≡◌, ◌<◌, ◌+◌, ◌==◌, ◌&&◌, ◌||◌, codes, decimal, nat_lt, ℕ, Bool, true, false, List, [], ◌∷◌, ◌++◌, drop, flat_map, is_some, length, map, slice_get, slice_index_or, take, Option, Some, None, IfSome, IsTrue, if◌then◌else◌}
+use Rattle.std.specs.Prelude.{◌≡◌, ◌<◌, ◌+◌, ◌==◌, ◌&&◌, ◌||◌, not, codes, decimal, nat_lt, ℕ, Bool, true, false, List, [], ◌∷◌, ◌++◌, drop, flat_map, is_some, length, map, slice_get, slice_index_or, take, Option, Some, None, IfSome, IsTrue, if◌then◌else◌}
 use Rattle.std.specs.Prelude.{Result, Ok, Err}
 use Rattle.std.specs.Io.KnownBytes.{Appends}
 use Rattle.std.specs.List.{list_all, list_any, range_with_len}
@@ -168,16 +168,15 @@ pub data TellsCells (options : OptionTexts) (columns : Columns) (head : List (Li
       → TellsCells options columns head place row repeated (cell ∷ rest)
       (flat_map (line_at (cell_place columns head place cell)) words ++ note)
 
--- The notes on a row: first on columns that the table lacks, then on the row's cells, then on the row as a whole. If
--- the row isn't a day, there is at least one note on the row or its cells. The exception: the table lacks a column that
--- the row needs. `earlier` are the rows between the first row and this row.
+-- The notes on a row: first on the row's cells, then on the row as a whole. If the row isn't a day, there is at least
+-- one note. The exception: the table lacks a column that the row needs. `earlier` are the rows between the first row and
+-- this row.
 pub record TellsRow (l : Language) (options : OptionTexts) (columns : Columns) (head : List (List ℕ)) (number : ℕ)
     (earlier : List (List (List ℕ))) (row : List (List ℕ)) (note : List ℕ) : Type 0 where
-  pub missing : List (List ℕ)
   pub of_cells : List ℕ
   pub of_row : List ℕ
   pub words : List (List ℕ)
-  pub joined : note ≡ flat_map (line_at (text_in l texts.FIRST_ROW)) missing ++ (of_cells ++ of_row)
+  pub joined : note ≡ of_cells ++ of_row
   pub cells : TellsCells options columns head (row_place l number (day_of_row columns row)) row
       (repeats_day columns earlier row) (row_cells (row_model options columns row)) of_cells
   pub whole : of_row ≡ flat_map (line_at (row_place l number (day_of_row columns row))) words
@@ -204,6 +203,10 @@ quotes_note l = line_at [] (text_in l texts.OPEN_QUOTE)
 abbrev pub nothing_note : Language → List ℕ
 nothing_note l = line_at [] (text_in l texts.NO_ROW)
 
+-- whether `row` isn't blank, and needs a column that the table lacks
+abbrev pub lacks_column : OptionTexts → Columns → List (List ℕ) → Bool
+lacks_column options columns row = not (is_blank_row columns row) && not (has_columns options columns row)
+
 -- There is at least one line: about columns (`missing`), on a row (`note`), or about the whole table (`words`).
 abbrev pub HasSomeLine : List (List ℕ) → List ℕ → List (List ℕ) → Type 0
 HasSomeLine missing note words = 0 < length missing + (length note + length words)
@@ -212,8 +215,9 @@ HasSomeLine missing note words = 0 < length missing + (length note + length word
 -- - If the table's quotes are wrong, a single line.
 -- - If the table has no rows, a single line.
 -- - Otherwise, the notes on unread columns, on misnamed or missing columns, on each row, and on the whole table. Besides
---   the notes on unread columns, there is at least one line. If a column is misnamed, there is at least one line about
---   columns. If all rows under the first row are blank, there is at least one line about the whole table.
+--   the notes on unread columns, there is at least one line. If a column is misnamed, or the table lacks a column that a
+--   row needs, there is at least one line about columns. If all rows under the first row are blank, there is at least
+--   one line about the whole table.
 pub data TellsTable (l : Language) (options : OptionTexts) (table : List ℕ) : List ℕ → Type 0 where
   OfQuotes : is_well_quoted table ≡ false → TellsTable l options table (quotes_note l)
   OfNothing : AreRows table [] → TellsTable l options table (nothing_note l)
@@ -221,7 +225,9 @@ pub data TellsTable (l : Language) (options : OptionTexts) (table : List ℕ) : 
       (words : List (List ℕ)) → AreRows table (head ∷ rows)
       → TellsRows l options (columns_of head) head (drop 1 (row_numbers table)) rows note
       → (list_all (is_blank_row (columns_of head)) rows ≡ true → 0 < length words)
-      → (is_misnamed (columns_of head) head ≡ true → 0 < length missing) → HasSomeLine missing note words
+      → (is_misnamed (columns_of head) head ≡ true → 0 < length missing)
+      → (list_any (lacks_column options (columns_of head)) rows ≡ true → 0 < length missing)
+      → HasSomeLine missing note words
       → TellsTable l options table (unread_note l head
       ++ (flat_map (line_at (text_in l texts.FIRST_ROW)) missing ++ (note ++ flat_map (line_at []) words)))
 
@@ -272,14 +278,12 @@ pub record HasReadRows (head : Head) (numbers : List ℕ) (rows : List (List (Li
   pub told : TellsRows head.language head.options head.columns head.names numbers rows text
   pub days : KnowsDays head.columns rows found.rows
 
--- `new` is `old`, followed by the notes on the rows under the first row `head`. If all these rows are blank, a line
--- about the whole table follows.
+-- `new` is `old`, followed by the notes on `rows`, the rows under the first row `head`. If all these rows are blank, a
+-- line about the whole table follows.
 pub record HasRowsNote (l : Language) (options : OptionTexts) (columns : Columns) (head : List (List ℕ))
-    (table old new : List ℕ) : Type 0 where
-  pub rows : List (List (List ℕ))
+    (table : List ℕ) (rows : List (List (List ℕ))) (old new : List ℕ) : Type 0 where
   pub text : List ℕ
   pub words : List (List ℕ)
-  pub are : AreRows table (head ∷ rows)
   pub appended : new ≡ old ++ (text ++ flat_map (line_at []) words)
   pub told : TellsRows l options columns head (drop 1 (row_numbers table)) rows text
   pub empty : list_all (is_blank_row columns) rows ≡ true → 0 < length words

@@ -54,6 +54,12 @@ pub const MISNAMED: Text = (
     "der Name einer Spalte ist fast der Name einer anderen Spalte, die fehlt",
 );
 
+/// The words for a table that lacks a column, if no other line says what is wrong with the columns.
+pub const LACKS_COLUMN: Text = (
+    "a column that a row needs isn't there",
+    "es fehlt eine Spalte, die eine Zeile braucht",
+);
+
 /// The question whether a name is mistyped. The values are the name that may be meant, and the name in the table.
 pub const MEANT: Text = (
     "did you mean ~ by ~? If not, give this column another name",

@@ -12,18 +12,18 @@ ghost use Rattle.kd_spreadsheet.specs.Row.{row_values, IsNoDay};
 use super::cell_words::cell_words;
 use super::found::Found;
 use super::head::{Head, PlacedRow};
-use super::note::{cell_place, push_due_words, push_words, row_place};
+use super::note::{cell_place, push_due_words, row_place};
 use super::words::{Value, Words};
 use crate::cell::{Cell, day_in, has_columns, has_text, is_read, known_cells, row_model, text_of};
 use crate::columns::cell_at;
 use crate::items::is_blank;
 use crate::row::row_day;
-use crate::texts::{BEYOND, DAY_AGAIN, FIRST_ROW, ROW_ENDS, ROW_IS_NO_DAY, SAME_DAY, UNREADABLE};
+use crate::texts::{BEYOND, DAY_AGAIN, ROW_ENDS, ROW_IS_NO_DAY, SAME_DAY, UNREADABLE};
 use csv::ByteRecord;
 use kd_language::Text;
 use std::alloc::AllocError;
 
-/// Appends the notes on a row that isn't blank. Adds the row's day and model to `found`.
+/// Appends the notes on a row that isn't blank. Adds the row's day to `found`.
 pub fn push_row(
     note: &mut Vec<u8>,
     found: &mut Found,
@@ -38,9 +38,7 @@ pub fn push_row(
         × KnowsDays head.now.columns (rows ++ fields_of row.now ∷ []) found.new.rows)) }
 {
     let place = place_of_row(head, number, row)?;
-    let missing = found.missing(head, row);
     let earlier = found.earlier_row(head, row, number);
-    push_words(note, head.language().text(FIRST_ROW).as_bytes(), &missing)?;
     let placed = PlacedRow::new(place.as_str().as_bytes(), row, earlier);
     push_placed_row(note, head, &placed)
 }

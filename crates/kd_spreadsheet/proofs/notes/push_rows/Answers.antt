@@ -54,10 +54,8 @@ returns c =
     let all = take_all c.loop-row.row-index c.args.rows.now (omega (arith, c.loop-row-test.false)) in
     let read_all = rw all at read in
     IfOk-weaker c.push_due_words.result _ _ (λ done last. record {
-      rows = map fields_of c.args.rows.now;
       text = text;
       words = last.0;
-      are = c.requires;
       appended = two_parts _ _ _ text (flat_map (line_at []) last.0) appended last.1;
       told = read_all.told;
       empty = λ is. last.2 (blank ∙ rw all is);
