@@ -8,5 +8,6 @@ pub mod EmptyMonths
 pub mod Writings
 pub mod CountedRows
 pub mod Noting
+pub mod FoundDays
 pub mod ReadRows
 pub mod ColumnsThere

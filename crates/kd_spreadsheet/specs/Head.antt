@@ -1,6 +1,6 @@
 -- What the notes on a table's rows are made from: `Head` is the same for all rows, and `PlacedRow` is one row with the
 -- words for its place. No public contract cites these definitions.
-use Rattle.std.specs.Prelude.{ℕ, List}
+use Rattle.std.specs.Prelude.{ℕ, Bool, List}
 use Rattle.kd_language.specs.declared.language.Language.{Language}
 use Rattle.kd_spreadsheet.specs.declared.columns.Columns.{Columns}
 use Rattle.kd_spreadsheet.specs.Options.{OptionTexts}
@@ -18,10 +18,11 @@ head_of language options columns names =
     record { language = language; options = options; columns = columns; names = names }
 
 -- A row: its cells, and the words for its place, such as `row 5 (day 3), `. Each line about the row begins with these
--- words.
+-- words. `repeated` says whether an earlier row has the row's day.
 pub record PlacedRow : Type 0 where
   pub place : List ℕ
   pub cells : List (List ℕ)
+  pub repeated : Bool
 
-abbrev pub placed_row : List ℕ → List (List ℕ) → PlacedRow
-placed_row place cells = record { place = place; cells = cells }
+abbrev pub placed_row : List ℕ → List (List ℕ) → Bool → PlacedRow
+placed_row place cells repeated = record { place = place; cells = cells; repeated = repeated }

@@ -13,6 +13,6 @@ pub mod Records
 pub mod Cells
 pub mod NearNames
 pub mod RowNumbers
-pub mod Notes
 pub mod Head
+pub mod Notes
 pub mod EmptySheet

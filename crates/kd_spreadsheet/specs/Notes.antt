@@ -1,14 +1,15 @@
 -- The notes on a table, on standard error. The notes on unread columns, and the warnings about days with few pairs or
 -- groups, are defined to the byte.
 --
--- The notes on a refused table have at least one line for each cell that can't be read. They also have one for each row
--- that is neither blank nor a day, unless the table lacks a column that the row needs. Each of these lines begins with
--- the place of the cell or the row. The words after the place aren't defined, nor is their language.
+-- The notes on a refused table have at least one line for each cell that can't be read, and for each cell with the day
+-- of an earlier row. They also have one for each row that is neither blank nor a day. The exception: if the table lacks
+-- a column that the row needs, there may be only a line about the columns. Each of these lines begins with the place of
+-- the cell, the row or the first row. The words after the place aren't defined, nor is their language.
 -- Test: tests/cases/curator-sheet.toml
-use Rattle.std.specs.Prelude.{◌≡◌, ◌<◌, ◌+◌, ◌==◌, ◌&&◌, ◌||◌, codes, decimal, nat_lt, ℕ, Bool, true, false, List, [], ◌∷◌, ◌++◌, drop, flat_map, length, map, slice_get, take, Option, Some, None, IfSome, IsTrue, if◌then◌else◌}
+use Rattle.std.specs.Prelude.{◌≡◌, ◌<◌, ◌+◌, ◌==◌, ◌&&◌, ◌||◌, not, codes, decimal, nat_lt, ℕ, Bool, true, false, List, [], ◌∷◌, ◌++◌, drop, flat_map, is_some, length, map, slice_get, slice_index_or, take, Option, Some, None, IfSome, IsTrue, if◌then◌else◌}
 use Rattle.std.specs.Prelude.{Result, Ok, Err}
 use Rattle.std.specs.Io.KnownBytes.{Appends}
-use Rattle.std.specs.List.{list_all, range_with_len}
+use Rattle.std.specs.List.{list_all, list_any, range_with_len}
 use Rattle.std.specs.Option.{option_map_or}
 use Rattle.kd_language.specs.Language.{text_in}
 use Rattle.kd_language.specs.Template.{filled}
@@ -20,6 +21,7 @@ use Rattle.kd_state.specs.SheetDay.{Day}
 use Rattle.kd_slips.specs.Counts.{counts_of, few_lines}
 use Rattle.kd_spreadsheet.specs.Cells.{column_of, day_in, has_columns, is_faulty, row_cells, row_model}
 use Rattle.kd_spreadsheet.specs.Columns.{cell_at, columns_of}
+use Rattle.kd_spreadsheet.specs.Head.{Head}
 use Rattle.kd_spreadsheet.specs.Items.{is_blank}
 use Rattle.kd_spreadsheet.specs.Options.{OptionTexts}
 use Rattle.kd_spreadsheet.specs.NearNames.{is_misnamed}
@@ -32,6 +34,7 @@ use Rattle.kd_spreadsheet.specs.declared.cell.Cell.TheVariants as cells
 use Rattle.kd_spreadsheet.specs.declared.columns.Columns.{Columns}
 use Rattle.kd_spreadsheet.specs.declared.fault.SpreadsheetFault.{SpreadsheetFault}
 use Rattle.kd_spreadsheet.specs.declared.fault.SpreadsheetFault.TheVariants as faults
+use Rattle.kd_spreadsheet.specs.declared.notes.found.Found.{Found}
 use Rattle.kd_spreadsheet.specs.declared.texts.TheConstants as texts
 
 -- ---- The port of the notes.
@@ -133,30 +136,50 @@ cell_name columns head cell =
 abbrev pub cell_place : Columns → List (List ℕ) → List ℕ → Cell → List ℕ
 cell_place columns head row cell = row ++ cell_name columns head cell ++ codes ": "
 
+-- the day that a row has in the column of days; `None` if there is no number from 1 to 31
+abbrev pub day_of_row : Columns → List (List ℕ) → Option ℕ
+day_of_row columns row = day_in (cell_at columns.day row)
+
+-- whether `row` has the day `day` in the column of days
+abbrev pub has_day : Columns → ℕ → List (List ℕ) → Bool
+has_day columns day row = option_map_or (λ other. other == day) (day_of_row columns row) false
+
+-- whether one of the rows `earlier` has the day of `row`; false if `row` has no day
+abbrev pub repeats_day : Columns → List (List (List ℕ)) → List (List ℕ) → Bool
+repeats_day columns earlier row = option_map_or (λ day. list_any (has_day columns day) earlier) (day_of_row columns row) false
+
+abbrev pub is_day_cell : Cell → Bool
+is_day_cell cells.Day = true
+is_day_cell cell = false
+
+-- Whether there must be a note on a cell: its text can't be read, or it has the day of an earlier row (`repeated`).
+abbrev pub needs_note : OptionTexts → Columns → List (List ℕ) → Bool → Cell → Bool
+needs_note options columns row repeated cell = is_faulty options columns row cell || is_day_cell cell && repeated
+
 -- The notes on a list of cells of `row`. Each line of the notes begins with the place of the cell that the line is
--- about. There is at least one line for each cell that can't be read.
+-- about. There is at least one line for each cell that can't be read. If an earlier row has the day of `row`
+-- (`repeated`), there is at least one line for the cell of the day.
 pub data TellsCells (options : OptionTexts) (columns : Columns) (head : List (List ℕ)) (place : List ℕ)
-    (row : List (List ℕ)) : List Cell → List ℕ → Type 0 where
-  NoCells : TellsCells options columns head place row [] []
+    (row : List (List ℕ)) (repeated : Bool) : List Cell → List ℕ → Type 0 where
+  NoCells : TellsCells options columns head place row repeated [] []
   NextCell : (cell : Cell) (rest : List Cell) (words : List (List ℕ)) (note : List ℕ)
-      → (is_faulty options columns row cell ≡ true → 0 < length words)
-      → TellsCells options columns head place row rest note
-      → TellsCells options columns head place row (cell ∷ rest)
+      → (needs_note options columns row repeated cell ≡ true → 0 < length words)
+      → TellsCells options columns head place row repeated rest note
+      → TellsCells options columns head place row repeated (cell ∷ rest)
       (flat_map (line_at (cell_place columns head place cell)) words ++ note)
 
--- The notes on a row: first on columns that the table lacks, then on the row's cells, then on the row as a whole. If
--- the row isn't a day, there is at least one note on the row or its cells. The exception: the table lacks a column that
--- the row needs.
+-- The notes on a row: first on the row's cells, then on the row as a whole. If the row isn't a day, there is at least
+-- one note. The exception: the table lacks a column that the row needs. `earlier` are the rows between the first row and
+-- this row.
 pub record TellsRow (l : Language) (options : OptionTexts) (columns : Columns) (head : List (List ℕ)) (number : ℕ)
-    (row : List (List ℕ)) (note : List ℕ) : Type 0 where
-  pub missing : List (List ℕ)
+    (earlier : List (List (List ℕ))) (row : List (List ℕ)) (note : List ℕ) : Type 0 where
   pub of_cells : List ℕ
   pub of_row : List ℕ
   pub words : List (List ℕ)
-  pub joined : note ≡ flat_map (line_at (text_in l texts.FIRST_ROW)) missing ++ (of_cells ++ of_row)
-  pub cells : TellsCells options columns head (row_place l number (day_in (cell_at columns.day row))) row
-      (row_cells (row_model options columns row)) of_cells
-  pub whole : of_row ≡ flat_map (line_at (row_place l number (day_in (cell_at columns.day row)))) words
+  pub joined : note ≡ of_cells ++ of_row
+  pub cells : TellsCells options columns head (row_place l number (day_of_row columns row)) row
+      (repeats_day columns earlier row) (row_cells (row_model options columns row)) of_cells
+  pub whole : of_row ≡ flat_map (line_at (row_place l number (day_of_row columns row))) words
   pub some : IsNoDay (row_values options columns row) → has_columns options columns row ≡ true
       → 0 < length of_cells + length words
 
@@ -171,7 +194,7 @@ pub data TellsRows (l : Language) (options : OptionTexts) (columns : Columns) (h
   RowTold : (rows : List (List (List ℕ))) (note : List ℕ) (row : List (List ℕ)) (number : ℕ) (more : List ℕ)
       → TellsRows l options columns head numbers rows note → is_blank_row columns row ≡ false
       → IfSome (slice_get numbers (length rows)) (λ due. number ≡ due)
-      → TellsRow l options columns head number row more
+      → TellsRow l options columns head number rows row more
       → TellsRows l options columns head numbers (rows ++ row ∷ []) (note ++ more)
 
 abbrev pub quotes_note : Language → List ℕ
@@ -180,12 +203,21 @@ quotes_note l = line_at [] (text_in l texts.OPEN_QUOTE)
 abbrev pub nothing_note : Language → List ℕ
 nothing_note l = line_at [] (text_in l texts.NO_ROW)
 
+-- whether `row` isn't blank, and needs a column that the table lacks
+abbrev pub lacks_column : OptionTexts → Columns → List (List ℕ) → Bool
+lacks_column options columns row = not (is_blank_row columns row) && not (has_columns options columns row)
+
+-- There is at least one line: about columns (`missing`), on a row (`note`), or about the whole table (`words`).
+abbrev pub HasSomeLine : List (List ℕ) → List ℕ → List (List ℕ) → Type 0
+HasSomeLine missing note words = 0 < length missing + (length note + length words)
+
 -- The notes on a refused table:
 -- - If the table's quotes are wrong, a single line.
 -- - If the table has no rows, a single line.
--- - Otherwise, the notes on unread columns, on misnamed or missing columns, and on each row. If a column is misnamed,
---   there is at least one line about columns. If all rows under the first row are blank, there is at least one line
---   about the whole table.
+-- - Otherwise, the notes on unread columns, on misnamed or missing columns, on each row, and on the whole table. Besides
+--   the notes on unread columns, there is at least one line. If a column is misnamed, or the table lacks a column that a
+--   row needs, there is at least one line about columns. If all rows under the first row are blank, there is at least
+--   one line about the whole table.
 pub data TellsTable (l : Language) (options : OptionTexts) (table : List ℕ) : List ℕ → Type 0 where
   OfQuotes : is_well_quoted table ≡ false → TellsTable l options table (quotes_note l)
   OfNothing : AreRows table [] → TellsTable l options table (nothing_note l)
@@ -194,6 +226,8 @@ pub data TellsTable (l : Language) (options : OptionTexts) (table : List ℕ) : 
       → TellsRows l options (columns_of head) head (drop 1 (row_numbers table)) rows note
       → (list_all (is_blank_row (columns_of head)) rows ≡ true → 0 < length words)
       → (is_misnamed (columns_of head) head ≡ true → 0 < length missing)
+      → (list_any (lacks_column options (columns_of head)) rows ≡ true → 0 < length missing)
+      → HasSomeLine missing note words
       → TellsTable l options table (unread_note l head
       ++ (flat_map (line_at (text_in l texts.FIRST_ROW)) missing ++ (note ++ flat_map (line_at []) words)))
 
@@ -221,24 +255,35 @@ HasNotesOn l options table (Some faults.NoMemory) notes = Tells notes
 -- ---- Reading row by row. No public contract cites these definitions.
 
 -- `new` is `old`, followed by the notes on a row's cells and on the row as a whole. If the row isn't a day, there is at
--- least one note. The exception: the table lacks a column that the row needs.
+-- least one note. The exception: the table lacks a column that the row needs. `repeated` says whether an earlier row has
+-- the row's day.
 pub record TellsPlacedRow (options : OptionTexts) (columns : Columns) (head : List (List ℕ)) (place : List ℕ)
-    (row : List (List ℕ)) (old new : List ℕ) : Type 0 where
+    (row : List (List ℕ)) (repeated : Bool) (old new : List ℕ) : Type 0 where
   pub of_cells : List ℕ
   pub words : List (List ℕ)
   pub appended : new ≡ old ++ (of_cells ++ flat_map (line_at place) words)
-  pub cells : TellsCells options columns head place row (row_cells (row_model options columns row)) of_cells
+  pub cells : TellsCells options columns head place row repeated (row_cells (row_model options columns row)) of_cells
   pub some : IsNoDay (row_values options columns row) → has_columns options columns row ≡ true
       → 0 < length of_cells + length words
 
--- `new` is `old`, followed by the notes on the rows under the first row `head`. If all these rows are blank, a line
--- about the whole table follows.
+-- For each number below 32, `found` has a row's number exactly if one of `rows` has this day.
+pub record KnowsDays (columns : Columns) (rows : List (List (List ℕ))) (found : List (Option ℕ)) : Type 0 where
+  pub size : length found ≡ 32
+  pub known : (day : ℕ) → day < 32 → is_some (slice_index_or found day None) ≡ list_any (has_day columns day) rows
+
+-- `text` has the notes on `rows`, and `found` has the days of `rows`. `numbers` are the numbers of all rows under the
+-- first row.
+pub record HasReadRows (head : Head) (numbers : List ℕ) (rows : List (List (List ℕ))) (text : List ℕ) (found : Found)
+    : Type 0 where
+  pub told : TellsRows head.language head.options head.columns head.names numbers rows text
+  pub days : KnowsDays head.columns rows found.rows
+
+-- `new` is `old`, followed by the notes on `rows`, the rows under the first row `head`. If all these rows are blank, a
+-- line about the whole table follows.
 pub record HasRowsNote (l : Language) (options : OptionTexts) (columns : Columns) (head : List (List ℕ))
-    (table old new : List ℕ) : Type 0 where
-  pub rows : List (List (List ℕ))
+    (table : List ℕ) (rows : List (List (List ℕ))) (old new : List ℕ) : Type 0 where
   pub text : List ℕ
   pub words : List (List ℕ)
-  pub are : AreRows table (head ∷ rows)
   pub appended : new ≡ old ++ (text ++ flat_map (line_at []) words)
   pub told : TellsRows l options columns head (drop 1 (row_numbers table)) rows text
   pub empty : list_all (is_blank_row columns) rows ≡ true → 0 < length words

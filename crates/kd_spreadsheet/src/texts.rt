@@ -40,12 +40,24 @@ pub const NO_ROW: Text = (
     "die Tabelle hat keine Zeile mit einem Tag",
 );
 
+/// The words for a refused table, if no other line says why it is refused.
+pub const NO_SHEET: Text = (
+    "the rows aren't the days of one key sheet",
+    "die Zeilen sind nicht die Tage einer Schlüsseltafel",
+);
+
 // ---- Columns.
 
 /// The words for a table with a misnamed column, if no other line says what is wrong with the columns.
 pub const MISNAMED: Text = (
     "the name of a column is nearly that of another, which isn't there",
     "der Name einer Spalte ist fast der Name einer anderen Spalte, die fehlt",
+);
+
+/// The words for a table that lacks a column, if no other line says what is wrong with the columns.
+pub const LACKS_COLUMN: Text = (
+    "a column that a row needs isn't there",
+    "es fehlt eine Spalte, die eine Zeile braucht",
 );
 
 /// The question whether a name is mistyped. The values are the name that may be meant, and the name in the table.
@@ -83,6 +95,12 @@ pub const NO_NAMES: Text = (
 
 /// The words for a day that comes twice. The value is the number of the earlier row with this day.
 pub const SAME_DAY: Text = ("row ~ has this day, too", "diesen Tag hat schon Zeile ~");
+
+/// The words for a day that comes twice, if no other line says so.
+pub const DAY_AGAIN: Text = (
+    "an earlier row has this day, too",
+    "diesen Tag hat schon eine frühere Zeile",
+);
 
 /// The words for a row that is too short. The value is the name of the first column in which the row has no cell.
 pub const ROW_ENDS: Text = (

@@ -87,30 +87,41 @@ impl<'a> Head<'a> {
 }
 
 /// A row, and the words for its place, such as `row 5 (day 3), `. Each line about the row begins with these words.
+/// `earlier` is the number of an earlier row with this row's day; `None` if there is no such row.
 #[derive(Drop)]
 pub struct PlacedRow<'a> {
     place: &'a [u8],
     cells: &'a ByteRecord,
+    earlier: Option<u64>,
 }
 
 impl<'a> std::marker::Model for PlacedRow<'a> {
+    ghost use Rattle.std.specs.Prelude.{is_some};
     ghost use Rattle.csv.specs.Records.{fields_of};
     ghost use Rattle.kd_spreadsheet.specs.Head.{PlacedRow};
 
     ghost Value = { PlacedRow };
 
-    ghost view = { λ row. record { place = row.place.now; cells = fields_of row.cells.now } };
+    ghost view = { λ row. record {
+      place = row.place.now;
+      cells = fields_of row.cells.now;
+      repeated = is_some row.earlier;
+    } };
 }
 
 impl<'a> PlacedRow<'a> {
-    ghost use Rattle.std.specs.Prelude.{◌≡◌};
+    ghost use Rattle.std.specs.Prelude.{◌≡◌, is_some};
     ghost use Rattle.csv.specs.Records.{fields_of};
     ghost use Rattle.kd_spreadsheet.specs.Head.{placed_row};
 
-    pub fn new(place: &'a [u8], cells: &'a ByteRecord) -> Self
-        ensures { result ≡ placed_row place.now (fields_of cells.now) }
+    pub fn new(place: &'a [u8], cells: &'a ByteRecord, earlier: Option<u64>) -> Self
+        ensures { result ≡ placed_row place.now (fields_of cells.now) (is_some earlier) }
     {
-        PlacedRow { place, cells }
+        PlacedRow {
+            place,
+            cells,
+            earlier,
+        }
     }
 
     pub fn place(&self) -> &'a [u8]
@@ -123,5 +134,12 @@ impl<'a> PlacedRow<'a> {
         ensures { fields_of result.now ≡ self.now.cells }
     {
         self.cells
+    }
+
+    /// The number of an earlier row with this row's day; `None` if there is no such row.
+    pub fn earlier(&self) -> Option<u64>
+        ensures { is_some result ≡ self.now.repeated }
+    {
+        self.earlier
     }
 }

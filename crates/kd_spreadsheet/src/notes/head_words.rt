@@ -3,12 +3,14 @@
 use super::head::Head;
 use super::note::option_name;
 use super::words::{Value, Words};
-use crate::cell::{Cell, cells_of, column_of, has_text, is_optional};
+use crate::cell::{Cell, cells_of, column_of, has_text, is_optional, row_model};
 use crate::columns::{Columns, cell_at, english_name, german_name, short_name};
 use crate::names::is_named;
 use crate::near_names::{ALL_CELLS, is_near_name, near_column};
-use crate::row::places_of;
+use crate::row::{is_blank_row, places_of};
 use crate::texts::{IS_UTF16, MEANT, NO_COLUMN, NO_COLUMN_OR_OPTION, NO_NAMES, SAYS_SEPARATOR};
+use arrayvec::ArrayVec;
+use csv::ByteRecord;
 use kd_language::Text;
 use kd_tables::Model;
 
@@ -24,29 +26,34 @@ static OFTEN_NAMED: [Cell; 5] = [
     Cell::Bars,
 ];
 
-/// Names the misnamed columns, and the missing columns that every table needs. If the first row has no column names,
-/// not even misnamed ones, says why it has none.
-pub fn head_words(head: &Head<'_>) -> Words {
+/// Names the misnamed columns, and the missing columns that every table needs, or that one of `rows` needs. If the first
+/// row has no column names, not even misnamed ones, says why it has none.
+pub fn head_words(head: &Head<'_>, rows: &[ByteRecord]) -> Words {
     let mut lines = Words::new(head.language());
     for cell in &ALL_CELLS {
         tell_near(&mut lines, head, *cell);
     }
     if !names_none(head.columns()) {
         tell_missing(&mut lines, head, &NEEDED);
+        tell_missing_of_rows(&mut lines, head, rows);
     } else if lines.is_empty() {
         lines.tell(nameless_words(cell_at(head.names(), Some(0))), &[]);
     }
     lines
 }
 
-/// Names the columns that a day of `model` needs, but this table lacks. If the first row has no column names, says
-/// nothing.
-pub fn missing_of_model(head: &Head<'_>, model: Model) -> Words {
-    let mut lines = Words::new(head.language());
-    if !names_none(head.columns()) {
-        tell_missing(&mut lines, head, cells_of(model));
+/// Names the columns that one of `rows` needs, but the table lacks: once for each model.
+fn tell_missing_of_rows(lines: &mut Words, head: &Head<'_>, rows: &[ByteRecord]) {
+    let mut models: ArrayVec<Option<Model>, 4> = ArrayVec::new();
+    for row in rows {
+        if !is_blank_row(head.columns(), row)
+            && let Some(model) = row_model(head.options(), head.columns(), row)
+            && !models.as_slice().contains(&Some(model))
+        {
+            let _ = models.try_push(Some(model));
+            tell_missing(lines, head, cells_of(model));
+        }
     }
-    lines
 }
 
 /// If the column of `cell` is misnamed, asks whether this column is meant by the mistyped name.

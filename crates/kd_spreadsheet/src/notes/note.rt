@@ -13,17 +13,6 @@ use kd_language::Wording;
 use kd_tables::split_once;
 use std::alloc::AllocError;
 
-/// Appends the lines of `words`, with `place` before each line. If there are no words, appends nothing.
-pub fn push_words(note: &mut Vec<u8>, place: &[u8], words: &Words) -> Result<(), AllocError>
-    ensures { IfOk result (λ _. (lines : List (List ℕ))
-        × (note.new.items ≡ note.old.items ++ flat_map (line_at place.now) lines)) }
-{
-    if words.is_empty() {
-        return Ok(());
-    }
-    push_lines(note, place, words.as_slice())
-}
-
 /// Appends the lines of `words`, with `place` before each line. If there are no words and `is_due` is true, appends the
 /// line `otherwise`.
 pub fn push_due_words(

@@ -1,27 +1,29 @@
 //! The notes on a row.
-ghost use Rattle.std.specs.Prelude.{◌≡◌, ◌++◌, ◌<◌, [], ℕ, List, true, flat_map, length, IfOk};
+ghost use Rattle.std.specs.Prelude.{◌≡◌, ◌&&◌, ◌++◌, ◌∷◌, ◌<◌, [], ℕ, List, true, flat_map, length, IfOk};
 ghost use Rattle.std.specs.Option.{option_map_or};
 ghost use Rattle.std.specs.String.{string_bytes};
 ghost use Rattle.csv.specs.Records.{fields_of};
 ghost use Rattle.kd_spreadsheet.specs.Cells.{cells_of, day_in, has_columns, is_faulty, row_cells, row_model};
 ghost use Rattle.kd_spreadsheet.specs.Columns.{cell_at};
-ghost use Rattle.kd_spreadsheet.specs.Notes.{cell_place, line_at, row_place, TellsCells, TellsPlacedRow, TellsRow};
+ghost use Rattle.kd_spreadsheet.specs.Notes.{cell_place, is_day_cell, line_at, needs_note, row_place, KnowsDays};
+ghost use Rattle.kd_spreadsheet.specs.Notes.{TellsCells, TellsPlacedRow, TellsRow};
 ghost use Rattle.kd_spreadsheet.specs.Row.{row_values, IsNoDay};
 
 use super::cell_words::cell_words;
 use super::found::Found;
 use super::head::{Head, PlacedRow};
-use super::note::{cell_place, push_due_words, push_words, row_place};
+use super::note::{cell_place, push_due_words, row_place};
 use super::words::{Value, Words};
 use crate::cell::{Cell, day_in, has_columns, has_text, is_read, known_cells, row_model, text_of};
 use crate::columns::cell_at;
 use crate::items::is_blank;
 use crate::row::row_day;
-use crate::texts::{BEYOND, FIRST_ROW, ROW_ENDS, ROW_IS_NO_DAY, UNREADABLE};
+use crate::texts::{BEYOND, DAY_AGAIN, ROW_ENDS, ROW_IS_NO_DAY, SAME_DAY, UNREADABLE};
 use csv::ByteRecord;
+use kd_language::Text;
 use std::alloc::AllocError;
 
-/// Appends the notes on a row that isn't blank. Adds the row's day and model to `found`.
+/// Appends the notes on a row that isn't blank. Adds the row's day to `found`.
 pub fn push_row(
     note: &mut Vec<u8>,
     found: &mut Found,
@@ -30,14 +32,15 @@ pub fn push_row(
     row: &ByteRecord,
 ) -> Result<(), AllocError>
     ensures { IfOk result (λ _. (more : List ℕ) × (note.new.items ≡ note.old.items ++ more)
-        × TellsRow head.now.language head.now.options head.now.columns head.now.names number
-        (fields_of row.now) more) }
+        × ((rows : List (List (List ℕ))) → KnowsDays head.now.columns rows found.old.rows
+        → TellsRow head.now.language head.now.options head.now.columns head.now.names number rows
+        (fields_of row.now) more
+        × KnowsDays head.now.columns (rows ++ fields_of row.now ∷ []) found.new.rows)) }
 {
     let place = place_of_row(head, number, row)?;
-    let missing = found.missing(head, row);
-    let day_words = found.day_words(head, row, number);
-    push_words(note, head.language().text(FIRST_ROW).as_bytes(), &missing)?;
-    push_placed_row(note, head, place.as_str().as_bytes(), row, &day_words)
+    let earlier = found.earlier_row(head, row, number);
+    let placed = PlacedRow::new(place.as_str().as_bytes(), row, earlier);
+    push_placed_row(note, head, &placed)
 }
 
 /// The words for the place of `row`, such as `row 5, ` or, if the row's day is known, `row 5 (day 3), `.
@@ -53,20 +56,18 @@ fn place_of_row(head: &Head<'_>, number: u64, row: &ByteRecord) -> Result<String
 fn push_placed_row(
     note: &mut Vec<u8>,
     head: &Head<'_>,
-    place: &[u8],
-    row: &ByteRecord,
-    day_words: &Words,
+    row: &PlacedRow<'_>,
 ) -> Result<(), AllocError>
     ensures { IfOk result (λ _. TellsPlacedRow head.now.options head.now.columns head.now.names
-        place.now (fields_of row.now) note.old.items note.new.items) }
+        row.now.place row.now.cells row.now.repeated note.old.items note.new.items) }
 {
     let start = note.len();
-    push_row_cells(note, head, &PlacedRow::new(place, row), day_words)?;
-    let is_due = is_untold(head, row, start, note.len());
+    push_row_cells(note, head, row)?;
+    let is_due = is_untold(head, row.cells(), start, note.len());
     push_due_words(
         note,
-        place,
-        &end_words(head, row),
+        row.place(),
+        &end_words(head, row.cells()),
         is_due,
         head.language().text(ROW_IS_NO_DAY),
     )
@@ -77,16 +78,15 @@ fn push_row_cells(
     note: &mut Vec<u8>,
     head: &Head<'_>,
     row: &PlacedRow<'_>,
-    day_words: &Words,
 ) -> Result<(), AllocError>
     ensures { IfOk result (λ _. (more : List ℕ) × (note.new.items ≡ note.old.items ++ more)
         × TellsCells head.now.options head.now.columns head.now.names row.now.place row.now.cells
-        (row_cells (row_model head.now.options head.now.columns row.now.cells)) more) }
+        row.now.repeated (row_cells (row_model head.now.options head.now.columns row.now.cells))
+        more) }
 {
     let known = cells_of_row(head, row);
-    push_cell(note, head, row, Cell::Day, day_words)?;
-    let model_words = words_of(head, row, Cell::Model);
-    push_cell(note, head, row, Cell::Model, &model_words)?;
+    push_cell(note, head, row, Cell::Day)?;
+    push_cell(note, head, row, Cell::Model)?;
     push_cells(note, head, row, known)
 }
 
@@ -103,18 +103,42 @@ fn push_cell(
     head: &Head<'_>,
     row: &PlacedRow<'_>,
     cell: Cell,
-    words: &Words,
 ) -> Result<(), AllocError>
     ensures { IfOk result (λ _. (lines : List (List ℕ))
         × (note.new.items ≡ note.old.items
         ++ flat_map (line_at (cell_place head.now.columns head.now.names row.now.place cell)) lines)
-        × (is_faulty head.now.options head.now.columns row.now.cells cell ≡ true
+        × (needs_note head.now.options head.now.columns row.now.cells row.now.repeated cell ≡ true
         → 0 < length lines)) }
 {
     let place = cell_place(head, row.place(), cell)?;
-    let is_due = is_faulty(head, row, cell);
-    let otherwise = head.language().text(UNREADABLE);
-    push_due_words(note, place.as_slice(), words, is_due, otherwise)
+    let words = words_of(head, row, cell);
+    let is_due = needs_note(head, row, cell);
+    let otherwise = head.language().text(cell_fault(row, cell));
+    push_due_words(note, place.as_slice(), &words, is_due, otherwise)
+}
+
+/// Whether there must be a note on `cell`: its text can't be read, or it has the day of an earlier row.
+fn needs_note(head: &Head<'_>, row: &PlacedRow<'_>, cell: Cell) -> bool
+    ensures { result ≡ needs_note head.now.options head.now.columns row.now.cells
+        row.now.repeated cell }
+{
+    is_faulty(head, row, cell) || has_earlier_day(row, cell)
+}
+
+/// Whether `cell` has the day of an earlier row.
+fn has_earlier_day(row: &PlacedRow<'_>, cell: Cell) -> bool
+    ensures { result ≡ (is_day_cell cell && row.now.repeated) }
+{
+    matches!(cell, Cell::Day) && row.earlier().is_some()
+}
+
+/// The words for `cell`, if no other line says what is wrong with it.
+fn cell_fault(row: &PlacedRow<'_>, cell: Cell) -> Text {
+    if has_earlier_day(row, cell) {
+        DAY_AGAIN
+    } else {
+        UNREADABLE
+    }
 }
 
 /// Whether the text of `cell` can't be read. False if the table lacks the cell's column, and no option, such as
@@ -131,7 +155,7 @@ fn is_faulty(head: &Head<'_>, row: &PlacedRow<'_>, cell: Cell) -> bool
     !is_read(model, cell, text_of(options, columns, row.cells(), cell))
 }
 
-/// Says what is wrong with `cell`.
+/// Says what is wrong with `cell`, or that an earlier row has the day in `cell`.
 fn words_of(head: &Head<'_>, row: &PlacedRow<'_>, cell: Cell) -> Words {
     let options = head.options();
     let columns = head.columns();
@@ -140,7 +164,13 @@ fn words_of(head: &Head<'_>, row: &PlacedRow<'_>, cell: Cell) -> Words {
     }
     let model = row_model(options, columns, row.cells());
     let text = text_of(options, columns, row.cells(), cell);
-    cell_words(head.language(), cell, model, text)
+    let mut words = cell_words(head.language(), cell, model, text);
+    if let Some(earlier) = row.earlier()
+        && has_earlier_day(row, cell)
+    {
+        words.tell(SAME_DAY, &[Value::Number(earlier)]);
+    }
+    words
 }
 
 fn push_cells(
@@ -151,11 +181,10 @@ fn push_cells(
 ) -> Result<(), AllocError>
     ensures { IfOk result (λ _. (more : List ℕ) × (note.new.items ≡ note.old.items ++ more)
         × TellsCells head.now.options head.now.columns head.now.names row.now.place
-        row.now.cells cells.now more) }
+        row.now.cells row.now.repeated cells.now more) }
 {
     if let [cell, rest @ ..] = cells {
-        let words = words_of(head, row, *cell);
-        push_cell(note, head, row, *cell, &words)?;
+        push_cell(note, head, row, *cell)?;
         return push_cells(note, head, row, rest);
     }
     Ok(())

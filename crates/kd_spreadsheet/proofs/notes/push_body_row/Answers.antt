@@ -3,6 +3,7 @@ use Rattle.std.proofs.lemmas.List.{append-nil}
 use Rattle.std.proofs.lemmas.Result.{IfOk-weaker}
 use Rattle.csv.specs.Records.{fields_of}
 use Rattle.kd_spreadsheet.specs.Notes.{BlankTold, RowTold}
+use Rattle.kd_spreadsheet.proofs.FoundDays.{days_with_blank}
 use Rattle.kd_spreadsheet.proofs.notes.push_body_row.Goals as goal
 
 pub returns-then-is_blank_row : goal.returns-then-is_blank_row
@@ -10,8 +11,12 @@ returns-then-is_blank_row c =
     let blank = rw c.columns.ensures at c.is_blank_row.ensures in (
       [],
       sym (append-nil c.args.note.now.items),
-      λ numbers rows text due told. rw (append-nil text) (BlankTold rows text (fields_of c.args.row.now) told
-          (sym blank ∙ c.if-is_blank_row.true)),
+      λ numbers rows text due read. record {
+        told = rw (append-nil text) (BlankTold rows text (fields_of c.args.row.now) read.told
+            (sym blank ∙ c.if-is_blank_row.true));
+        days = days_with_blank c.args.head.now.columns rows (fields_of c.args.row.now) c.args.found.now.rows
+            (sym blank ∙ c.if-is_blank_row.true) read.days;
+      },
     )
 
 pub returns : goal.returns
@@ -20,7 +25,12 @@ returns c =
     IfOk-weaker c.push_row.result _ _ (λ done pushed. (
       pushed.0,
       pushed.1,
-      λ numbers rows text due told. RowTold rows text (fields_of c.args.row.now) c.args.number pushed.0 told
-          (sym filled ∙ c.if-is_blank_row.false) due pushed.2,
+      λ numbers rows text due read.
+          let of_row = pushed.2 rows read.days in
+          record {
+            told = RowTold rows text (fields_of c.args.row.now) c.args.number pushed.0 read.told
+                (sym filled ∙ c.if-is_blank_row.false) due of_row.0;
+            days = of_row.1;
+          },
     ))
     c.push_row.ensures

@@ -1,9 +1,9 @@
 use Rattle.std.proofs.Common.{◌≡◌, ◌∙◌, ◌+◌, ◌++◌, ◌∷◌, [], false, drop, length, map, take, refl, sym, subst, ap, arith}
-use Rattle.std.specs.Prelude.{IfSome, slice_get}
+use Rattle.std.specs.Prelude.{IfSome, flat_map, slice_get}
 use Rattle.std.proofs.lemmas.List.{append-nil, length-map, length-take-le, map-append, take_all, take_more}
 use Rattle.std.proofs.lemmas.Result.{IfOk-weaker}
 use Rattle.csv.specs.Records.{fields_of}
-use Rattle.kd_spreadsheet.specs.Notes.{NoneTold}
+use Rattle.kd_spreadsheet.specs.Notes.{NoneTold, line_at}
 use Rattle.kd_spreadsheet.specs.Row.{is_blank_row}
 use Rattle.kd_spreadsheet.specs.RowNumbers.{AtStart, numbers_from, row_numbers}
 use Rattle.kd_spreadsheet.proofs.CountedRows.{next_due, under_first}
@@ -14,7 +14,7 @@ pub loop-row-init : goal.loop-row-init
 loop-row-init c = (
   [],
   sym (append-nil c.args.note.now.items),
-  NoneTold,
+  record { told = NoneTold; days = c.new-found.ensures c.args.head.now.columns },
   refl,
   c.next_row.ensures.counted,
   under_first (row_numbers c.args.table.now) _ _ _
@@ -24,7 +24,7 @@ loop-row-init c = (
 
 pub loop-row-preserved : goal.loop-row-preserved
 loop-row-preserved c =
-    let (text, appended, told, blank, counted, left) = c.loop-row.invariant in
+    let (text, appended, read, blank, counted, left) = c.loop-row.invariant in
     let index = c.loop-row.row-index in
     let row = c.row-item.result in
     let before = map fields_of (take index c.args.rows.now) in
@@ -42,7 +42,7 @@ loop-row-preserved c =
       text ++ more.0,
       two_parts _ _ _ text more.0 appended more.1,
       more.2 (drop 1 numbers) before text (subst (λ n. IfSome (slice_get (drop 1 numbers) n)
-          (λ told. c.next_row-number.result ≡ told)) (sym size) due) told,
+          (λ told. c.next_row-number.result ≡ told)) (sym size) due) read,
       c.is_still_blank-blank.ensures ∙ rw blank (sym all),
       c.next_row-number.ensures.counted,
       after,
@@ -50,15 +50,14 @@ loop-row-preserved c =
 
 pub returns : goal.returns
 returns c =
-    let (text, appended, told, blank, counted, left) = c.loop-row.invariant in
+    let (text, appended, read, blank, counted, left) = c.loop-row.invariant in
     let all = take_all c.loop-row.row-index c.args.rows.now (omega (arith, c.loop-row-test.false)) in
+    let read_all = rw all at read in
     IfOk-weaker c.push_due_words.result _ _ (λ done last. record {
-      rows = map fields_of c.args.rows.now;
       text = text;
       words = last.0;
-      are = c.requires;
-      appended = two_parts _ _ _ text _ appended last.1;
-      told = rw all at told;
+      appended = two_parts _ _ _ text (flat_map (line_at []) last.0) appended last.1;
+      told = read_all.told;
       empty = λ is. last.2 (blank ∙ rw all is);
     })
     c.push_due_words.ensures

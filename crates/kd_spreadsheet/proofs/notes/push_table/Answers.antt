@@ -1,10 +1,10 @@
-use Rattle.std.proofs.Common.{subst, sym}
+use Rattle.std.proofs.Common.{◌++◌, subst, sym}
 use Rattle.std.proofs.lemmas.Result.{IfOk-weaker}
 use Rattle.csv.specs.Records.{fields_of}
-use Rattle.kd_spreadsheet.specs.Notes.{OfNothing, nothing_note}
+use Rattle.kd_spreadsheet.specs.Notes.{OfNothing, nothing_note, unread_note}
 use Rattle.kd_spreadsheet.specs.Options.{texts_of}
 use Rattle.kd_spreadsheet.specs.Table.{AreRows}
-use Rattle.kd_spreadsheet.proofs.Noting.{of_rows, of_text}
+use Rattle.kd_spreadsheet.proofs.Noting.{of_text, two_parts}
 use Rattle.kd_spreadsheet.proofs.ReadRows.{first_row, no_row}
 use Rattle.kd_spreadsheet.proofs.notes.push_table.Goals as goal
 
@@ -18,8 +18,11 @@ returns-in_default c =
     c.args.note.now.items _ c.requires told (OfNothing are))
     (rw (c.as_bytes.ensures.value, c.text.ensures) at c.push_line.ensures)
 
-pub push_rows-requires : goal.push_rows-requires
-push_rows-requires c =
+pub push_faults-requires-clause-columns : goal.push_faults-requires-clause-columns
+push_faults-requires-clause-columns c = rw c.new-head.ensures c.of_head-columns.ensures
+
+pub push_faults-requires-clause-are : goal.push_faults-requires-clause-are
+push_faults-requires-clause-are c =
     let table = c.args.table.now in
     let first = first_row c.as_slice.result.now c.names-item.result c.in-len1-up.len_at_least c.names-item.is in
     let are = rw (sym c.as_slice.ensures.value) at c.in_ok-records.ensures in
@@ -27,8 +30,11 @@ push_rows-requires c =
 
 pub returns : goal.returns
 returns c =
-    let rows = rw (c.new-head.ensures, c.of_head-columns.ensures) at c.push_rows.ensures in
-    let pushed = rw (c.new-head.ensures, c.of_head-columns.ensures) at c.in_ok-push_head.ensures in
-    IfOk-weaker c.push_rows.result _ _ (λ done has. of_rows c.args.wording.language (texts_of c.args.options.now)
-    c.args.table.now (fields_of c.names-item.result) _ _ _ c.requires pushed has)
-    rows
+    let l = c.args.wording.language in
+    let names = fields_of c.names-item.result in
+    let unread = rw c.new-head.ensures at c.in_ok-push_unread_note.ensures in
+    let faults = rw c.new-head.ensures at c.push_faults.ensures in
+    IfOk-weaker c.push_faults.result _ _ (λ done has. of_text l (texts_of c.args.options.now) c.args.table.now
+    (unread_note l names ++ has.0) c.args.note.now.items _ c.requires
+    (two_parts _ _ _ (unread_note l names) has.0 unread has.1) has.2)
+    faults

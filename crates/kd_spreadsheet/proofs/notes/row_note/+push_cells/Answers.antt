@@ -8,7 +8,7 @@ pub returns-in-len1-up : goal.returns-in-len1-up
 returns-in-len1-up t c =
     let head = c.args.head.now in
     let row = c.args.row.now in
-    IfOk-weaker c.push_cells.result _ _ (λ done rest. cell_first head.options head.columns head.names row.place row.cells
+    IfOk-weaker c.push_cells.result _ _ (λ done rest. cell_first head.options head.columns head.names row.place row.cells row.repeated
     _ _ _ _ _ _ (grind (arith, common_steps)) c.in_ok-push_cell.ensures rest)
     c.push_cells.ensures
 
@@ -16,5 +16,5 @@ pub returns : goal.returns
 returns t c =
     let head = c.args.head.now in
     let row = c.args.row.now in
-    no_cells head.options head.columns head.names row.place row.cells c.args.cells.now c.args.note.now.items
+    no_cells head.options head.columns head.names row.place row.cells row.repeated c.args.cells.now c.args.note.now.items
     (grind (arith, common_steps))
