@@ -169,8 +169,8 @@ pub data TellsCells (options : OptionTexts) (columns : Columns) (head : List (Li
       (flat_map (line_at (cell_place columns head place cell)) words ++ note)
 
 -- The notes on a row: first on the row's cells, then on the row as a whole. If the row isn't a day, there is at least
--- one note. The exception: the table lacks a column that the row needs. `earlier` are the rows between the first row and
--- this row.
+-- one note. The exception: the table lacks a column that the row needs. `earlier` are the rows between the first row
+-- and this row.
 pub record TellsRow (l : Language) (options : OptionTexts) (columns : Columns) (head : List (List ℕ)) (number : ℕ)
     (earlier : List (List (List ℕ))) (row : List (List ℕ)) (note : List ℕ) : Type 0 where
   pub of_cells : List ℕ
@@ -214,10 +214,10 @@ HasSomeLine missing note words = 0 < length missing + (length note + length word
 -- The notes on a refused table:
 -- - If the table's quotes are wrong, a single line.
 -- - If the table has no rows, a single line.
--- - Otherwise, the notes on unread columns, on misnamed or missing columns, on each row, and on the whole table. Besides
---   the notes on unread columns, there is at least one line. If a column is misnamed, or the table lacks a column that a
---   row needs, there is at least one line about columns. If all rows under the first row are blank, there is at least
---   one line about the whole table.
+-- - Otherwise, the notes on unread columns, on misnamed or missing columns, on each row, and on the whole table.
+--   Besides the notes on unread columns, there is at least one line. If a column is misnamed, or the table lacks a
+--   column that a row needs, there is at least one line about columns. If all rows under the first row are blank, there
+--   is at least one line about the whole table.
 pub data TellsTable (l : Language) (options : OptionTexts) (table : List ℕ) : List ℕ → Type 0 where
   OfQuotes : is_well_quoted table ≡ false → TellsTable l options table (quotes_note l)
   OfNothing : AreRows table [] → TellsTable l options table (nothing_note l)
@@ -255,8 +255,8 @@ HasNotesOn l options table (Some faults.NoMemory) notes = Tells notes
 -- ---- Reading row by row. No public contract cites these definitions.
 
 -- `new` is `old`, followed by the notes on a row's cells and on the row as a whole. If the row isn't a day, there is at
--- least one note. The exception: the table lacks a column that the row needs. `repeated` says whether an earlier row has
--- the row's day.
+-- least one note. The exception: the table lacks a column that the row needs. `repeated` says whether an earlier row
+-- has the row's day.
 pub record TellsPlacedRow (options : OptionTexts) (columns : Columns) (head : List (List ℕ)) (place : List ℕ)
     (row : List (List ℕ)) (repeated : Bool) (old new : List ℕ) : Type 0 where
   pub of_cells : List ℕ

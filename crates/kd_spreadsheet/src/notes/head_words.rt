@@ -26,8 +26,8 @@ static OFTEN_NAMED: [Cell; 5] = [
     Cell::Bars,
 ];
 
-/// Names the misnamed columns, and the missing columns that every table needs, or that one of `rows` needs. If the first
-/// row has no column names, not even misnamed ones, says why it has none.
+/// Names the misnamed columns, and the missing columns that every table needs, or that one of `rows` needs. If the
+/// first row has no column names, not even misnamed ones, says why it has none.
 pub fn head_words(head: &Head<'_>, rows: &[ByteRecord]) -> Words {
     let mut lines = Words::new(head.language());
     for cell in &ALL_CELLS {
