@@ -56,8 +56,8 @@ pub struct RowKind {
     pub price: i16,
 }
 
-/// A kind of cables, columns, bars or rows. It has a key (letters, standing or reading), a count, and a price for each
-/// member.
+/// A kind of cables, columns, bars or rows. It has a key, a count, and a price for each member. The key is letters, a
+/// bar's standing, or a row's reading.
 #[derive(Clone, Copy, Default)]
 pub struct KindOf<T> {
     pub key: T,

@@ -41,9 +41,8 @@ pub record IsRunToFile (l : Language) (words : List (List ℕ)) (known : Option 
   pub fresh : written.had_failed ≡ false
   pub run : IsRun l words known asked written (Unit {0}) errors left answer
 
--- Why there is no output file `name` after a new file was begun. `before` are the files before the
--- call. If the whole output was written, the new file couldn't be renamed to `name`. Otherwise, a
--- write to the new file failed, and `failed` is true.
+-- Why there is no output file `name` after a new file was begun: either a write to the new file failed (`failed`), or
+-- the new file, with the whole output, couldn't get the name `name`. `before` are the files before the call.
 abbrev pub IsWhyUnwritten : Option FilesByName → List ℕ → Bool → Bool → NewFileFault → Type 0
 IsWhyUnwritten before name true failed fault = IsWhyUnnamed before name fault
 IsWhyUnwritten before name false failed fault = (failed ≡ true) × (fault ≡ new_files.Device)

@@ -137,8 +137,8 @@ abbrev pub IsClear : List ℕ → Type 0
 IsClear part = All (λ byte. IsFalse (is_lost byte) × (meant_byte byte ≡ byte)) part
 
 -- Take a form that is one whole message, with no lost letter, no small letter, no tab, and no needless blank in a
--- heading. Then `desk receive` reads some of its parts: one for each part number, in the order of the numbers. From
--- these parts, `desk receive` gives the text that the page shows.
+-- heading. The form may have copies of parts. From one part for each number, in the order of the numbers,
+-- `desk receive` gives the text that the page shows.
 abbrev pub WholeMessagesAreRead : Type 0
 WholeMessagesAreRead =
     (s : Day) (form : List ℕ) (parts : List DamagedPart) → AreFormParts s form parts

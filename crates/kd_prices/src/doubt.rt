@@ -14,7 +14,8 @@ pub enum Doubt {
     ///
     /// Cards for rotor machines have prices of cables, and cards for the Converter have prices of bars.
     OtherModel,
-    /// The card has prices by kind, but its kinds or their counts differ from the machine's or the day's.
+    /// The card has prices by kind, but not for exactly the kinds that the machine and the day have, or with another
+    /// count of a kind.
     PriceMissing,
     /// After the earlier lines are carried out, the machine refuses this line for this reason.
     IllegalAt(usize, Why),

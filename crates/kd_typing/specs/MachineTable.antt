@@ -45,8 +45,8 @@ table_in (keys.Pin key) text = Pin (pin_table_in text)
 abbrev pub machine_table_text : Parts → List ℕ
 machine_table_text machine = table_text (table_of_key (physical_key machine))
 
--- Typing on the text of the machine's table gives the machine's own ciphertext. At the start, the windows or pin wheels
--- may show any letters that the machine can show.
+-- Whoever types by the machine's table, read from its text, gets the machine's own ciphertext. At the start, the
+-- windows or pin wheels may show any letters that the machine can show.
 abbrev pub TypesAsMachine : Parts → Type 0
 TypesAsMachine machine =
     (turned : Parts) (window text : List ℕ) → IsWindow (physical_key machine) window → IsTurnedTo machine window turned

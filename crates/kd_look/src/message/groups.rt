@@ -91,7 +91,7 @@ pub fn order_message(
     }
 }
 
-/// The groups in the lines of keys of the order `text`, which end before `start`.
+/// The groups of the order `text`. Each group is in a line of keys; these lines end before `start`.
 fn order_groups(
     alloc: Global,
     text: &[u8],
