@@ -79,8 +79,8 @@ pub const KEY_TWICE: Text = (
 );
 
 pub const SPREADSHEET: Text = (
-    "is it a spreadsheet's table? `curator sheet` makes a key sheet of it",
-    "ist es die Tabelle eines Monats? `curator sheet` macht eine Schlüsseltafel daraus",
+    "is it a table from a spreadsheet? `curator sheet` makes a key sheet from it",
+    "ist es eine Tabelle aus einer Tabellenkalkulation? `curator sheet` macht daraus eine Schlüsseltafel",
 );
 
 pub const CURLY_QUOTE: Text = (

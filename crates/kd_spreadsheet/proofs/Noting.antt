@@ -18,6 +18,7 @@ use Rattle.kd_spreadsheet.specs.Options.{OptionTexts}
 use Rattle.kd_spreadsheet.specs.Notes.{NextCell, NoCells, TellsCells, TellsPlacedRow, TellsText, cell_place, line_at, unread_line, unread_note, unread_words, HasRowsNote, HasSomeLine, OfRows, TellsRow, TellsTable, day_of_row, lacks_column, needs_note, repeats_day, row_place}
 use Rattle.kd_spreadsheet.specs.NearNames.{is_misnamed}
 use Rattle.kd_spreadsheet.specs.Row.{IsDayOfRow, IsNoDay, is_column_read, row_values}
+use Rattle.kd_spreadsheet.specs.Rows.{is_well_quoted}
 use Rattle.kd_spreadsheet.specs.Table.{AreRows}
 use Rattle.kd_spreadsheet.specs.declared.cell.Cell.{Cell}
 use Rattle.kd_spreadsheet.specs.declared.columns.Columns.{Columns}
@@ -198,7 +199,8 @@ four_parts : (a b c d : List ℕ) → a ++ (b ++ c) ++ d ≡ a ++ (b ++ (c ++ d)
 four_parts a b c d = append_assoc a (b ++ c) d ∙ ap (λ t. a ++ t) (append_assoc b c d)
 
 pub of_faults : (l : Language) (options : OptionTexts) (table : List ℕ) (head : List (List ℕ))
-    (rows : List (List (List ℕ))) (n0 n1 n2 n3 : List ℕ) (is_due : Bool) → AreRows table (head ∷ rows)
+    (rows : List (List (List ℕ))) (n0 n1 n2 n3 : List ℕ) (is_due : Bool) → is_well_quoted table ≡ true
+    → AreRows table (head ∷ rows)
     → ((missing : List (List ℕ)) × (n1 ≡ n0 ++ flat_map (line_at (text_in l FIRST_ROW)) missing)
     × (is_misnamed (columns_of head) head ≡ true → 0 < length missing)
     × (list_any (lacks_column options (columns_of head)) rows ≡ true → 0 < length missing))
@@ -206,7 +208,7 @@ pub of_faults : (l : Language) (options : OptionTexts) (table : List ℕ) (head 
     → ((last : List (List ℕ)) × (n3 ≡ n2 ++ flat_map (line_at []) last) × (is_due ≡ true → 0 < length last))
     → (length n2 ≡ length n0 → is_due ≡ true)
     → (rest : List ℕ) × (n3 ≡ n0 ++ rest) × TellsTable l options table (unread_note l head ++ rest)
-of_faults l options table head rows n0 n1 n2 n3 is_due are (missing, first, named, lacking) has (last, third, some) due =
+of_faults l options table head rows n0 n1 n2 n3 is_due quoted are (missing, first, named, lacking) has (last, third, some) due =
     let of_missing = flat_map (line_at (text_in l FIRST_ROW)) missing in
     let of_words = flat_map (line_at []) has.words in
     let of_last = flat_map (line_at []) last in
@@ -218,7 +220,7 @@ of_faults l options table head rows n0 n1 n2 n3 is_due are (missing, first, name
     ∙ ap (λ t. of_missing ++ (has.text ++ t)) (sym (flat_map-append (line_at []) has.words last)) in (
       of_missing ++ (has.text ++ flat_map (line_at []) words),
       all ∙ ap (λ t. n0 ++ t) joined,
-      OfRows head rows missing has.text words are has.told
+      OfRows head rows missing has.text words quoted are has.told
           (λ is. let told = has.empty is in omega (arith, length-append has.words last)) named lacking
           (line_in_all (line_at (text_in l FIRST_ROW)) (line_at []) missing has.text has.words last n0 n2 is_due second
           some due),

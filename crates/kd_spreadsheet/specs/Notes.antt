@@ -1,10 +1,11 @@
 -- The notes on a table, on standard error. The notes on unread columns, and the warnings about days with few pairs or
 -- groups, are defined to the byte.
 --
--- The notes on a refused table have at least one line for each cell that can't be read, and for each cell with the day
--- of an earlier row. They also have one for each row that is neither blank nor a day. The exception: if the table lacks
--- a column that the row needs, there may be only a line about the columns. Each of these lines begins with the place of
--- the cell, the row or the first row. The words after the place aren't defined, nor is their language.
+-- If the quotes of a refused table are right, the notes have at least one line for each unreadable cell that the row's
+-- model needs, and for each cell with the day of an earlier row. They also have one for each row that is neither blank
+-- nor a day. The exception: if the table lacks a column that the row needs, there may be only a line about the columns.
+-- Each of these lines begins with the place of the cell, the row or the first row. The words after the place aren't
+-- defined, nor is their language.
 -- Test: tests/cases/curator-sheet.toml
 use Rattle.std.specs.Prelude.{◌≡◌, ◌<◌, ◌+◌, ◌==◌, ◌&&◌, ◌||◌, not, codes, decimal, nat_lt, ℕ, Bool, true, false, List, [], ◌∷◌, ◌++◌, drop, flat_map, is_some, length, map, slice_get, slice_index_or, take, Option, Some, None, IfSome, IsTrue, if◌then◌else◌}
 use Rattle.std.specs.Prelude.{Result, Ok, Err}
@@ -158,7 +159,7 @@ needs_note options columns row repeated cell = is_faulty options columns row cel
 
 -- The notes on a list of cells of `row`. Each line of the notes begins with the place of the cell that the line is
 -- about. There is at least one line for each cell that can't be read. If an earlier row has the day of `row`
--- (`repeated`), there is at least one line for the cell of the day.
+-- (`repeated`), and the list has the cell of the day, this cell has at least one line.
 pub data TellsCells (options : OptionTexts) (columns : Columns) (head : List (List ℕ)) (place : List ℕ)
     (row : List (List ℕ)) (repeated : Bool) : List Cell → List ℕ → Type 0 where
   NoCells : TellsCells options columns head place row repeated [] []
@@ -220,9 +221,9 @@ HasSomeLine missing note words = 0 < length missing + (length note + length word
 --   is at least one line about the whole table.
 pub data TellsTable (l : Language) (options : OptionTexts) (table : List ℕ) : List ℕ → Type 0 where
   OfQuotes : is_well_quoted table ≡ false → TellsTable l options table (quotes_note l)
-  OfNothing : AreRows table [] → TellsTable l options table (nothing_note l)
+  OfNothing : is_well_quoted table ≡ true → AreRows table [] → TellsTable l options table (nothing_note l)
   OfRows : (head : List (List ℕ)) (rows : List (List (List ℕ))) (missing : List (List ℕ)) (note : List ℕ)
-      (words : List (List ℕ)) → AreRows table (head ∷ rows)
+      (words : List (List ℕ)) → is_well_quoted table ≡ true → AreRows table (head ∷ rows)
       → TellsRows l options (columns_of head) head (drop 1 (row_numbers table)) rows note
       → (list_all (is_blank_row (columns_of head)) rows ≡ true → 0 < length words)
       → (is_misnamed (columns_of head) head ≡ true → 0 < length missing)
@@ -266,7 +267,7 @@ pub record TellsPlacedRow (options : OptionTexts) (columns : Columns) (head : Li
   pub some : IsNoDay (row_values options columns row) → has_columns options columns row ≡ true
       → 0 < length of_cells + length words
 
--- For each number below 32, `found` has a row's number exactly if one of `rows` has this day.
+-- For each day below 32, `found` has a number exactly if one of `rows` has this day.
 pub record KnowsDays (columns : Columns) (rows : List (List (List ℕ))) (found : List (Option ℕ)) : Type 0 where
   pub size : length found ≡ 32
   pub known : (day : ℕ) → day < 32 → is_some (slice_index_or found day None) ≡ list_any (has_day columns day) rows

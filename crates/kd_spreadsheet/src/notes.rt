@@ -1,7 +1,7 @@
 //! Writes notes on the faults of a table.
 //!
-//! It is proved which rows and cells have notes. The words after a note's place, and the language of these words, are
-//! only tested.
+//! It is proved which rows and cells must have notes, and when there must be a note on columns or on the whole table.
+//! The words after a note's place, and the language of these words, are only tested.
 ghost use Rattle.std.specs.Prelude.{◌≡◌, ◌<◌, ◌&&◌, ◌++◌, ◌∷◌, [], true, flat_map, length, map, slice_get, ℕ, List, IfOk, IfSome};
 ghost use Rattle.std.specs.List.{list_any};
 ghost use Rattle.csv.specs.Records.{fields_of};
@@ -12,6 +12,7 @@ ghost use Rattle.kd_spreadsheet.specs.Notes.{lacks_column, line_at, unread_note,
 ghost use Rattle.kd_spreadsheet.specs.NearNames.{is_misnamed};
 ghost use Rattle.kd_spreadsheet.specs.Options.{texts_of};
 ghost use Rattle.kd_spreadsheet.specs.Row.{is_blank_row};
+ghost use Rattle.kd_spreadsheet.specs.Rows.{is_well_quoted};
 ghost use Rattle.kd_spreadsheet.specs.Table.{AreRows};
 ghost use Rattle.kd_spreadsheet.specs.declared.texts.TheConstants.{FIRST_ROW as FIRST_ROW_TEXT};
 
@@ -57,7 +58,7 @@ pub fn put_note<N: Sink>(notes: &mut N, note: &[u8])
     let _ = put_all(notes, note);
 }
 
-/// The notes on a refused table: on its quotes, its unread columns, its missing columns, and its rows.
+/// The notes on a refused table: on its quotes, its columns and its rows, and on the whole table.
 pub fn refused_note(
     wording: Wording,
     table: &[u8],
@@ -82,7 +83,8 @@ fn push_table(
     table: &[u8],
     options: &TableOptions<&[u8]>,
 ) -> Result<(), AllocError>
-    requires { note.old.items ≡ [] }
+    requires empty { note.old.items ≡ [] }
+    requires quoted { is_well_quoted table.now ≡ true }
     ensures { IfOk result (λ _. TellsTable wording.language (texts_of options.now)
         table.now note.new.items) }
 {
@@ -112,6 +114,7 @@ fn push_faults(
     head: &Head<'_>,
     rows: &[ByteRecord],
 ) -> Result<(), AllocError>
+    requires quoted { is_well_quoted table.now ≡ true }
     requires columns { head.now.columns ≡ columns_of head.now.names }
     requires are { AreRows table.now (head.now.names ∷ map fields_of rows.now) }
     ensures { IfOk result (λ _. (rest : List ℕ) × (note.new.items ≡ note.old.items ++ rest)

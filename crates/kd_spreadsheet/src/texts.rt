@@ -42,8 +42,8 @@ pub const NO_ROW: Text = (
 
 /// The words for a refused table, if no other line says why it is refused.
 pub const NO_SHEET: Text = (
-    "the rows aren't the days of one key sheet",
-    "die Zeilen sind nicht die Tage einer Schlüsseltafel",
+    "the rows don't make a key sheet",
+    "die Zeilen ergeben keine Schlüsseltafel",
 );
 
 // ---- Columns.

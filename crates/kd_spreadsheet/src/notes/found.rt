@@ -24,8 +24,8 @@ impl Found {
         Found { rows: [None; 32] }
     }
 
-    /// The number of the first row with the day of `row`; `None` if no earlier row has this day. Keeps `number`, the
-    /// number of `row`, for later rows.
+    /// The number of the first row with the day of `row`. `None` if `row` has no day, or if no earlier row has this
+    /// day. Keeps `number`, the number of `row`, if the day is new.
     pub fn earlier_row(&mut self, head: &Head<'_>, row: &ByteRecord, number: u64) -> Option<u64>
         ensures { (rows : List (List (List ℕ))) → KnowsDays head.now.columns rows self.old.rows
             → (is_some result ≡ repeats_day head.now.columns rows (fields_of row.now))

@@ -15,7 +15,7 @@ returns-in_default c =
     let none = no_row c.in_ok-records.records.items (rw c.as_slice.ensures.value at c.in_default.len_below) in
     let are = subst (AreRows table) none c.in_ok-records.ensures in
     IfOk-weaker c.push_line.result _ _ (λ done told. of_text l (texts_of c.args.options.now) table (nothing_note l)
-    c.args.note.now.items _ c.requires told (OfNothing are))
+    c.args.note.now.items _ c.requires.empty told (OfNothing c.requires.quoted are))
     (rw (c.as_bytes.ensures.value, c.text.ensures) at c.push_line.ensures)
 
 pub push_faults-requires-clause-columns : goal.push_faults-requires-clause-columns
@@ -35,6 +35,6 @@ returns c =
     let unread = rw c.new-head.ensures at c.in_ok-push_unread_note.ensures in
     let faults = rw c.new-head.ensures at c.push_faults.ensures in
     IfOk-weaker c.push_faults.result _ _ (λ done has. of_text l (texts_of c.args.options.now) c.args.table.now
-    (unread_note l names ++ has.0) c.args.note.now.items _ c.requires
+    (unread_note l names ++ has.0) c.args.note.now.items _ c.requires.empty
     (two_parts _ _ _ (unread_note l names) has.0 unread has.1) has.2)
     faults
