@@ -147,7 +147,8 @@ has_day columns day row = option_map_or (λ other. other == day) (day_of_row col
 
 -- whether one of the rows `earlier` has the day of `row`; false if `row` has no day
 abbrev pub repeats_day : Columns → List (List (List ℕ)) → List (List ℕ) → Bool
-repeats_day columns earlier row = option_map_or (λ day. list_any (has_day columns day) earlier) (day_of_row columns row) false
+repeats_day columns earlier row =
+    option_map_or (λ day. list_any (has_day columns day) earlier) (day_of_row columns row) false
 
 abbrev pub is_day_cell : Cell → Bool
 is_day_cell cells.Day = true

@@ -21,7 +21,7 @@ use kd_tables::{
 };
 
 /// A cell of a row. The cell is named after the value that it has.
-#[derive(Clone, Copy)]
+#[derive(Clone, Copy, PartialEq, Eq)]
 pub enum Cell {
     Day,
     Model,

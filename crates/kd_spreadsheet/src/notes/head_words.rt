@@ -3,19 +3,14 @@
 use super::head::Head;
 use super::note::option_name;
 use super::words::{Value, Words};
-use crate::cell::{Cell, cells_of, column_of, has_text, is_optional, row_model};
+use crate::cell::{Cell, column_of, has_text, is_optional, known_cells};
 use crate::columns::{Columns, cell_at, english_name, german_name, short_name};
 use crate::names::is_named;
 use crate::near_names::{ALL_CELLS, is_near_name, near_column};
 use crate::row::{is_blank_row, places_of};
 use crate::texts::{IS_UTF16, MEANT, NO_COLUMN, NO_COLUMN_OR_OPTION, NO_NAMES, SAYS_SEPARATOR};
-use arrayvec::ArrayVec;
 use csv::ByteRecord;
 use kd_language::Text;
-use kd_tables::Model;
-
-/// The columns that every table needs, unless an option replaces them.
-static NEEDED: [Cell; 2] = [Cell::Day, Cell::Model];
 
 /// Columns that most tables have. Their names show the language of the table.
 static OFTEN_NAMED: [Cell; 5] = [
@@ -34,26 +29,38 @@ pub fn head_words(head: &Head<'_>, rows: &[ByteRecord]) -> Words {
         tell_near(&mut lines, head, *cell);
     }
     if !names_none(head.columns()) {
-        tell_missing(&mut lines, head, &NEEDED);
-        tell_missing_of_rows(&mut lines, head, rows);
+        for cell in &ALL_CELLS {
+            if is_needed(head, rows, *cell) {
+                tell_missing(&mut lines, head, *cell);
+            }
+        }
     } else if lines.is_empty() {
         lines.tell(nameless_words(cell_at(head.names(), Some(0))), &[]);
     }
     lines
 }
 
-/// Names the columns that one of `rows` needs, but the table lacks: once for each model.
-fn tell_missing_of_rows(lines: &mut Words, head: &Head<'_>, rows: &[ByteRecord]) {
-    let mut models: ArrayVec<Option<Model>, 4> = ArrayVec::new();
+/// Whether every table needs `cell`, or one of `rows` needs it.
+fn is_needed(head: &Head<'_>, rows: &[ByteRecord], cell: Cell) -> bool {
+    if matches!(cell, Cell::Day | Cell::Model) {
+        return true;
+    }
     for row in rows {
-        if !is_blank_row(head.columns(), row)
-            && let Some(model) = row_model(head.options(), head.columns(), row)
-            && !models.as_slice().contains(&Some(model))
-        {
-            let _ = models.try_push(Some(model));
-            tell_missing(lines, head, cells_of(model));
+        if !is_blank_row(head.columns(), row) && is_cell_of_row(head, row, cell) {
+            return true;
         }
     }
+    false
+}
+
+/// Whether the model of `row` needs `cell`.
+fn is_cell_of_row(head: &Head<'_>, row: &ByteRecord, cell: Cell) -> bool {
+    for other in known_cells(head.options(), head.columns(), row) {
+        if *other == cell {
+            return true;
+        }
+    }
+    false
 }
 
 /// If the column of `cell` is misnamed, asks whether this column is meant by the mistyped name.
@@ -119,15 +126,14 @@ fn meant_name(cell: Cell, name: &[u8]) -> &'static str {
     }
 }
 
-/// Names each column of `cells` that is needed, but missing in the table. Misnamed columns are left out.
-fn tell_missing(lines: &mut Words, head: &Head<'_>, cells: &[Cell]) {
-    for cell in cells {
-        if !is_optional(*cell)
-            && !has_text(head.options(), head.columns(), *cell)
-            && near_column(head.columns(), head.names(), *cell).is_none()
-        {
-            missing_column(lines, head, *cell);
-        }
+/// If the table lacks the column of `cell`, and no misnamed column is meant, says so. A column that no row must have is
+/// left out.
+fn tell_missing(lines: &mut Words, head: &Head<'_>, cell: Cell) {
+    if !is_optional(cell)
+        && !has_text(head.options(), head.columns(), cell)
+        && near_column(head.columns(), head.names(), cell).is_none()
+    {
+        missing_column(lines, head, cell);
     }
 }
 
