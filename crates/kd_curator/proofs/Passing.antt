@@ -27,7 +27,7 @@ use Rattle.kd_tables.specs.declared.ports.write_fault.WriteFault.{WriteFault}
 use Rattle.kd_look.specs.declared.outcome.Outcome.{Outcome}
 use Rattle.kd_tables.specs.Writing.{Writes}
 use Rattle.kd_curator.specs.Sheets.{MakesSheet, Sheet, Faulty, NoMemory as NoSheetMemory}
-use Rattle.kd_spreadsheet.specs.Options.{OptionTexts}
+use Rattle.kd_options.specs.TableOptions.{OptionTexts}
 use Rattle.kd_language.specs.declared.language.Language.{Language}
 use Rattle.kd_pictures.specs.declared.results.Results.{Results}
 use Rattle.kd_curator_command.specs.CommandLine.{NamedCommand, chosen_language}

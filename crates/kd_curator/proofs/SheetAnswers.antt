@@ -8,7 +8,7 @@ use Rattle.kd_tables.specs.Writing.{TakesPrefix}
 use Rattle.kd_state.specs.SheetDay.{Day}
 use Rattle.kd_sheet.specs.SheetText.{sheet_text}
 use Rattle.kd_spreadsheet.specs.Notes.{HasNotesOn, Tells, table_fault}
-use Rattle.kd_spreadsheet.specs.Options.{OptionTexts}
+use Rattle.kd_options.specs.TableOptions.{OptionTexts}
 use Rattle.kd_spreadsheet.specs.Table.{IsRefusedTable, TableMeans}
 use Rattle.kd_spreadsheet.specs.declared.fault.SpreadsheetFault.{SpreadsheetFault}
 use Rattle.kd_spreadsheet.specs.declared.fault.SpreadsheetFault.TheVariants as spreadsheets

@@ -8,7 +8,7 @@ use Rattle.kd_tables.specs.declared.direction.Direction.TheVariants.{Receive, Se
 use Rattle.kd_language.specs.declared.language.Language.{Language}
 use Rattle.kd_sheet.specs.Sheet.{day_of}
 use Rattle.kd_spreadsheet.specs.Notes.{HasNotesOn, Tells, TellsText}
-use Rattle.kd_spreadsheet.specs.Options.{OptionTexts}
+use Rattle.kd_options.specs.TableOptions.{OptionTexts}
 use Rattle.kd_spreadsheet.specs.declared.fault.SpreadsheetFault.{SpreadsheetFault}
 use Rattle.kd_spreadsheet.specs.declared.fault.SpreadsheetFault.TheVariants as spreadsheets
 use Rattle.kd_curator_command.specs.CommandLine.{NamedCommand}

@@ -7,7 +7,7 @@ use Rattle.kd_state.specs.SheetDay.{Day}
 use Rattle.kd_sheet.specs.Sheet.{month_of}
 use Rattle.kd_sheet.specs.SheetFile.{sheet_of}
 use Rattle.kd_sheet.specs.SheetText.{sheet_text}
-use Rattle.kd_spreadsheet.specs.Options.{OptionTexts}
+use Rattle.kd_options.specs.TableOptions.{OptionTexts}
 use Rattle.kd_spreadsheet.specs.Table.{IsRefusedTable, TableMeans}
 use Rattle.kd_curator.specs.MachineAndSheet.{LacksMemory}
 use Rattle.kd_curator.specs.Refusals.{refused_device, refused_in}

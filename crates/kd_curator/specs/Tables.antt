@@ -4,7 +4,7 @@ use Rattle.kd_tables.specs.Ports.{Port}
 use Rattle.kd_host.specs.Writing.{WritesText}
 use Rattle.kd_language.specs.declared.language.Language.{Language}
 use Rattle.kd_printed_sheet.specs.TableFile.{file_text}
-use Rattle.kd_printed_sheet.specs.declared.table_file.TableForm.{TableForm}
+use Rattle.kd_options.specs.declared.table_form.TableForm.{TableForm}
 use Rattle.kd_curator.specs.MachineAndSheet.{IsAnswerOn, month_in}
 use Rattle.kd_curator.specs.Refusals.{refused_device}
 use Rattle.kd_curator.specs.declared.fault.Refused.{Refused}

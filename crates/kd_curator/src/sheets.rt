@@ -1,7 +1,7 @@
 //! The command `sheet`: makes a key sheet from a spreadsheet's table, or writes a key sheet to fill in.
 ghost use Rattle.std.specs.Prelude.{◌≡◌, ◌≤◌, ◌||◌, false, IsErr};
 ghost use Rattle.kd_tables.specs.Ports.{port};
-ghost use Rattle.kd_spreadsheet.specs.Options.{texts_of};
+ghost use Rattle.kd_options.specs.TableOptions.{texts_of};
 ghost use Rattle.kd_host.specs.Writing.{WritesText};
 ghost use Rattle.kd_spreadsheet.specs.EmptySheet.{empty_month_text};
 ghost use Rattle.kd_curator.specs.Notes.{HasTableNotes};
@@ -10,7 +10,8 @@ ghost use Rattle.kd_curator.specs.Sheets.{MakesSheet};
 
 use crate::fault::Refused;
 use kd_language::Wording;
-use kd_spreadsheet::{TableOptions, run_sheet, write_empty_month};
+use kd_options::TableOptions;
+use kd_spreadsheet::{run_sheet, write_empty_month};
 use kd_tables::{Model, Sink};
 
 /// Writes the key sheet with the days of `table`. Writes notes on the table to `errors`, in the language of `wording`.

@@ -7,7 +7,8 @@ ghost use Rattle.kd_curator.specs.Tables.{WritesTables};
 use crate::fault::Refused;
 use crate::machine_and_sheet::read_month;
 use kd_language::Language;
-use kd_printed_sheet::{TableForm, write_tables};
+use kd_options::TableForm;
+use kd_printed_sheet::write_tables;
 use kd_tables::Sink;
 use std::alloc::Global;
 

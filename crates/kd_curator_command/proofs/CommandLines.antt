@@ -29,11 +29,11 @@ use Rattle.std.specs.Bool.{Decides}
 use Rattle.std.proofs.lemmas.Slice.Eq.{bytes_eq-Decides}
 use Rattle.kd_curator_command.specs.declared.command.MessageTask.{MessageTask}
 use Rattle.kd_language.specs.declared.language.Language.{Language}
-use Rattle.kd_spreadsheet.specs.Options.{OptionTexts}
+use Rattle.kd_options.specs.TableOptions.{OptionTexts}
 use Rattle.kd_curator_command.specs.CommandLine.{IsMonthNamed, are_blank, option_text, option_texts}
 use Rattle.kd_tables.specs.declared.model.Model.{Model}
 use Rattle.std.specs.Prelude.{unwrap_or}
-use Rattle.kd_printed_sheet.specs.declared.table_file.TableForm.{TableForm}
+use Rattle.kd_options.specs.declared.table_form.TableForm.{TableForm}
 use Rattle.clap.proofs.{OnLiterals.clap_on_literals, WalkLemmas.first_value-rows, WalkLemmas.raw_values-rows}
 use Rattle.clap.specs.declared.parser.matches.{ArgMatches.ArgMatches, Found.Found}
 use Rattle.kd_curator_command.specs.{CommandLine.curator_grammar, declared.command.NoCommand.NoCommand}

@@ -19,14 +19,14 @@ use Rattle.kd_curator_command.specs.declared.command.Command.TheVariants as comm
 use Rattle.kd_pictures.specs.declared.results.Results.{Results}
 use Rattle.kd_pictures.specs.declared.results.Results.TheVariants.{LeftOpen, Shown}
 use Rattle.kd_curator_command.specs.CommandLine.{HasForm, HasMessage, HasResults, IsEmptySheetOf, IsSheetOf}
-use Rattle.kd_spreadsheet.specs.Options.{OptionTexts}
+use Rattle.kd_options.specs.TableOptions.{OptionTexts}
 use Rattle.kd_tables.specs.Tables.{model_text}
 use Rattle.kd_sheet.proofs.ReadBack.Described.KeyValues.{model_found}
 use Rattle.kd_sheet.specs.Names.{find_by_text}
 use Rattle.kd_tables.specs.declared.model.Model.TheVariants.{EnigmaI, M3, M4, M209}
 use Rattle.kd_tables.specs.declared.model.Model.{Model}
-use Rattle.kd_printed_sheet.specs.declared.table_file.TableForm.{TableForm}
-use Rattle.kd_printed_sheet.specs.declared.table_file.TableForm.TheVariants as forms
+use Rattle.kd_options.specs.declared.table_form.TableForm.{TableForm}
+use Rattle.kd_options.specs.declared.table_form.TableForm.TheVariants as forms
 
 same_days : (rows : List Row) (one other : Option (List ℕ)) → HasDays rows one → HasDays rows other → one ≡ other
 same_days rows None None first second = refl

@@ -23,9 +23,9 @@ use Rattle.kd_tables.specs.Tables.{model_text}
 use Rattle.kd_tables.specs.declared.direction.Direction.{Direction}
 use Rattle.kd_tables.specs.declared.direction.Direction.TheVariants.{Receive, Send}
 use Rattle.kd_tables.specs.declared.model.Model.{Model}
-use Rattle.kd_spreadsheet.specs.Options.{OptionTexts, texts_of}
-use Rattle.kd_printed_sheet.specs.declared.table_file.TableForm.{TableForm}
-use Rattle.kd_printed_sheet.specs.declared.table_file.TableForm.TheVariants as forms
+use Rattle.kd_options.specs.TableOptions.{OptionTexts, texts_of}
+use Rattle.kd_options.specs.declared.table_form.TableForm.{TableForm}
+use Rattle.kd_options.specs.declared.table_form.TableForm.TheVariants as forms
 use Rattle.kd_curator_command.specs.declared.command.Command.{Command}
 use Rattle.kd_curator_command.specs.declared.command.Command.TheVariants as commands
 use Rattle.kd_curator_command.specs.declared.command.MessageTask.{MessageTask}

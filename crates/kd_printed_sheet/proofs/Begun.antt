@@ -4,8 +4,8 @@ use Rattle.kd_language.specs.declared.language.Language.{Language}
 unfoldable use Rattle.kd_pictures.specs.FileHead.{file_head}
 unfoldable use Rattle.kd_language.specs.Template.{filled}
 use Rattle.kd_state.specs.SheetDay.{Day}
-use Rattle.kd_printed_sheet.specs.declared.table_file.TableForm.{TableForm}
-use Rattle.kd_printed_sheet.specs.declared.table_file.TableForm.TheVariants.{Csv, Page}
+use Rattle.kd_options.specs.declared.table_form.TableForm.{TableForm}
+use Rattle.kd_options.specs.declared.table_form.TableForm.TheVariants.{Csv, Page}
 unfoldable use Rattle.kd_printed_sheet.specs.CsvTable.{csv_text}
 use Rattle.kd_printed_sheet.specs.TableFile.{file_text}
 unfoldable use Rattle.kd_printed_sheet.specs.TableFile.{page_text}

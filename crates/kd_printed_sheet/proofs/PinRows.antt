@@ -16,7 +16,7 @@ use Rattle.kd_sheet.specs.MachineText.{pins_text}
 use Rattle.kd_state.specs.SheetDay.{IsLegalPinDay, Pin, PinDay}
 use Rattle.kd_pictures.specs.Template.{letter_text}
 use Rattle.kd_spreadsheet.specs.Items.{is_blank, joined, letters_in, normal, readings_in, ring_of_word}
-use Rattle.kd_spreadsheet.specs.Options.{OptionTexts}
+use Rattle.kd_options.specs.TableOptions.{OptionTexts}
 unfoldable use Rattle.kd_spreadsheet.specs.Names.{is_named, model_named}
 unfoldable use Rattle.kd_spreadsheet.specs.PinRow.{pin_values, pins_in}
 unfoldable use Rattle.kd_spreadsheet.specs.Row.{fits_columns, is_blank_row}

@@ -16,7 +16,7 @@ use Rattle.kd_sheet.specs.Sheet.{day_of, month_of}
 use Rattle.kd_sheet.specs.SheetFile.{day_for, sheet_in, sheet_of}
 use Rattle.kd_sheet.specs.declared.key.Key.TheVariants as keys
 use Rattle.kd_spreadsheet.specs.Columns.{columns_of}
-use Rattle.kd_spreadsheet.specs.Options.{OptionTexts}
+use Rattle.kd_options.specs.TableOptions.{OptionTexts}
 use Rattle.kd_spreadsheet.specs.Row.{is_blank_row, row_values}
 use Rattle.kd_spreadsheet.specs.Rows.{is_well_quoted}
 use Rattle.kd_spreadsheet.specs.Table.{AreDaysOfRows, AreRows, DayRow, IsRefusedTable, NoDays, NoRows, TableMeans, is_taken}

@@ -19,7 +19,7 @@ use Rattle.kd_state.specs.declared.sheet_day.rotor_entry.SheetWheel.{SheetWheel}
 use Rattle.kd_spreadsheet.specs.Items.{group_of, groups_in, is_blank, letters_in, number_in, number_of, pair_of, pairs_in, ring_of_word, single, slot_of, wheels_in, words}
 unfoldable use Rattle.kd_spreadsheet.specs.Names.{is_named, model_named}
 use Rattle.kd_spreadsheet.specs.Names.{reflector_named}
-use Rattle.kd_spreadsheet.specs.Options.{OptionTexts}
+use Rattle.kd_options.specs.TableOptions.{OptionTexts}
 unfoldable use Rattle.kd_spreadsheet.specs.RotorRow.{rotor_values}
 use Rattle.kd_spreadsheet.specs.RotorRow.{wheels_with}
 unfoldable use Rattle.kd_spreadsheet.specs.Row.{fits_columns, is_blank_row}

@@ -4,7 +4,7 @@ use Rattle.std.specs.Bool.{MatchBool}
 use Rattle.kd_state.specs.SheetDay.{Day}
 use Rattle.kd_sheet.specs.Sheet.{month_of}
 use Rattle.kd_sheet.specs.SheetFile.{sheet_of}
-use Rattle.kd_spreadsheet.specs.Options.{OptionTexts}
+use Rattle.kd_options.specs.TableOptions.{OptionTexts}
 use Rattle.kd_spreadsheet.specs.Table.{IsRefusedTable, TableMeans}
 use Rattle.kd_printed_sheet.specs.CsvTable.{csv_text}
 use Rattle.kd_printed_sheet.specs.Days.{has_days}

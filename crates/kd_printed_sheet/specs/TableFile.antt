@@ -10,8 +10,8 @@ use Rattle.kd_pictures.specs.FileHead.{file_head}
 use Rattle.kd_language.specs.Language.{text_in}
 use Rattle.kd_printed_sheet.specs.declared.days.TheConstants.{DAYS}
 use Rattle.kd_printed_sheet.specs.declared.texts.TheConstants.{NO_DAYS, TITLE, WIDE_BODY}
-use Rattle.kd_printed_sheet.specs.declared.table_file.TableForm.{TableForm}
-use Rattle.kd_printed_sheet.specs.declared.table_file.TableForm.TheVariants.{Csv, Page}
+use Rattle.kd_options.specs.declared.table_form.TableForm.{TableForm}
+use Rattle.kd_options.specs.declared.table_form.TableForm.TheVariants.{Csv, Page}
 use Rattle.kd_printed_sheet.specs.CsvTable.{csv_text}
 use Rattle.kd_printed_sheet.specs.Days.{has_days}
 use Rattle.kd_printed_sheet.specs.KeyList.{key_list_of}

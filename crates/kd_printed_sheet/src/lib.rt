@@ -10,4 +10,4 @@ mod table_file;
 pub mod texts;
 mod words;
 
-pub use table_file::{TableForm, write_tables};
+pub use table_file::write_tables;

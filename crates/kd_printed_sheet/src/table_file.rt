@@ -11,20 +11,12 @@ use crate::key_list::draw_key_lists;
 use crate::month_table::draw_month;
 use crate::texts::{NO_DAYS, TITLE, WIDE_BODY};
 use kd_language::Language;
+use kd_options::TableForm;
 use kd_pictures::file_head::draw_file_head;
 use kd_pictures::texts::{FOOT, MORE_STYLE, STYLE};
 use kd_pictures::{draw, draw_in};
 use kd_sheet::Sheet;
 use kd_tables::{Device, Family, Model, Sink};
-
-/// The form of the file with a sheet's tables.
-#[derive(Clone, Copy, Debug, PartialEq, Eq)]
-pub enum TableForm {
-    /// An HTML page to print.
-    Page,
-    /// A CSV table for a spreadsheet.
-    Csv,
-}
 
 /// Writes the tables of the key sheet `sheet` in `form`. Allocates no memory.
 ///

@@ -4,7 +4,7 @@ use Rattle.kd_state.specs.SheetDay.{Day, day_number}
 use Rattle.kd_spreadsheet.specs.Row.{is_blank_row, IsDayOfRow}
 use Rattle.kd_spreadsheet.specs.Table.{BlankRow, DayRow, IsRefusedRow, HasRefusedRow, IsBodyRead, is_taken}
 use Rattle.kd_spreadsheet.specs.declared.columns.Columns.{Columns}
-use Rattle.kd_spreadsheet.specs.Options.{OptionTexts}
+use Rattle.kd_options.specs.TableOptions.{OptionTexts}
 
 module _ (options : OptionTexts) (columns : Columns) where
   refused_before : (rows : List (List (List ℕ))) (row : List (List ℕ)) → HasRefusedRow options columns rows

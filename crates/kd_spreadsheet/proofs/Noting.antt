@@ -14,7 +14,7 @@ use Rattle.kd_tables.specs.Writing.{Writes}
 use Rattle.kd_spreadsheet.specs.Cells.{has_columns, row_cells, row_model}
 use Rattle.kd_spreadsheet.specs.Columns.{cell_at, columns_of}
 use Rattle.kd_spreadsheet.specs.Items.{is_blank}
-use Rattle.kd_spreadsheet.specs.Options.{OptionTexts}
+use Rattle.kd_options.specs.TableOptions.{OptionTexts}
 use Rattle.kd_spreadsheet.specs.Notes.{NextCell, NoCells, TellsCells, TellsPlacedRow, TellsText, cell_place, line_at, unread_line, unread_note, unread_words, HasRowsNote, HasSomeLine, OfRows, TellsRow, TellsTable, day_of_row, lacks_column, needs_note, repeats_day, row_place}
 use Rattle.kd_spreadsheet.specs.NearNames.{is_misnamed}
 use Rattle.kd_spreadsheet.specs.Row.{IsDayOfRow, IsNoDay, is_column_read, row_values}

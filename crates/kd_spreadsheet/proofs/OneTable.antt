@@ -9,7 +9,7 @@ use Rattle.kd_state.specs.SheetDay.{Day, day_number}
 use Rattle.kd_spreadsheet.specs.Columns.{columns_of}
 use Rattle.kd_spreadsheet.specs.Laws.{MeansOrIsRefused, MeansOneList}
 use Rattle.kd_spreadsheet.specs.NearNames.{is_misnamed}
-use Rattle.kd_spreadsheet.specs.Options.{OptionTexts}
+use Rattle.kd_options.specs.TableOptions.{OptionTexts}
 use Rattle.kd_spreadsheet.specs.Row.{IsDayOfRow, IsNoDay, is_blank_row, row_values}
 use Rattle.kd_spreadsheet.specs.Table.{AreDaysOfRows, NoRows, BlankRow, DayRow, AreRows, HasRefusedRow, IsRefusedRow, IsRefusedTable, Misnamed, NoDays, NoFirstRow, RefusedRow, TableMeans, WrongQuotes, is_taken}
 use Rattle.kd_spreadsheet.specs.declared.columns.Columns.{Columns}

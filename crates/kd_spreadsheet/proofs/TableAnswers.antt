@@ -15,7 +15,7 @@ use Rattle.kd_spreadsheet.specs.Table.{AreRefusedRows, AreRows, TableMeans, IsRe
 use Rattle.kd_spreadsheet.specs.declared.columns.Columns.{Columns}
 use Rattle.kd_spreadsheet.specs.declared.fault.SpreadsheetFault.{SpreadsheetFault}
 use Rattle.kd_spreadsheet.specs.declared.fault.SpreadsheetFault.TheVariants.{NoMemory, Refused}
-use Rattle.kd_spreadsheet.specs.Options.{OptionTexts}
+use Rattle.kd_options.specs.TableOptions.{OptionTexts}
 
 module _ (options : OptionTexts) (table : List ℕ) where
   -- what the rows mean, the table means

@@ -15,7 +15,7 @@ use Rattle.kd_spreadsheet.specs.Steps.{◌>>=◌}
 use Rattle.kd_spreadsheet.specs.declared.cell.Cell.{Cell}
 use Rattle.kd_spreadsheet.specs.declared.cell.Cell.TheVariants as cells
 use Rattle.kd_spreadsheet.specs.declared.columns.Columns.{Columns}
-use Rattle.kd_spreadsheet.specs.Options.{OptionTexts}
+use Rattle.kd_options.specs.TableOptions.{OptionTexts}
 
 -- the place of a cell's column; `None` if the table has no such column
 abbrev pub column_of : Columns → Cell → Option ℕ

@@ -3,7 +3,7 @@
 use Rattle.std.specs.Prelude.{ℕ, Bool, List}
 use Rattle.kd_language.specs.declared.language.Language.{Language}
 use Rattle.kd_spreadsheet.specs.declared.columns.Columns.{Columns}
-use Rattle.kd_spreadsheet.specs.Options.{OptionTexts}
+use Rattle.kd_options.specs.TableOptions.{OptionTexts}
 
 -- What is the same for the notes on all rows: the language, the options and the columns. `names` is the table's first
 -- row, which has the columns' names.

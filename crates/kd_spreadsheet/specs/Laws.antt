@@ -1,7 +1,7 @@
 -- This crate's laws about tables: no table is both accepted and refused, and no table has two meanings.
 use Rattle.std.specs.Prelude.{◌≡◌, ℕ, List}
 use Rattle.kd_state.specs.SheetDay.{Day}
-use Rattle.kd_spreadsheet.specs.Options.{OptionTexts}
+use Rattle.kd_options.specs.TableOptions.{OptionTexts}
 use Rattle.kd_spreadsheet.specs.Table.{IsRefusedTable, TableMeans}
 
 -- If a table means days, it isn't refused.

@@ -1,7 +1,6 @@
 pub mod Steps
 pub mod Laws
 pub mod Names
-pub mod Options
 pub mod Items
 pub mod Columns
 pub mod RotorRow

@@ -24,7 +24,7 @@ use Rattle.kd_spreadsheet.specs.Cells.{column_of, day_in, has_columns, is_faulty
 use Rattle.kd_spreadsheet.specs.Columns.{cell_at, columns_of}
 use Rattle.kd_spreadsheet.specs.Head.{Head}
 use Rattle.kd_spreadsheet.specs.Items.{is_blank}
-use Rattle.kd_spreadsheet.specs.Options.{OptionTexts}
+use Rattle.kd_options.specs.TableOptions.{OptionTexts}
 use Rattle.kd_spreadsheet.specs.NearNames.{is_misnamed}
 use Rattle.kd_spreadsheet.specs.Row.{IsNoDay, is_blank_row, is_column_read, row_values}
 use Rattle.kd_spreadsheet.specs.RowNumbers.{row_numbers}

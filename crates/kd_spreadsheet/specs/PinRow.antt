@@ -9,7 +9,7 @@ use Rattle.kd_spreadsheet.specs.Columns.{cell_at, cell_or}
 use Rattle.kd_spreadsheet.specs.Items.{number_in, letters_in, readings_in, exactly, joined}
 use Rattle.kd_spreadsheet.specs.Steps.{◌>>=◌}
 use Rattle.kd_spreadsheet.specs.declared.columns.Columns.{Columns}
-use Rattle.kd_spreadsheet.specs.Options.{OptionTexts}
+use Rattle.kd_options.specs.TableOptions.{OptionTexts}
 
 -- The pins of the wheel with the letters `ring`. The cell in column `column` has the letters of the wheel's effective
 -- pins. `None` if the table lacks the column, or the cell can't be read.

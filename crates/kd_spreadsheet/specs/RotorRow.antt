@@ -11,7 +11,7 @@ use Rattle.kd_spreadsheet.specs.Items.{number_in, wheels_in, letters_in, pairs_i
 use Rattle.kd_spreadsheet.specs.Names.{reflector_named}
 use Rattle.kd_spreadsheet.specs.Steps.{◌>>=◌}
 use Rattle.kd_spreadsheet.specs.declared.columns.Columns.{Columns}
-use Rattle.kd_spreadsheet.specs.Options.{OptionTexts}
+use Rattle.kd_options.specs.TableOptions.{OptionTexts}
 
 -- The wheels, each with its ring and its window letter. `None` if the lists of wheels, rings and letters have different
 -- lengths, or a slot is empty.

@@ -13,7 +13,7 @@ use Rattle.kd_spreadsheet.specs.PinRow.{pin_values}
 use Rattle.kd_spreadsheet.specs.RotorRow.{rotor_values}
 use Rattle.kd_spreadsheet.specs.Steps.{◌>>=◌}
 use Rattle.kd_spreadsheet.specs.declared.columns.Columns.{Columns}
-use Rattle.kd_spreadsheet.specs.Options.{OptionTexts}
+use Rattle.kd_options.specs.TableOptions.{OptionTexts}
 
 -- the places of all columns that are read, except the pin columns, which are in `columns.pins`
 abbrev pub places_of : Columns → List (Option ℕ)

@@ -10,7 +10,7 @@ use Rattle.kd_spreadsheet.specs.NearNames.{is_misnamed}
 use Rattle.kd_spreadsheet.specs.Row.{row_values, is_blank_row, IsDayOfRow, IsNoDay}
 use Rattle.kd_spreadsheet.specs.Rows.{separated, separator_of, is_well_quoted}
 use Rattle.kd_spreadsheet.specs.declared.columns.Columns.{Columns}
-use Rattle.kd_spreadsheet.specs.Options.{OptionTexts}
+use Rattle.kd_options.specs.TableOptions.{OptionTexts}
 
 -- whether one of `days` has the number `number`
 abbrev pub is_taken : List Day → ℕ → Bool

@@ -7,14 +7,14 @@ ghost use Rattle.kd_spreadsheet.specs.Cells.{cells_of, column_of, day_in, has_co
 ghost use Rattle.kd_spreadsheet.specs.Cells.{is_read, option_of, row_model, slots, text_of, windows};
 ghost use Rattle.kd_spreadsheet.specs.Items.{exactly, joined, letters_in};
 ghost use Rattle.kd_spreadsheet.specs.Names.{reflector_named};
-ghost use Rattle.kd_spreadsheet.specs.Options.{texts_of};
+ghost use Rattle.kd_options.specs.TableOptions.{texts_of};
 ghost use Rattle.kd_sheet.specs.PinWheels.{pins_of_text};
 
 use crate::columns::{Columns, cell_or};
 use crate::items::{Values, is_blank, joined, number_in, values_in};
 use crate::names::{model_named, reflector_named};
-use crate::options::TableOptions;
 use csv::ByteRecord;
+use kd_options::TableOptions;
 use kd_sheet::pins_of_text;
 use kd_tables::{
     Family, Letter, Model, Reading, Ring, Wheel, ring1, ring2, ring3, ring4, ring5, ring6,

@@ -10,7 +10,6 @@ pub mod laws;
 mod names;
 mod near_names;
 mod notes;
-mod options;
 mod pin_row;
 mod quotes;
 mod records;
@@ -23,6 +22,5 @@ mod texts;
 
 pub use empty_month::write_empty_month;
 pub use fault::SpreadsheetFault;
-pub use options::TableOptions;
 pub use sheet::run_sheet;
 pub use sheet_writer::write_sheet;

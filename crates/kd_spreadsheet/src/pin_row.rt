@@ -5,13 +5,13 @@ ghost use Rattle.csv.specs.Records.{fields_of};
 ghost use Rattle.kd_state.specs.SheetDay.{Pin};
 ghost use Rattle.kd_spreadsheet.specs.Items.{exactly, letters_in, readings_in};
 ghost use Rattle.kd_spreadsheet.specs.PinRow.{pins_after, pins_at, pins_in, pin_values};
-ghost use Rattle.kd_spreadsheet.specs.Options.{texts_of};
+ghost use Rattle.kd_options.specs.TableOptions.{texts_of};
 ghost use Rattle.kd_spreadsheet.specs.Row.{IsNoDay};
 
 use crate::columns::{Columns, cell_at, cell_or};
 use crate::items::{joined, number_in, values_in};
-use crate::options::TableOptions;
 use csv::ByteRecord;
+use kd_options::TableOptions;
 use kd_pins::PinSet;
 use kd_sheet::pins_of_text;
 use kd_state::SheetDay;

@@ -2,16 +2,16 @@
 ghost use Rattle.std.specs.Prelude.{◌≡◌, ◌≤◌, ◌+◌, ◌++◌, MatchOption, Some, option_map, length};
 ghost use Rattle.csv.specs.Records.{fields_of};
 ghost use Rattle.kd_state.specs.SheetDay.{Rotor};
-ghost use Rattle.kd_spreadsheet.specs.Options.{texts_of};
+ghost use Rattle.kd_options.specs.TableOptions.{texts_of};
 ghost use Rattle.kd_spreadsheet.specs.Row.{IsNoDay};
 ghost use Rattle.kd_spreadsheet.specs.RotorRow.{plugs_in, rotor_values, seated_in, wheels_with};
 
 use crate::columns::{Columns, cell_at, cell_or};
 use crate::items::{Values, number_in, values_in};
 use crate::names::reflector_named;
-use crate::options::TableOptions;
 use arrayvec::ArrayVec;
 use csv::ByteRecord;
+use kd_options::TableOptions;
 use kd_state::{SheetDay, SheetWheel};
 use kd_tables::{Letter, Model, Wheel};
 

@@ -3,17 +3,17 @@ ghost use Rattle.std.specs.Prelude.{◌≡◌, ◌-◌, MatchOption, Some};
 ghost use Rattle.csv.specs.Records.{fields_of};
 ghost use Rattle.std.specs.List.{list_all, list_any, range_with_len};
 ghost use Rattle.kd_spreadsheet.specs.{Columns.{cell_at}, Items.{is_blank}};
-ghost use Rattle.kd_spreadsheet.specs.Options.{texts_of};
+ghost use Rattle.kd_options.specs.TableOptions.{texts_of};
 ghost use Rattle.kd_spreadsheet.specs.Row.{fits_columns, is_at, is_blank_row, is_column_read, places_of};
 ghost use Rattle.kd_spreadsheet.specs.Row.{row_values, IsDayOfRow, IsNoDay};
 
 use crate::columns::{Columns, cell_at, cell_or};
 use crate::items::is_blank;
 use crate::names::model_named;
-use crate::options::TableOptions;
 use crate::pin_row::pin_day;
 use crate::rotor_row::rotor_day;
 use csv::ByteRecord;
+use kd_options::TableOptions;
 use kd_state::SheetDay;
 use kd_tables::Family;
 

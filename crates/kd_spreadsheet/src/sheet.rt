@@ -7,7 +7,7 @@ ghost use Rattle.kd_state.specs.SheetDay.{Day};
 ghost use Rattle.kd_sheet.specs.{Sheet.{month_of}, SheetFile.{sheet_of}, SheetText.{sheet_text}};
 ghost use Rattle.kd_tables.specs.Ports.{port};
 ghost use Rattle.kd_spreadsheet.specs.Notes.{HasNotesOn, IsTaken, IsTakenOfRows, Tells, table_fault};
-ghost use Rattle.kd_spreadsheet.specs.Options.{texts_of};
+ghost use Rattle.kd_options.specs.TableOptions.{texts_of};
 ghost use Rattle.kd_spreadsheet.specs.Table.{AreRefusedRows, TableMeans, IsRefusedTable};
 ghost use Rattle.kd_spreadsheet.specs.declared.fault.SpreadsheetFault.TheVariants as faults;
 
@@ -15,13 +15,13 @@ use crate::columns::Columns;
 use crate::fault::SpreadsheetFault;
 use crate::near_names::is_misnamed;
 use crate::notes::{put_note, refused_note, taken_note};
-use crate::options::TableOptions;
 use crate::quotes::is_well_quoted;
 use crate::records::read_records;
 use crate::sheet_writer::write_sheet;
 use crate::table_body::{TableBody, read_body};
 use csv::ByteRecord;
 use kd_language::Wording;
+use kd_options::TableOptions;
 use kd_state::SheetDay;
 use kd_tables::{Sink, WriteFault};
 

@@ -1,13 +1,13 @@
 //! Reads a table row by row.
 ghost use Rattle.std.specs.Prelude.{◌≡◌, ◌++◌, ◌∷◌, [], List, ℕ, IfOk, map};
 ghost use Rattle.csv.specs.Records.{fields_of};
-ghost use Rattle.kd_spreadsheet.specs.Options.{texts_of};
+ghost use Rattle.kd_options.specs.TableOptions.{texts_of};
 ghost use Rattle.kd_spreadsheet.specs.Table.{is_taken, IsBodyRead};
 
 use crate::columns::Columns;
-use crate::options::TableOptions;
 use crate::row::{is_blank_row, row_day};
 use csv::ByteRecord;
+use kd_options::TableOptions;
 use kd_state::SheetDay;
 use std::alloc::{AllocError, Global};
 

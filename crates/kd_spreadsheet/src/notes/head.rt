@@ -1,8 +1,8 @@
 //! `Head` and `PlacedRow`: the values from which notes on a table's rows are made.
 use crate::columns::Columns;
-use crate::options::TableOptions;
 use csv::ByteRecord;
 use kd_language::{Language, Wording};
+use kd_options::TableOptions;
 
 /// What is the same for the notes on all rows. `names` is the table's first row, which has the columns' names.
 /// `wording` has the notes' language, and the memory for the notes.
@@ -17,7 +17,7 @@ pub struct Head<'a> {
 impl<'a> std::marker::Model for Head<'a> {
     ghost use Rattle.csv.specs.Records.{fields_of};
     ghost use Rattle.kd_spreadsheet.specs.Head.{Head};
-    ghost use Rattle.kd_spreadsheet.specs.Options.{texts_of};
+    ghost use Rattle.kd_options.specs.TableOptions.{texts_of};
 
     ghost Value = { Head };
 
@@ -33,7 +33,7 @@ impl<'a> Head<'a> {
     ghost use Rattle.std.specs.Prelude.{◌≡◌};
     ghost use Rattle.csv.specs.Records.{fields_of};
     ghost use Rattle.kd_spreadsheet.specs.Head.{head_of};
-    ghost use Rattle.kd_spreadsheet.specs.Options.{texts_of};
+    ghost use Rattle.kd_options.specs.TableOptions.{texts_of};
 
     /// Makes the `Head` of a table whose first row is `names`.
     pub fn new(

@@ -1,6 +1,6 @@
 use Rattle.std.proofs.Common.{◌∙◌, ◌||◌, Bool, sym}
 use Rattle.kd_spreadsheet.specs.Cells.{has_text, is_optional}
-use Rattle.kd_spreadsheet.specs.Options.{texts_of}
+use Rattle.kd_options.specs.TableOptions.{texts_of}
 use Rattle.kd_spreadsheet.specs.declared.cell.Cell.{Cell}
 use Rattle.kd_spreadsheet.specs.declared.cell.Cell.TheVariants as cells
 use Rattle.kd_spreadsheet.proofs.ColumnsThere.{all_of_row}

@@ -2,7 +2,7 @@ use Rattle.std.proofs.Common.{◌++◌, subst, sym}
 use Rattle.std.proofs.lemmas.Result.{IfOk-weaker}
 use Rattle.csv.specs.Records.{fields_of}
 use Rattle.kd_spreadsheet.specs.Notes.{OfNothing, nothing_note, unread_note}
-use Rattle.kd_spreadsheet.specs.Options.{texts_of}
+use Rattle.kd_options.specs.TableOptions.{texts_of}
 use Rattle.kd_spreadsheet.specs.Table.{AreRows}
 use Rattle.kd_spreadsheet.proofs.Noting.{of_text, two_parts}
 use Rattle.kd_spreadsheet.proofs.ReadRows.{first_row, no_row}

@@ -1,7 +1,7 @@
 use Rattle.std.proofs.Common.{◌≡◌, false, arith}
 use Rattle.std.proofs.lemmas.Grind.{common_steps}
 use Rattle.kd_spreadsheet.specs.Notes.{OfQuotes, quotes_note}
-use Rattle.kd_spreadsheet.specs.Options.{texts_of}
+use Rattle.kd_options.specs.TableOptions.{texts_of}
 use Rattle.kd_spreadsheet.specs.Rows.{is_well_quoted}
 use Rattle.kd_spreadsheet.proofs.Noting.{of_text}
 use Rattle.kd_spreadsheet.proofs.notes.refused_note.Goals as goal

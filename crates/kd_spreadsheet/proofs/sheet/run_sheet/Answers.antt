@@ -1,5 +1,5 @@
 use Rattle.std.proofs.Common.{◌∙◌, Err, ap}
-use Rattle.kd_spreadsheet.specs.Options.{texts_of}
+use Rattle.kd_options.specs.TableOptions.{texts_of}
 use Rattle.kd_spreadsheet.proofs.TableAnswers.{read_back, same_fault, still_refused}
 use Rattle.kd_spreadsheet.proofs.sheet.run_sheet.Goals as goal
 

@@ -2,7 +2,7 @@ use Rattle.std.proofs.Common.{◌≡◌, true, arith, subst, sym}
 use Rattle.std.proofs.lemmas.Grind.{common_steps}
 use Rattle.std.proofs.lemmas.Result.{IfOk-weaker}
 use Rattle.csv.specs.Records.{fields_of}
-use Rattle.kd_spreadsheet.specs.Options.{texts_of}
+use Rattle.kd_options.specs.TableOptions.{texts_of}
 use Rattle.kd_spreadsheet.specs.Rows.{is_well_quoted}
 use Rattle.kd_spreadsheet.specs.Table.{AreRows}
 use Rattle.kd_spreadsheet.proofs.ReadRows.{first_row}

@@ -1,6 +1,6 @@
 use Rattle.std.proofs.Common.{subst}
 use Rattle.csv.specs.Records.{fields_of}
-use Rattle.kd_spreadsheet.specs.Options.{OptionTexts}
+use Rattle.kd_options.specs.TableOptions.{OptionTexts}
 use Rattle.kd_spreadsheet.specs.Row.{IsDayOfRow}
 use Rattle.kd_spreadsheet.specs.declared.columns.Columns.{Columns}
 use Rattle.kd_spreadsheet.proofs.Noting.{is_some_day}

@@ -2,7 +2,7 @@
 -- Test: tests/cases/curator-sheet.toml
 use Rattle.std.specs.Prelude.{List, ℕ}
 use Rattle.std.specs.Borrow.{Bor}
-use Rattle.kd_spreadsheet.specs.declared.options.TableOptions.{TableOptions}
+use Rattle.kd_options.specs.declared.table_options.TableOptions.{TableOptions}
 
 -- The texts of the options `--model`, `--reflector` and `--window`. An empty text replaces no cell.
 abbrev pub OptionTexts : Type 0
