@@ -1,6 +1,7 @@
 use Rattle.std.proofs.Common.{map, take}
 use Rattle.csv.specs.Records.{fields_of}
-use Rattle.kd_spreadsheet.specs.{Options.texts_of, Table.IsBodyRead}
+use Rattle.kd_options.specs.TableOptions.{texts_of}
+use Rattle.kd_spreadsheet.specs.Table.{IsBodyRead}
 use Rattle.kd_spreadsheet.proofs.table_body.read_body.Given as goal
 
 abbrev pub invariant-loop-row : goal.invariant-loop-row
