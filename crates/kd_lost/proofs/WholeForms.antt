@@ -327,7 +327,7 @@ known_joined [] other = refl
 known_joined (letter ∷ one) other = ap (λ l. Some letter ∷ l) (known_joined one other)
 
 -- a part that `receive` reads is read as it stands
-as_it_stands : (s : Day) (p : PartStart) (part : List ℕ) (read : ReadPart) (one : DamagedPart)
+pub as_it_stands : (s : Day) (p : PartStart) (part : List ℕ) (read : ReadPart) (one : DamagedPart)
     → IsPartAnswer s p part (Ok read) → (is : IsReadOf s part one) → is.meant ≡ part
 as_it_stands s p part read one is of =
     let w = whole_part s p part read is in

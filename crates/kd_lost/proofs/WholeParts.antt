@@ -2,13 +2,13 @@
 use Rattle.std.proofs.Common.{All, append_assoc, ◌≡◌, ◌≢◌, ◌∙◌, ℕ, ◌+◌, ◌-◌, ◌<◌, ◌≤◌, ◌^◌, List, [], ◌∷◌, ◌++◌, length}
 use Rattle.std.proofs.Common.{map, drop, take, refl, sym, ap, subst, arith, Option, Some, None, inl, inr, IsTrue}
 use Rattle.std.proofs.Common.{IsFalse}
-use Rattle.std.proofs.Common.{Result, Ok, Err, codes, decimal, option_map, Any, get_or, ◌↔◌}
+use Rattle.std.proofs.Common.{Result, Ok, Err, codes, decimal, Any, get_or, ◌↔◌}
 use Rattle.std.proofs.lemmas.Bool.{Decides.nat_tests, cases_Bool}
 use Rattle.std.proofs.lemmas.List.{drop-drop, drop-take, get_or-take, length-take-le, take-take}
-use Rattle.std.proofs.lemmas.List.Elements.{All-append, All-cons, All-from_get_or, All-head, All-map, All-nil, All-tail}
+use Rattle.std.proofs.lemmas.List.Elements.{All-append, All-cons, All-from_get_or, All-map, All-nil}
 use Rattle.std.proofs.lemmas.List.Elements.{All-weaker}
 use Rattle.std.proofs.lemmas.Fmt.{digits_decimal}
-use Rattle.std.specs.List.{cons_option, slice_range}
+use Rattle.std.specs.List.{slice_range}
 use Rattle.kd_tables.specs.Text.{is_text_byte, letters_text}
 use Rattle.kd_tables.specs.LineWords.{IsFirstPart, line_of}
 use Rattle.kd_state.specs.SheetDay.{AreADaysGroup, Day, Rotor, Pin}
@@ -23,14 +23,14 @@ use Rattle.kd_form.specs.FormParts.{HasFirstLine, IsHeading, IsLineText, WithRet
 use Rattle.kd_form.specs.InternalKey.{IsInternalKey}
 use Rattle.kd_form.specs.Part.{fraction_text, heading_words, indicator_words}
 use Rattle.kd_form.specs.PartMaking.{enciphered_choice, list_letters}
-use Rattle.kd_form.specs.PartReading.{HasDueNumbers, IsPartAnswer, PartStart, ReadPart}
-use Rattle.kd_form.specs.Sending.{IsBytesAnswer, letter_of_byte, letters_from}
+use Rattle.kd_form.specs.PartReading.{HasDueNumbers, IsExpectedCount, IsPartAnswer, PartStart, ReadPart}
+use Rattle.kd_form.specs.Sending.{IsBytesAnswer, letters_from}
 use Rattle.kd_form.proofs.Headings.{at_most, ended_heading, one_heading}
 use Rattle.kd_form.proofs.MadeParts.{enciphered_length}
 use Rattle.kd_lost.specs.declared.damage.PartDamage.{PartDamage}
 use Rattle.kd_lost.specs.declared.damaged_text.DamagedText.{DamagedText}
 use Rattle.kd_lost.specs.declared.part.PartNumbers.{PartNumbers}
-use Rattle.kd_lost.specs.Lost.{Completes, meant_byte, covered, is_lost, received_letter, received_letters}
+use Rattle.kd_lost.specs.Lost.{Completes, covered, is_lost, received_letters}
 use Rattle.kd_lost.specs.Copies.{IsKeysAnswer}
 use Rattle.kd_lost.specs.DamagedText.{GroupLost, GroupRight, GroupWrong, IsDamagedLettersAnswer, IsListTest}
 use Rattle.kd_lost.specs.DamagedText.{IsGroupTest, ListLost, ListRight, ListWrong, text_part}
@@ -130,6 +130,7 @@ pub record IsWholePart (s : Day) (p : PartStart) (part : List ℕ) (read : ReadP
   pub text : IsLettersAnswer s p.number h.indicator (letters_from None body) (Ok read.letters)
   pub numbered : h.part ≡ p.number
   pub parts : read.parts ≡ h.parts
+  pub expected : IsExpectedCount p.expected read.parts
 
 least_letters : (s : Day) (h : Heading) → IsHeading s h → 0 < h.letters
 least_letters (Rotor s) h is = omega (arith, is.letters)
@@ -158,6 +159,7 @@ whole_lines s p part read h body is (inl (line, first, text)) due allowed counte
       text = letters;
       numbered = due.numbered;
       parts = parts;
+      expected = subst (IsExpectedCount p.expected) (sym parts) due.as_expected;
     }
 whole_lines s p part read h body is (inr (without, same, none)) due allowed counted letters parts =
     absurd (omega (arith, least_letters s h is, counted, ap (λ b. length (letters_from None b)) none))
