@@ -118,10 +118,11 @@ module _ (copies : List DamagedPart) where
       (All-tail (All (λ b. IsFalse (is_lost b))) part parts kept) in
       λ i. record { bytes = here i; line = line } ∷ rest i
 
-chosen_cases : (P : List DamagedPart → Type 0) (alone again : List DamagedPart) (kept : Bool) → P alone → P again
-    → P (if kept then again else alone)
-chosen_cases P alone again true one other = other
-chosen_cases P alone again false one other = one
+-- what holds of both cases holds of the case that is chosen
+pub chosen_cases : {A : Type 0} (P : A → Type 0) (one other : A) (is_other : Bool) → P one → P other
+    → P (if is_other then other else one)
+chosen_cases P one other true holds also = also
+chosen_cases P one other false holds also = holds
 
 -- if no byte is lost, each part is read alone, and as it stands
 pub read_as_it_stands : (s : Day) (form : List ℕ) (parts : List DamagedPart)

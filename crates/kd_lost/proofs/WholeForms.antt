@@ -25,6 +25,7 @@ use Rattle.kd_lost.specs.DamagedForm.{AsItStands, IsMeant, IsReadOf, Respaced, c
 use Rattle.kd_lost.specs.DamagedForm.{ends_part, parts_cut, shown_byte}
 use Rattle.kd_lost.specs.DamagedPart.{IsDamagedHeading, IsDamagedTextAnswer, first_line}
 use Rattle.kd_lost.specs.Tidy.{from_heading, without_mark}
+use Rattle.kd_lost.proofs.CompletedParts.{chosen_cases}
 use Rattle.kd_lost.proofs.Parts.{lines_there}
 use Rattle.kd_lost.specs.DamagedForm.{letters_in, shown_letters}
 use Rattle.kd_lost.specs.Laws.{FormsReadAreShownWhole, FormsReadAreTidy, FormsReadHaveTheirParts, IsReadWell}
@@ -157,27 +158,17 @@ AreKept bytes = All (λ byte. IsFalse (is_lost byte)) bytes
 kept_rest : (byte : ℕ) (bytes : List ℕ) → AreKept (byte ∷ bytes) → AreKept bytes
 kept_rest byte bytes kept = All-tail (λ b. IsFalse (is_lost b)) byte bytes kept
 
-kept_after_from : (blank : Bool) (byte : ℕ) (bytes rest : List ℕ) → AreKept (byte ∷ bytes) → AreKept rest
-    → AreKept (if blank then rest else byte ∷ bytes)
-kept_after_from true byte bytes rest kept more = more
-kept_after_from false byte bytes rest kept more = kept
-
 kept_after_blanks : (bytes : List ℕ) → AreKept bytes → AreKept (after_blanks bytes)
 kept_after_blanks [] kept = kept
 kept_after_blanks (byte ∷ bytes) kept =
-    kept_after_from (is_blank byte) byte bytes (after_blanks bytes) kept
+    chosen_cases AreKept (byte ∷ bytes) (after_blanks bytes) (is_blank byte) kept
     (kept_after_blanks bytes (kept_rest byte bytes kept))
-
-kept_word_from : (ends : Bool) (byte : ℕ) (bytes rest : List ℕ) → AreKept (byte ∷ bytes) → AreKept rest
-    → AreKept (if ends then byte ∷ bytes else rest)
-kept_word_from true byte bytes rest kept more = kept
-kept_word_from false byte bytes rest kept more = more
 
 kept_after_word : (bytes : List ℕ) → AreKept bytes → AreKept (after_word bytes)
 kept_after_word [] kept = kept
 kept_after_word (byte ∷ bytes) kept =
-    kept_word_from (is_blank byte || byte == 10) byte bytes (after_word bytes) kept
-    (kept_after_word bytes (kept_rest byte bytes kept))
+    chosen_cases AreKept (after_word bytes) (byte ∷ bytes) (is_blank byte || byte == 10)
+    (kept_after_word bytes (kept_rest byte bytes kept)) kept
 
 kept_first : (bytes : List ℕ) → AreKept bytes → is_lost_sign (slice_get bytes 0) ≡ false
 kept_first [] kept = refl

@@ -138,46 +138,28 @@ fn read_lines(day: &SheetDay, line: &[u8], body: &[u8]) -> DamagedPart
     ensures as_it_stands { result.respaced ≡ false }
     ensures line { result.line ≡ 1 }
 {
-    let came_heading = heading_signs(line);
-    let came = letter_count(body);
-    let letters = body_letters(body);
-    let wrong_sign = first_wrong_sign(body);
-    let short_line = first_short_line(body);
-    let short_group = first_short_group(body);
-    let Some(heading) = heading_of_ended_line(day, filled_line(line).as_slice()) else {
-        return DamagedPart {
-            numbers: None,
-            heading: came_heading,
-            came,
-            body: letters,
-            group: GroupTest::NotTested,
-            text: Err(PartDamage::HeadingDamaged),
-            wrong_sign,
-            by_count: None,
-            short_line,
-            short_group,
-            respaced: false,
-            as_spelled: true,
-            is_order: false,
-            line: 1,
-        };
-    };
-    DamagedPart {
-        numbers: Some(numbers_of(&heading)),
-        heading: came_heading,
-        came,
-        group: test_body(day, heading.letters, letters.as_slice()),
-        body: letters,
-        text: read_body_after(day, &heading, line, body),
-        wrong_sign,
+    let mut read = DamagedPart {
+        numbers: None,
+        heading: heading_signs(line),
+        came: letter_count(body),
+        group: GroupTest::NotTested,
+        body: body_letters(body),
+        text: Err(PartDamage::HeadingDamaged),
+        wrong_sign: first_wrong_sign(body),
         by_count: None,
-        short_line,
-        short_group,
+        short_line: first_short_line(body),
+        short_group: first_short_group(body),
         respaced: false,
         as_spelled: true,
         is_order: false,
         line: 1,
+    };
+    if let Some(heading) = heading_of_ended_line(day, filled_line(line).as_slice()) {
+        read.numbers = Some(numbers_of(&heading));
+        read.group = test_body(day, heading.letters, read.body.as_slice());
+        read.text = read_body_after(day, &heading, line, body);
     }
+    read
 }
 
 /// The numbers in `heading`.
