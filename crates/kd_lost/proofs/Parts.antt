@@ -210,7 +210,7 @@ pub data HasLines (part : List ℕ) : Type 0 where
   TwoLines : IsFirstPart 10 part (first_line part) (body_of part) → HasLines part
   OneLine : body_of part ≡ [] → HasLines part
 
-break_or_not : (byte : ℕ) → (byte ≡ 10) ⊎ (byte ≢ 10)
+pub break_or_not : (byte : ℕ) → (byte ≡ 10) ⊎ (byte ≢ 10)
 break_or_not byte = grind (arith, nat_tests)
 
 has_more_lines : (byte : ℕ) (part : List ℕ) → (byte ≡ 10) ⊎ (byte ≢ 10) → HasLines part → HasLines (byte ∷ part)

@@ -28,7 +28,8 @@ later_none (byte ∷ line) without =
 short_line_step : (all number : ℕ) (left : List ℕ) (told : Bool)
     → (is_short (letters_on (first_line left)) && nat_lt 0 (letters_on (body_of left))) ≡ told
     → short_line_from all number (left ∷ later_lines left)
-    ≡ (if told then Some (record { line = number; letters = letters_on (first_line left); before = all - letters_on left })
+    ≡ (if told
+    then Some (record { line = number; letters = letters_on (first_line left); before = all - letters_on left })
     else short_line_from all (number + 1) (later_lines left))
 short_line_step all number left told test =
     ap (λ (b : Bool). if b
@@ -44,7 +45,8 @@ short_there all number left line body first told =
     let there = lines_there line body first.without in
     let its : first_line left ≡ line = ap first_line first.joined ∙ there.0 in
     let after : body_of left ≡ body = ap body_of first.joined ∙ there.1 in
-    short_line_step all number left true ((λ i. is_short (letters_on (its i)) && nat_lt 0 (letters_on (after i))) ∙ told)
+    short_line_step all number left true
+    ((λ i. is_short (letters_on (its i)) && nat_lt 0 (letters_on (after i))) ∙ told)
     ∙ ap (λ l. Some (record { line = number; letters = letters_on l; before = all - letters_on left })) its
 
 -- the line isn't short, or no letters stand after it
@@ -58,7 +60,8 @@ short_after all number left line body first told =
     let after : body_of left ≡ body = ap body_of first.joined ∙ there.1 in
     let later : later_lines left ≡ body ∷ later_lines body =
     ap later_lines first.joined ∙ later_there line body first.without in
-    short_line_step all number left false ((λ i. is_short (letters_on (its i)) && nat_lt 0 (letters_on (after i))) ∙ told)
+    short_line_step all number left false
+    ((λ i. is_short (letters_on (its i)) && nat_lt 0 (letters_on (after i))) ∙ told)
     ∙ ap (short_line_from all (number + 1)) later
 
 both_off : (one : Bool) → (one && false) ≡ false

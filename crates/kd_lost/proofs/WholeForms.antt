@@ -16,6 +16,7 @@ use Rattle.kd_state.proofs.OneAnswer.{ThenNext-Ok}
 use Rattle.kd_form.specs.Sending.{space_letter}
 use Rattle.kd_form.proofs.Headings.{BeginsHeading-bytes, at_cut, begins_more, begins_there, first_there, heading_size}
 use Rattle.kd_form.proofs.Headings.{no_cut}
+use Rattle.std.proofs.lemmas.List.{map-append}
 use Rattle.kd_lost.specs.declared.{part.DamagedPart.{DamagedPart}}
 use Rattle.kd_lost.specs.HeadingLine.{after_blanks, after_word, has_digit_line, has_lost_number, has_short_word, is_blank}
 use Rattle.kd_lost.specs.HeadingLine.{is_lost_sign, is_part_line}
@@ -309,13 +310,10 @@ same_parts s form text is =
 
 -- -------- the texts
 
-shown_known : (s : Day) (letters : List ℕ) → map (shown_byte (space_letter s)) (map Some letters) ≡ plaintext_bytes s letters
+pub shown_known : (s : Day) (letters : List ℕ)
+    → map (shown_byte (space_letter s)) (map Some letters) ≡ plaintext_bytes s letters
 shown_known s [] = refl
 shown_known s (letter ∷ letters) = ap (λ l. shown_byte (space_letter s) (Some letter) ∷ l) (shown_known s letters)
-
-known_joined : (one other : List ℕ) → map Some (one ++ other) ≡ map Some one ++ map Some other
-known_joined [] other = refl
-known_joined (letter ∷ one) other = ap (λ l. Some letter ∷ l) (known_joined one other)
 
 -- a part that `receive` reads is read as it stands
 pub as_it_stands : (s : Day) (p : PartStart) (part : List ℕ) (read : ReadPart) (one : DamagedPart)
@@ -345,7 +343,7 @@ module _ (s : Day) where
       let others = parts_shown (next_part_start p read.parts part) parts more reads rest are.1 in (
         All-cons IsReadWell one reads (shown, told, whole.group, whole.copies) others.0,
         ap (λ t. letters_in t ++ shown_letters reads) told ∙ ap (λ l. l ++ shown_letters reads) whole.letters
-            ∙ ap (λ l. map Some read.letters ++ l) others.1 ∙ sym (known_joined read.letters more)
+            ∙ ap (λ l. map Some read.letters ++ l) others.1 ∙ sym (map-append Some read.letters more)
             ∙ ap (map Some) (sym joined),
       )
 

@@ -5,7 +5,8 @@ pub returns-clause-numbers : goal.returns-clause-numbers
 returns-clause-numbers c = rw c.line_and_body.ensures.line at c.read_lines-read.ensures.numbers
 
 pub returns-clause-text : goal.returns-clause-text
-returns-clause-text c = rw (c.line_and_body.ensures.line, c.line_and_body.ensures.body) at c.read_lines-read.ensures.text
+returns-clause-text c =
+    rw (c.line_and_body.ensures.line, c.line_and_body.ensures.body) at c.read_lines-read.ensures.text
 
 pub returns-clause-shown : goal.returns-clause-shown
 returns-clause-shown c =
