@@ -118,10 +118,11 @@ module _ (copies : List DamagedPart) where
       (All-tail (All (λ b. IsFalse (is_lost b))) part parts kept) in
       λ i. record { bytes = here i; line = line } ∷ rest i
 
-chosen_cases : (P : List DamagedPart → Type 0) (alone again : List DamagedPart) (kept : Bool) → P alone → P again
-    → P (if kept then again else alone)
-chosen_cases P alone again true one other = other
-chosen_cases P alone again false one other = one
+-- what holds of both cases holds of the case that is chosen
+pub chosen_cases : {A : Type 0} (P : A → Type 0) (one other : A) (is_other : Bool) → P one → P other
+    → P (if is_other then other else one)
+chosen_cases P one other true holds also = also
+chosen_cases P one other false holds also = holds
 
 -- if no byte is lost, each part is read alone, and as it stands
 pub read_as_it_stands : (s : Day) (form : List ℕ) (parts : List DamagedPart)
@@ -157,13 +158,14 @@ pub chosen_alone : (alone : List DamagedPart) → alone ≡ completed_or alone a
 chosen_alone alone = chosen_cases (λ l. alone ≡ l) alone alone (are_kept alone alone) refl refl
 
 -- the parts are read alone, and again with the letters of their copies
-pub read_twice : (s : Day) (form : List ℕ) (alone again : List DamagedPart) (kept : Bool)
-    → are_of_one_message alone ≡ true → AreReadWith s [] form alone → AreReadWith s alone form again
+pub read_twice : (s : Day) (form : List ℕ) (alone copies again : List DamagedPart) (kept : Bool)
+    → are_of_one_message alone ≡ true → AreReadWith s [] form alone → copies ≡ alone → AreReadWith s copies form again
     → are_kept alone again ≡ kept → AreFormParts s form (if kept then again else alone)
-read_twice s form alone again kept one first second is = record {
+read_twice s form alone copies again kept one first same second is = record {
   alone = alone;
   read = subst (λ l. AreReadOf s l alone) (completed_by_none 0 (damaged_parts_of form)) first;
   again = again;
-  read_again = subst (λ (b : Bool). AreReadWith s (if b then alone else []) form again) (sym one) second;
+  read_again = subst (λ l. AreReadWith s l form again) (same ∙ ap (λ (b : Bool). if b then alone else []) (sym one))
+      second;
   chosen = sym (ap (λ (b : Bool). if b then again else alone) is);
 }

@@ -13,8 +13,7 @@ use Rattle.kd_state.proofs.OneAnswer.{ThenNext-Ok, Yields-Ok}
 use Rattle.kd_lost.specs.declared.damage.PartDamage.{PartDamage}
 use Rattle.kd_lost.specs.declared.damage.PartDamage.TheVariants.{CopiesDiffer, KeyLetterLost}
 use Rattle.kd_lost.specs.Lost.{IsLetterFor, Completes}
-use Rattle.kd_form.specs.declared.keys.PinKeys.{PinKeys}
-use Rattle.kd_lost.specs.Copies.{IsKeyLetterAnswer, AreKeyLettersAnswer, IsKeysAnswer, chosen_copies}
+use Rattle.kd_lost.specs.Copies.{IsKeyLetterAnswer, AreKeyLettersAnswer, chosen_copies}
 
 lost_is_any : (got : Option ℕ) → got ≡ None → IsLetterFor got 0
 lost_is_any got none = subst (λ o. IsLetterFor o 0) (sym none) (omega arith)
@@ -133,24 +132,6 @@ step_goes number (x ∷ start) (y ∷ end) one other letter old pushed new (Err 
     GoesOn letter first (HasFault damage next refl)
 
 -- ---- the keys
-
-pub keys_first_fail : (start end copies : List (Option ℕ)) (damage : PartDamage) → copies ≡ chosen_copies start end
-    → IsKeyLetterAnswer 0 copies (Err damage) → IsKeysAnswer start end (Err damage)
-keys_first_fail start end copies damage is failed =
-    HasFault damage (subst (λ l. IsKeyLetterAnswer 0 l (Err damage)) is failed) refl
-
-pub keys_then_fail : (start end copies : List (Option ℕ)) (chosen : ℕ) (damage : PartDamage)
-    → copies ≡ chosen_copies start end → IsKeyLetterAnswer 0 copies (Ok chosen)
-    → AreKeyLettersAnswer 1 (drop 2 start) (drop 2 end) (Err damage) → IsKeysAnswer start end (Err damage)
-keys_then_fail start end copies chosen damage is read failed =
-    GoesOn chosen (subst (λ l. IsKeyLetterAnswer 0 l (Ok chosen)) is read) (HasFault damage failed refl)
-
-pub keys_found : (start end copies : List (Option ℕ)) (chosen : ℕ) (external : List ℕ) (keys : PinKeys)
-    → copies ≡ chosen_copies start end → IsKeyLetterAnswer 0 copies (Ok chosen)
-    → AreKeyLettersAnswer 1 (drop 2 start) (drop 2 end) (Ok external)
-    → keys ≡ record { chosen = chosen; external = external } → IsKeysAnswer start end (Ok keys)
-keys_found start end copies chosen external keys is read more same =
-    GoesOn chosen (subst (λ l. IsKeyLetterAnswer 0 l (Ok chosen)) is read) (GoesOn external more (ap Ok same))
 
 item_there : (xs : List (Option ℕ)) (i : ℕ) (x : Option ℕ) → i < length xs → x ≡ get_or xs i x → x ≡ get_or xs i None
 item_there xs i x inside is = is ∙ get_or_default xs i x None inside

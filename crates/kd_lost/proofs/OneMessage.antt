@@ -1,6 +1,6 @@
 -- Parts of one message: each agrees with each later one.
-use Rattle.std.proofs.Common.{◌≡◌, ◌∙◌, ◌⊎◌, inl, inr, zero, suc, ◌&&◌, Bool, true, false, List, [], ◌∷◌, ◌++◌}
-use Rattle.std.proofs.Common.{arith, refl, subst, sym, Some}
+use Rattle.std.proofs.Common.{◌≡◌, ◌∙◌, ◌⊎◌, inl, inr, zero, suc, ◌&&◌, Bool, true, List, [], ◌∷◌, ◌++◌}
+use Rattle.std.proofs.Common.{arith, subst, sym, Some}
 use Rattle.std.proofs.lemmas.Bool.{Decides.nat_tests, and_parts, cases_Bool}
 use Rattle.std.specs.List.{Contains}
 use Rattle.kd_lost.specs.declared.part.{DamagedPart.{DamagedPart}, PartNumbers.{PartNumbers}}

@@ -27,8 +27,6 @@ use Rattle.kd_lost.specs.Lost.{IsLetterFor, received_letters}
 use Rattle.kd_lost.specs.Copies.{IsKeysAnswer, chosen_copies}
 use Rattle.kd_lost.specs.WholePart.{HasKeysAround, IsLettersText}
 use Rattle.kd_lost.specs.DamagedText.{IsDamagedLettersAnswer, IsTextShown, text_part}
-use Rattle.kd_lost.specs.declared.part.DamagedPart.{DamagedPart}
-use Rattle.kd_lost.specs.DamagedPart.{AreNumbersRead, IsDamagedLinesAnswer}
 use Rattle.kd_lost.specs.DamagedPart.{IsDamagedHeading, IsDamagedTextAnswer, IsPartShown, body_of, first_line}
 use Rattle.kd_lost.specs.DamagedPart.{is_body_byte}
 use Rattle.kd_lost.proofs.Ciphers.{filled_completes}
@@ -272,13 +270,3 @@ pub answer_shown : (s : Day) (part : List ℕ) (answer : Result DamagedText Part
     → IfOk answer (IsPartShown s part)
 answer_shown s part (Ok shown) read = part_shown s part shown read
 answer_shown s part (Err damage) read = tt
-
-pub lines_answered : (s : Day) (part line body : List ℕ) (answer : DamagedPart) → first_line part ≡ line
-    → body_of part ≡ body → AreNumbersRead s line answer.numbers → IsDamagedLinesAnswer s line body answer.text
-    → AreNumbersRead s (first_line part) answer.numbers × IsDamagedTextAnswer s part answer.text
-    × IfOk answer.text (IsPartShown s part)
-lines_answered s part line body answer first rest numbers text =
-    let read : IsDamagedTextAnswer s part answer.text =
-    subst (λ l. IsDamagedLinesAnswer s l (body_of part) answer.text) (sym first)
-    (subst (λ b. IsDamagedLinesAnswer s line b answer.text) (sym rest) text) in
-    (subst (λ l. AreNumbersRead s l answer.numbers) (sym first) numbers, read, answer_shown s part answer.text read)

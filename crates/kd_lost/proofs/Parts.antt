@@ -1,16 +1,24 @@
 -- Completions of bytes, and the lines of a part.
 use Rattle.std.proofs.Common.{All, ◌≡◌, ◌≢◌, ◌∙◌, ◌⊎◌, inl, inr, ℕ, ◌+◌, ◌<◌, List, [], ◌∷◌, ◌++◌, map}
 use Rattle.std.proofs.Common.{refl, sym, ap, subst, arith, Option, Some, None, IsTrue, IsFalse, get_or, Bool, true}
-use Rattle.std.proofs.Common.{false}
+use Rattle.std.proofs.Common.{false, length, take, arith, length-take, Result}
 use Rattle.std.specs.List.{cons_option}
 use Rattle.std.proofs.lemmas.Bool.{Decides.nat_tests, cases_Bool}
+use Rattle.std.proofs.lemmas.List.{take_all}
 use Rattle.std.proofs.lemmas.List.Elements.{All-head, All-tail, All-cons, All-nil, All-map}
 use Rattle.kd_tables.specs.Text.{is_text_byte, is_capital}
 use Rattle.kd_tables.specs.LineWords.{IsWithout, IsFirstPart}
+use Rattle.kd_state.specs.AnswerRules.{GoesOn}
+use Rattle.kd_state.specs.SheetDay.{Day}
+use Rattle.kd_form.specs.declared.heading.Heading.{Heading}
+use Rattle.kd_form.specs.FormParts.{IsHeading}
 use Rattle.kd_form.specs.Sending.{letter_of_byte, letters_from}
+use Rattle.kd_form.proofs.Headings.{at_most}
+use Rattle.kd_lost.specs.declared.{damage.PartDamage.{PartDamage}, damaged_text.DamagedText.{DamagedText}}
+use Rattle.kd_lost.specs.DamagedText.{IsDamagedLettersAnswer}
 use Rattle.kd_lost.specs.Lost.{AnyLetter, AsReceived, Completes, IsCompletion, MayHaveBeen, meant_byte, is_lost}
 use Rattle.kd_lost.specs.Lost.{received_letter, received_letters}
-use Rattle.kd_lost.specs.DamagedPart.{body_of, filled_byte, first_line, is_body_byte}
+use Rattle.kd_lost.specs.DamagedPart.{IsDamagedBodyAnswer, body_of, filled_byte, first_line, is_body_byte}
 
 -- -------- completions of bytes
 
@@ -202,7 +210,7 @@ pub data HasLines (part : List ℕ) : Type 0 where
   TwoLines : IsFirstPart 10 part (first_line part) (body_of part) → HasLines part
   OneLine : body_of part ≡ [] → HasLines part
 
-break_or_not : (byte : ℕ) → (byte ≡ 10) ⊎ (byte ≢ 10)
+pub break_or_not : (byte : ℕ) → (byte ≡ 10) ⊎ (byte ≢ 10)
 break_or_not byte = grind (arith, nat_tests)
 
 has_more_lines : (byte : ℕ) (part : List ℕ) → (byte ≡ 10) ⊎ (byte ≢ 10) → HasLines part → HasLines (byte ∷ part)
@@ -221,3 +229,18 @@ has_more_lines byte part (inr other) (OneLine none) = OneLine ((more_line byte p
 pub has_lines : (part : List ℕ) → HasLines part
 has_lines [] = OneLine refl
 has_lines (byte ∷ part) = has_more_lines byte part (break_or_not byte) (has_lines part)
+
+-- -------- the answer for a body
+
+-- the body has as many letters as its heading says; then all are kept, as a heading says at most 520
+pub counted_answer : (s : Day) (h : Heading) (body : List ℕ) (kept : List (Option ℕ))
+    (answer : Result DamagedText PartDamage) → IsHeading s h → All (λ byte. IsTrue (is_body_byte byte)) body
+    → kept ≡ take 525 (received_letters body) → length kept ≡ h.letters
+    → IsDamagedLettersAnswer s h.indicator kept answer → IsDamagedBodyAnswer s h body answer
+counted_answer s h body kept answer is allowed taken counted read =
+    let received = received_letters body in
+    let few = at_most _ h.letters is.letters in
+    let all : kept ≡ received =
+    taken ∙ take_all 525 received (omega (arith, ap length taken, length-take 525 received, counted, few)) in
+    GoesOn tt allowed (GoesOn tt (sym (ap length all) ∙ counted)
+    (subst (λ l. IsDamagedLettersAnswer s h.indicator l answer) all read))

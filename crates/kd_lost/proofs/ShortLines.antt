@@ -24,6 +24,18 @@ later_none (byte ∷ line) without =
     no_line byte line (All-head (λ other. other ≢ 10) byte line without)
     ∙ later_none line (All-tail (λ other. other ≢ 10) byte line without)
 
+-- the first short line, if the test of the first line of `left` says `told`
+short_line_step : (all number : ℕ) (left : List ℕ) (told : Bool)
+    → (is_short (letters_on (first_line left)) && nat_lt 0 (letters_on (body_of left))) ≡ told
+    → short_line_from all number (left ∷ later_lines left)
+    ≡ (if told
+    then Some (record { line = number; letters = letters_on (first_line left); before = all - letters_on left })
+    else short_line_from all (number + 1) (later_lines left))
+short_line_step all number left told test =
+    ap (λ (b : Bool). if b
+    then Some (record { line = number; letters = letters_on (first_line left); before = all - letters_on left })
+    else short_line_from all (number + 1) (later_lines left)) test
+
 -- the line is short, and letters stand after it
 pub short_there : (all number : ℕ) (left line body : List ℕ) → IsFirstPart 10 left line body
     → (is_short (letters_on line) && nat_lt 0 (letters_on body)) ≡ true
@@ -33,11 +45,8 @@ short_there all number left line body first told =
     let there = lines_there line body first.without in
     let its : first_line left ≡ line = ap first_line first.joined ∙ there.0 in
     let after : body_of left ≡ body = ap body_of first.joined ∙ there.1 in
-    let test : (is_short (letters_on (first_line left)) && nat_lt 0 (letters_on (body_of left))) ≡ true =
-    (λ i. is_short (letters_on (its i)) && nat_lt 0 (letters_on (after i))) ∙ told in
-    ap (λ (b : Bool). if b
-    then Some (record { line = number; letters = letters_on (first_line left); before = all - letters_on left })
-    else short_line_from all (number + 1) (later_lines left)) test
+    short_line_step all number left true
+    ((λ i. is_short (letters_on (its i)) && nat_lt 0 (letters_on (after i))) ∙ told)
     ∙ ap (λ l. Some (record { line = number; letters = letters_on l; before = all - letters_on left })) its
 
 -- the line isn't short, or no letters stand after it
@@ -51,11 +60,8 @@ short_after all number left line body first told =
     let after : body_of left ≡ body = ap body_of first.joined ∙ there.1 in
     let later : later_lines left ≡ body ∷ later_lines body =
     ap later_lines first.joined ∙ later_there line body first.without in
-    let test : (is_short (letters_on (first_line left)) && nat_lt 0 (letters_on (body_of left))) ≡ false =
-    (λ i. is_short (letters_on (its i)) && nat_lt 0 (letters_on (after i))) ∙ told in
-    ap (λ (b : Bool). if b
-    then Some (record { line = number; letters = letters_on (first_line left); before = all - letters_on left })
-    else short_line_from all (number + 1) (later_lines left)) test
+    short_line_step all number left false
+    ((λ i. is_short (letters_on (its i)) && nat_lt 0 (letters_on (after i))) ∙ told)
     ∙ ap (short_line_from all (number + 1)) later
 
 both_off : (one : Bool) → (one && false) ≡ false
@@ -67,10 +73,7 @@ pub short_none : (all number : ℕ) (left : List ℕ) → IsWithout 10 left
     → short_line_from all number (left ∷ later_lines left) ≡ None
 short_none all number left without =
     let there = one_line left without in
-    let test : (is_short (letters_on (first_line left)) && nat_lt 0 (letters_on (body_of left))) ≡ false =
-    ap (λ b. is_short (letters_on (first_line left)) && nat_lt 0 (letters_on b)) there.1
-    ∙ both_off (is_short (letters_on (first_line left))) in
-    ap (λ (b : Bool). if b
-    then Some (record { line = number; letters = letters_on (first_line left); before = all - letters_on left })
-    else short_line_from all (number + 1) (later_lines left)) test
+    short_line_step all number left false
+    (ap (λ b. is_short (letters_on (first_line left)) && nat_lt 0 (letters_on b)) there.1
+    ∙ both_off (is_short (letters_on (first_line left))))
     ∙ ap (short_line_from all (number + 1)) (later_none left without)

@@ -16,6 +16,7 @@ use Rattle.kd_state.proofs.OneAnswer.{ThenNext-Ok}
 use Rattle.kd_form.specs.Sending.{space_letter}
 use Rattle.kd_form.proofs.Headings.{BeginsHeading-bytes, at_cut, begins_more, begins_there, first_there, heading_size}
 use Rattle.kd_form.proofs.Headings.{no_cut}
+use Rattle.std.proofs.lemmas.List.{map-append}
 use Rattle.kd_lost.specs.declared.{part.DamagedPart.{DamagedPart}}
 use Rattle.kd_lost.specs.HeadingLine.{after_blanks, after_word, has_digit_line, has_lost_number, has_short_word, is_blank}
 use Rattle.kd_lost.specs.HeadingLine.{is_lost_sign, is_part_line}
@@ -25,6 +26,7 @@ use Rattle.kd_lost.specs.DamagedForm.{AsItStands, IsMeant, IsReadOf, Respaced, c
 use Rattle.kd_lost.specs.DamagedForm.{ends_part, parts_cut, shown_byte}
 use Rattle.kd_lost.specs.DamagedPart.{IsDamagedHeading, IsDamagedTextAnswer, first_line}
 use Rattle.kd_lost.specs.Tidy.{from_heading, without_mark}
+use Rattle.kd_lost.proofs.CompletedParts.{chosen_cases}
 use Rattle.kd_lost.proofs.Parts.{lines_there}
 use Rattle.kd_lost.specs.DamagedForm.{letters_in, shown_letters}
 use Rattle.kd_lost.specs.Laws.{FormsReadAreShownWhole, FormsReadAreTidy, FormsReadHaveTheirParts, IsReadWell}
@@ -157,27 +159,17 @@ AreKept bytes = All (λ byte. IsFalse (is_lost byte)) bytes
 kept_rest : (byte : ℕ) (bytes : List ℕ) → AreKept (byte ∷ bytes) → AreKept bytes
 kept_rest byte bytes kept = All-tail (λ b. IsFalse (is_lost b)) byte bytes kept
 
-kept_after_from : (blank : Bool) (byte : ℕ) (bytes rest : List ℕ) → AreKept (byte ∷ bytes) → AreKept rest
-    → AreKept (if blank then rest else byte ∷ bytes)
-kept_after_from true byte bytes rest kept more = more
-kept_after_from false byte bytes rest kept more = kept
-
 kept_after_blanks : (bytes : List ℕ) → AreKept bytes → AreKept (after_blanks bytes)
 kept_after_blanks [] kept = kept
 kept_after_blanks (byte ∷ bytes) kept =
-    kept_after_from (is_blank byte) byte bytes (after_blanks bytes) kept
+    chosen_cases AreKept (byte ∷ bytes) (after_blanks bytes) (is_blank byte) kept
     (kept_after_blanks bytes (kept_rest byte bytes kept))
-
-kept_word_from : (ends : Bool) (byte : ℕ) (bytes rest : List ℕ) → AreKept (byte ∷ bytes) → AreKept rest
-    → AreKept (if ends then byte ∷ bytes else rest)
-kept_word_from true byte bytes rest kept more = kept
-kept_word_from false byte bytes rest kept more = more
 
 kept_after_word : (bytes : List ℕ) → AreKept bytes → AreKept (after_word bytes)
 kept_after_word [] kept = kept
 kept_after_word (byte ∷ bytes) kept =
-    kept_word_from (is_blank byte || byte == 10) byte bytes (after_word bytes) kept
-    (kept_after_word bytes (kept_rest byte bytes kept))
+    chosen_cases AreKept (after_word bytes) (byte ∷ bytes) (is_blank byte || byte == 10)
+    (kept_after_word bytes (kept_rest byte bytes kept)) kept
 
 kept_first : (bytes : List ℕ) → AreKept bytes → is_lost_sign (slice_get bytes 0) ≡ false
 kept_first [] kept = refl
@@ -318,16 +310,13 @@ same_parts s form text is =
 
 -- -------- the texts
 
-shown_known : (s : Day) (letters : List ℕ) → map (shown_byte (space_letter s)) (map Some letters) ≡ plaintext_bytes s letters
+pub shown_known : (s : Day) (letters : List ℕ)
+    → map (shown_byte (space_letter s)) (map Some letters) ≡ plaintext_bytes s letters
 shown_known s [] = refl
 shown_known s (letter ∷ letters) = ap (λ l. shown_byte (space_letter s) (Some letter) ∷ l) (shown_known s letters)
 
-known_joined : (one other : List ℕ) → map Some (one ++ other) ≡ map Some one ++ map Some other
-known_joined [] other = refl
-known_joined (letter ∷ one) other = ap (λ l. Some letter ∷ l) (known_joined one other)
-
 -- a part that `receive` reads is read as it stands
-as_it_stands : (s : Day) (p : PartStart) (part : List ℕ) (read : ReadPart) (one : DamagedPart)
+pub as_it_stands : (s : Day) (p : PartStart) (part : List ℕ) (read : ReadPart) (one : DamagedPart)
     → IsPartAnswer s p part (Ok read) → (is : IsReadOf s part one) → is.meant ≡ part
 as_it_stands s p part read one is of =
     let w = whole_part s p part read is in
@@ -354,7 +343,7 @@ module _ (s : Day) where
       let others = parts_shown (next_part_start p read.parts part) parts more reads rest are.1 in (
         All-cons IsReadWell one reads (shown, told, whole.group, whole.copies) others.0,
         ap (λ t. letters_in t ++ shown_letters reads) told ∙ ap (λ l. l ++ shown_letters reads) whole.letters
-            ∙ ap (λ l. map Some read.letters ++ l) others.1 ∙ sym (known_joined read.letters more)
+            ∙ ap (λ l. map Some read.letters ++ l) others.1 ∙ sym (map-append Some read.letters more)
             ∙ ap (map Some) (sym joined),
       )
 

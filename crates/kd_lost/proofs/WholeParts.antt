@@ -2,15 +2,15 @@
 use Rattle.std.proofs.Common.{All, append_assoc, ◌≡◌, ◌≢◌, ◌∙◌, ℕ, ◌+◌, ◌-◌, ◌<◌, ◌≤◌, ◌^◌, List, [], ◌∷◌, ◌++◌, length}
 use Rattle.std.proofs.Common.{map, drop, take, refl, sym, ap, subst, arith, Option, Some, None, inl, inr, IsTrue}
 use Rattle.std.proofs.Common.{IsFalse}
-use Rattle.std.proofs.Common.{Result, Ok, Err, codes, decimal, option_map, Any, get_or, ◌↔◌}
+use Rattle.std.proofs.Common.{Result, Ok, Err, codes, decimal, Any, get_or, ◌↔◌}
 use Rattle.std.proofs.lemmas.Bool.{Decides.nat_tests, cases_Bool}
 use Rattle.std.proofs.lemmas.List.{drop-drop, drop-take, get_or-take, length-take-le, take-take}
-use Rattle.std.proofs.lemmas.List.Elements.{All-append, All-cons, All-from_get_or, All-head, All-map, All-nil, All-tail}
+use Rattle.std.proofs.lemmas.List.Elements.{All-append, All-cons, All-from_get_or, All-map, All-nil}
 use Rattle.std.proofs.lemmas.List.Elements.{All-weaker}
 use Rattle.std.proofs.lemmas.Fmt.{digits_decimal}
-use Rattle.std.specs.List.{cons_option, slice_range}
+use Rattle.std.specs.List.{slice_range}
 use Rattle.kd_tables.specs.Text.{is_text_byte, letters_text}
-use Rattle.kd_tables.specs.LineWords.{IsFirstPart, line_of}
+use Rattle.kd_tables.specs.LineWords.{IsWithout, IsFirstPart, line_of}
 use Rattle.kd_state.specs.SheetDay.{AreADaysGroup, Day, Rotor, Pin}
 use Rattle.kd_state.specs.EngineKey.{IsWindow}
 use Rattle.kd_state.specs.OwnKeys.{sheet_key}
@@ -23,17 +23,18 @@ use Rattle.kd_form.specs.FormParts.{HasFirstLine, IsHeading, IsLineText, WithRet
 use Rattle.kd_form.specs.InternalKey.{IsInternalKey}
 use Rattle.kd_form.specs.Part.{fraction_text, heading_words, indicator_words}
 use Rattle.kd_form.specs.PartMaking.{enciphered_choice, list_letters}
-use Rattle.kd_form.specs.PartReading.{HasDueNumbers, IsPartAnswer, PartStart, ReadPart}
-use Rattle.kd_form.specs.Sending.{IsBytesAnswer, letter_of_byte, letters_from}
+use Rattle.kd_form.specs.PartReading.{HasDueNumbers, IsExpectedCount, IsPartAnswer, PartStart, ReadPart}
+use Rattle.kd_form.specs.Sending.{IsBytesAnswer, letters_from}
 use Rattle.kd_form.proofs.Headings.{at_most, ended_heading, one_heading}
 use Rattle.kd_form.proofs.MadeParts.{enciphered_length}
 use Rattle.kd_lost.specs.declared.damage.PartDamage.{PartDamage}
 use Rattle.kd_lost.specs.declared.damaged_text.DamagedText.{DamagedText}
 use Rattle.kd_lost.specs.declared.part.PartNumbers.{PartNumbers}
-use Rattle.kd_lost.specs.Lost.{Completes, meant_byte, covered, is_lost, received_letter, received_letters}
+use Rattle.kd_lost.specs.Lost.{Completes, covered, is_lost, received_letters}
 use Rattle.kd_lost.specs.Copies.{IsKeysAnswer}
 use Rattle.kd_lost.specs.DamagedText.{GroupLost, GroupRight, GroupWrong, IsDamagedLettersAnswer, IsListTest}
-use Rattle.kd_lost.specs.DamagedText.{IsGroupTest, ListLost, ListRight, ListWrong, text_part}
+use Rattle.kd_lost.specs.DamagedText.{IsGroupTest, IsTextShown, ListLost, ListRight, ListWrong, text_part}
+use Rattle.kd_lost.specs.WholePart.{IsLettersText}
 use Rattle.kd_lost.specs.DamagedPart.{AreNumbersRead, IsDamagedHeading, IsHeadedPartAnswer}
 use Rattle.kd_lost.specs.DamagedPart.{IsDamagedLinesAnswer, body_of, filled_byte, first_line, is_body_byte}
 use Rattle.kd_lost.specs.Laws.{AreWholeCopies, IsShownWhole, PartsReadAreShownWhole, PartsReadHaveNumbers}
@@ -130,6 +131,7 @@ pub record IsWholePart (s : Day) (p : PartStart) (part : List ℕ) (read : ReadP
   pub text : IsLettersAnswer s p.number h.indicator (letters_from None body) (Ok read.letters)
   pub numbered : h.part ≡ p.number
   pub parts : read.parts ≡ h.parts
+  pub expected : IsExpectedCount p.expected read.parts
 
 least_letters : (s : Day) (h : Heading) → IsHeading s h → 0 < h.letters
 least_letters (Rotor s) h is = omega (arith, is.letters)
@@ -158,6 +160,7 @@ whole_lines s p part read h body is (inl (line, first, text)) due allowed counte
       text = letters;
       numbered = due.numbered;
       parts = parts;
+      expected = subst (IsExpectedCount p.expected) (sym parts) due.as_expected;
     }
 whole_lines s p part read h body is (inr (without, same, none)) due allowed counted letters parts =
     absurd (omega (arith, least_letters s h is, counted, ap (λ b. length (letters_from None b)) none))
@@ -187,12 +190,11 @@ whole_part s p part read is =
     (ap (λ r. r.parts) told)
 
 -- two headings in one line are equal
-same_heading : (s : Day) (part line body : List ℕ) (h other : Heading) → IsFirstPart 10 part line body
-    → All (λ byte. IsFalse (is_lost byte)) line → map filled_byte line ≡ line → IsDamagedHeading s line h
-    → IsDamagedHeading s line other → other ≡ h
-same_heading s part line body h other first kept filled a b =
+pub same_heading : (s : Day) (line body : List ℕ) (h other : Heading) → IsWithout 10 line → map filled_byte line ≡ line
+    → IsDamagedHeading s line h → IsDamagedHeading s line other → other ≡ h
+same_heading s line body h other without filled a b =
     let is = λ (g : Heading) (d : IsDamagedHeading s line g).
-    ended_heading s line body g first.without d.is_heading (subst (λ l. IsLineText l (line_of
+    ended_heading s line body g without d.is_heading (subst (λ l. IsLineText l (line_of
     (heading_words g))) filled d.text) in
     (one_heading s (line ++ 10 ∷ body) other h body body (is other b) (is h a)).0
 
@@ -209,6 +211,24 @@ right_group s letters test due (GroupLost some lost) =
     let known = ap (take 3) (drop_known 2 letters) ∙ take_known 3 (drop 2 letters) in
     absurd (not_any_lost (group_of_body letters) (subst (Any (λ got. got ≡ None)) known some))
 
+-- the letters that are shown for a body in which no letter is lost
+pub known_shown : (s : Day) (i : Option Indicator) (letters text : List ℕ) (shown : DamagedText)
+    → IsTextShown s i (map Some letters) shown → IsLettersText s i letters text → shown.letters.items ≡ map Some text
+known_shown s (Some i) letters text shown given is =
+    let size : length (drop 5 letters) ≡ length text =
+    sym (ap length is ∙ enciphered_length s (deciphered_key s i) (drop 5 letters)) in
+    given.each letters text (known_completes letters) is ∙ ap (λ r. covered r text) (drop_known 5 letters)
+    ∙ covered_none (drop 5 letters) text size
+known_shown s None letters text shown given is =
+    let n = length letters in
+    let middle : text_part None (map Some letters) ≡ map Some (text_of_body letters) =
+    ap (λ m. slice_range (map Some letters) 10 (m - 10)) (known_length letters)
+    ∙ ap (take (n - 10 - 10)) (drop_known 10 letters) ∙ take_known (n - 10 - 10) (drop 10 letters) in
+    let same : length (text_of_body letters) ≡ length text =
+    sym (ap length is.is ∙ enciphered_length s is.internal (text_of_body letters)) in
+    given.each letters text (known_completes letters) is ∙ ap (λ r. covered r text) middle
+    ∙ covered_none (text_of_body letters) text same
+
 known_rotor : (s : Day) (number : ℕ) (i : Indicator) (letters text : List ℕ) (answer : Result DamagedText PartDamage)
     → IsLettersAnswer s number (Some i) letters (Ok text)
     → IsDamagedLettersAnswer s (Some i) (map Some letters) answer
@@ -216,15 +236,11 @@ known_rotor : (s : Day) (number : ℕ) (i : Indicator) (letters text : List ℕ)
 known_rotor s number i letters text answer read told =
     let (shown, is, given) = always answer told in
     let two = ThenNext-Ok read in
-    let made = Yields-Ok two.next in
-    let size : length (drop 5 letters) ≡ length text =
-    sym (ap length made ∙ enciphered_length s (deciphered_key s i) (drop 5 letters)) in (
+    let made = Yields-Ok two.next in (
       shown,
       is,
       record {
-        letters =
-            given.each letters text (known_completes letters) made
-            ∙ ap (λ r. covered r text) (drop_known 5 letters) ∙ covered_none (drop 5 letters) text size;
+        letters = known_shown s (Some i) letters text shown given made;
         group = right_group s letters shown.group two.says given.warnings.0;
         copies = subst AreWholeCopies (sym given.warnings.1) tt;
       },
@@ -277,11 +293,6 @@ known_pin s number letters text answer some read told =
     let lost = given.warnings.1 in
     let copied = given.warnings.2 in
     let told_lost = given.warnings.3 in
-    let middle : text_part None received ≡ map Some (text_of_body letters) =
-    ap (λ m. slice_range received 10 (m - 10)) size ∙ ap (take (n - 10 - 10)) (drop_known 10 letters)
-    ∙ take_known (n - 10 - 10) (drop 10 letters) in
-    let same : length (text_of_body letters) ≡ length text =
-    sym (ap length made ∙ enciphered_length s four.found (text_of_body letters)) in
     let first_list : slice_range received 8 10 ≡ map Some (list_of_body letters) =
     ap (take 2) (drop_known 8 letters) ∙ take_known 2 (drop 8 letters) in
     let place : n - 10 + 8 ≡ n - 2 = omega (arith, some) in
@@ -298,15 +309,13 @@ known_pin s number letters text answer some read told =
       shown,
       is,
       record {
-        letters =
-            given.each letters text (known_completes letters) (record {
-              around = record { again = sym again; twice = around.twice };
-              on_wheels = two.says;
-              internal = four.found;
-              is_key = four.says;
-              is = made;
-            })
-            ∙ ap (λ r. covered r text) middle ∙ covered_none (text_of_body letters) text same;
+        letters = known_shown s None letters text shown given (record {
+          around = record { again = sym again; twice = around.twice };
+          on_wheels = two.says;
+          internal = four.found;
+          is_key = four.says;
+          is = made;
+        });
         group = right_list (list_letters s) (list_of_body letters) shown.group three.says lists;
         copies = subst AreWholeCopies (sym copied) (
           lost_is_false lost.at_start (take 10 letters)
@@ -332,7 +341,7 @@ lines_shown : (s : Day) (p : PartStart) (part : List ℕ) (read : ReadPart) (ans
 lines_shown s p part read answer w told =
     let letters = letters_from None w.body in
     let (h, headed, next) = found (λ damage failed. failed.0 w.h w.headed) told in
-    let same = same_heading s part w.line w.body w.h h w.first w.kept w.filled w.headed headed in
+    let same = same_heading s w.line w.body w.h h w.first.without w.filled w.headed headed in
     let rest = subst (λ g. IsHeadedPartAnswer s g w.line w.body answer) same next in
     let all = received_all w.body (firm_text w.body w.allowed) in
     let bytes = All-weaker (λ b. IsTrue (is_text_byte b)) (λ b. IsTrue (is_body_byte b)) (λ b. firm_allowed b) w.body
@@ -360,7 +369,7 @@ numbers_found : (s : Day) (p : PartStart) (part : List ℕ) (read : ReadPart) (f
     → (numbers : PartNumbers) × (found ≡ Some numbers) × (numbers.part ≡ p.number) × (numbers.parts ≡ read.parts)
 numbers_found s p part read None w none = absurd (none w.h w.headed)
 numbers_found s p part read (Some numbers) w (h, headed, is) =
-    let same = same_heading s part w.line w.body w.h h w.first w.kept w.filled w.headed headed in (
+    let same = same_heading s w.line w.body w.h h w.first.without w.filled w.headed headed in (
       numbers,
       refl,
       ap (λ n. n.part) is ∙ ap (λ (g : Heading). g.part) same ∙ w.numbered,

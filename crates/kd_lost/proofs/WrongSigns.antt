@@ -10,6 +10,7 @@ use Rattle.kd_lost.specs.Lost.{received_letter, received_letters}
 use Rattle.kd_lost.specs.DamagedPart.{is_body_byte}
 use Rattle.kd_lost.specs.WrongSign.{IsReadTo}
 use Rattle.kd_lost.proofs.Bytes.{letters_counted}
+use Rattle.kd_lost.proofs.Parts.{break_or_not}
 
 count_push : {X : Type 0} (p : X → Bool) (xs : List X) (x : X)
     → count_by p (xs ++ x ∷ []) ≡ count_by p xs + cond (p x) 1 0
@@ -27,9 +28,6 @@ one_more : (some : Bool) (n letter : ℕ) → letter ≡ n + 1
     → (if some then letter + 1 else letter) ≡ (n + cond some 1 0) + 1
 one_more true n letter is = omega (arith, is)
 one_more false n letter is = omega (arith, is)
-
-break_or_not : (byte : ℕ) → (byte ≡ 10) ⊎ (byte ≢ 10)
-break_or_not byte = grind (arith, nat_tests)
 
 lines_after : (front : List ℕ) (byte number : ℕ) → number ≡ count_by (λ byte. byte == 10) front + 2
     → (if byte == 10 then number + 1 else number) ≡ count_by (λ byte. byte == 10) (front ++ byte ∷ []) + 2

@@ -42,7 +42,7 @@ fn explains(counted: usize, came: usize, short: ShortLine) -> bool
 }
 
 /// The letter count in the heading; 0 if the heading is damaged.
-fn heading_count(numbers: &Option<PartNumbers>) -> usize
+pub fn heading_count(numbers: &Option<PartNumbers>) -> usize
     ensures { result ≡ heading_count numbers.now }
 {
     match numbers {

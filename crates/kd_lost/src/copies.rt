@@ -3,7 +3,7 @@ ghost use Rattle.std.specs.Prelude.{◌≡◌, ◌≤◌, ◌+◌, ◌++◌, ℕ
 ghost use Rattle.std.specs.Prelude.{◌↔◌, MatchOption, MatchResult, IsTrue};
 ghost use Rattle.std.specs.Bool.{OnTrue, OnFalse};
 ghost use Rattle.kd_lost.specs.Lost.{IsLetterFor};
-ghost use Rattle.kd_lost.specs.Copies.{IsKeyLetterAnswer, AreKeyLettersAnswer, IsKeysAnswer};
+ghost use Rattle.kd_lost.specs.Copies.{IsKeyLetterAnswer, AreKeyLettersAnswer, IsKeysAnswer, chosen_copies};
 
 use crate::damage::PartDamage;
 use arrayvec::ArrayVec;
@@ -20,13 +20,22 @@ pub(crate) fn keys_of_copies(
     requires end { length end.now ≡ 8 }
     ensures { IsKeysAnswer start.now end.now result }
 {
-    let chosen = key_letter(0, &[start[0], start[1], end[0], end[1]])?;
+    let chosen = key_letter(0, &chosen_copies(start, end))?;
     let mut external = ArrayVec::new();
     push_key_letters(&mut external, 1, &start[2..], &end[2..])?;
     Ok(PinKeys {
         chosen,
         external: six_letters(external.as_slice()),
     })
+}
+
+/// The four copies of the chosen letter: the first two letters of `start`, and the first two letters of `end`.
+fn chosen_copies(start: &[Option<Letter>], end: &[Option<Letter>]) -> [Option<Letter>; 4]
+    requires start { length start.now ≡ 8 }
+    requires end { length end.now ≡ 8 }
+    ensures { result ≡ chosen_copies start.now end.now }
+{
+    [start[0], start[1], end[0], end[1]]
 }
 
 /// Six letters as an array.

@@ -26,7 +26,7 @@ mod tidy;
 mod warnings;
 mod wrong_sign;
 
-pub use by_count::part_line;
+pub use by_count::{heading_count, part_line};
 pub use damage::PartDamage;
 pub use damaged_text::{DamagedText, GroupTest, LostCopies, PinTextKeys, TextKeys};
 pub use form::{DamagedFormFault, read_damaged_form};

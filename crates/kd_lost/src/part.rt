@@ -103,35 +103,26 @@ pub fn read_damaged_part(day: &SheetDay, part: &[u8]) -> DamagedPart
     ensures is_order { result.is_order ≡ is_order part.now }
     ensures line { result.line ≡ 1 }
 {
-    let mut read = read_split_part(day, part);
+    let (line, body) = line_and_body(part);
+    let mut read = read_lines(day, line, body);
     read.as_spelled = is_spelled(part);
     read.is_order = is_order(part);
     read
 }
 
-/// Reads a part, but doesn't yet set the fields `as_spelled` and `is_order`.
-fn read_split_part(day: &SheetDay, part: &[u8]) -> DamagedPart
-    ensures numbers { AreNumbersRead day.now (first_line part.now) result.numbers }
-    ensures heading { result.heading.bytes ≡ heading_signs (first_line part.now) }
-    ensures came { result.came ≡ length (received_letters (body_of part.now)) }
-    ensures body { result.body.items ≡ body_letters (body_of part.now) }
-    ensures group { IsPartTest day.now result.numbers result.body.items result.group }
-    ensures text { IsDamagedTextAnswer day.now part.now result.text }
-    ensures shown { IfOk result.text (IsPartShown day.now part.now) }
-    ensures wrong_sign { IsFirstWrongSign (body_of part.now) result.wrong_sign }
-    ensures by_count { result.by_count ≡ None }
-    ensures short_line { result.short_line ≡ short_line (body_of part.now) }
-    ensures short_group { IsFirstShortGroup (body_of part.now) result.short_group }
-    ensures as_it_stands { result.respaced ≡ false }
-    ensures line { result.line ≡ 1 }
+/// The first line of `part`, without its LF, and the bytes after this LF.
+fn line_and_body(part: &[u8]) -> (&[u8], &[u8])
+    ensures unbroken { IsWithout 10 result.0.now }
+    ensures line { result.0.now ≡ first_line part.now }
+    ensures body { result.1.now ≡ body_of part.now }
 {
     match split_once(part, b'\n') {
-        Some((line, body)) => read_lines(day, line, body),
-        None => read_lines(day, part, &[]),
+        Some(lines) => lines,
+        None => (part, &[]),
     }
 }
 
-/// Reads the part that consists of `line` and `body`.
+/// Reads the part that consists of `line` and `body`, but doesn't yet set the fields `as_spelled` and `is_order`.
 fn read_lines(day: &SheetDay, line: &[u8], body: &[u8]) -> DamagedPart
     requires { IsWithout 10 line.now }
     ensures numbers { AreNumbersRead day.now line.now result.numbers }
@@ -147,46 +138,28 @@ fn read_lines(day: &SheetDay, line: &[u8], body: &[u8]) -> DamagedPart
     ensures as_it_stands { result.respaced ≡ false }
     ensures line { result.line ≡ 1 }
 {
-    let came_heading = heading_signs(line);
-    let came = letter_count(body);
-    let letters = body_letters(body);
-    let wrong_sign = first_wrong_sign(body);
-    let short_line = first_short_line(body);
-    let short_group = first_short_group(body);
-    let Some(heading) = heading_of_ended_line(day, filled_line(line).as_slice()) else {
-        return DamagedPart {
-            numbers: None,
-            heading: came_heading,
-            came,
-            body: letters,
-            group: GroupTest::NotTested,
-            text: Err(PartDamage::HeadingDamaged),
-            wrong_sign,
-            by_count: None,
-            short_line,
-            short_group,
-            respaced: false,
-            as_spelled: true,
-            is_order: false,
-            line: 1,
-        };
-    };
-    DamagedPart {
-        numbers: Some(numbers_of(&heading)),
-        heading: came_heading,
-        came,
-        group: test_body(day, heading.letters, letters.as_slice()),
-        body: letters,
-        text: read_body_after(day, &heading, line, body),
-        wrong_sign,
+    let mut read = DamagedPart {
+        numbers: None,
+        heading: heading_signs(line),
+        came: letter_count(body),
+        group: GroupTest::NotTested,
+        body: body_letters(body),
+        text: Err(PartDamage::HeadingDamaged),
+        wrong_sign: first_wrong_sign(body),
         by_count: None,
-        short_line,
-        short_group,
+        short_line: first_short_line(body),
+        short_group: first_short_group(body),
         respaced: false,
         as_spelled: true,
         is_order: false,
         line: 1,
+    };
+    if let Some(heading) = heading_of_ended_line(day, filled_line(line).as_slice()) {
+        read.numbers = Some(numbers_of(&heading));
+        read.group = test_body(day, heading.letters, read.body.as_slice());
+        read.text = read_body_after(day, &heading, line, body);
     }
+    read
 }
 
 /// The numbers in `heading`.

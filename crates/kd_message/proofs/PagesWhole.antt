@@ -22,6 +22,7 @@ use Rattle.kd_lost.specs.DamagedPart.{AreNumbersRead, IsDamagedHeading, IsDamage
 use Rattle.kd_language.specs.declared.language.Language.{Language}
 use Rattle.kd_part_sheet.specs.declared.part_sheet.PartName.{PartName}
 use Rattle.kd_pictures.specs.declared.results.Results.TheVariants.{Shown}
+use Rattle.kd_lost.proofs.WholeForms.{shown_known}
 use Rattle.kd_message.specs.declared.receiving.Section.TheVariants as sections
 use Rattle.kd_message.specs.Laws.{HasLettersOf, IsOn, NothingReadIsHidden, RepetitionsHaveTheLetters, WholeMessagesAreOnThePage}
 use Rattle.kd_message.specs.Laws.{WholeMessagesHaveOneTotal, clear_text, letters_of_part}
@@ -546,10 +547,6 @@ nothing_hidden l s form parts read part shown there is =
     first last
 
 -- -------- a whole message
-
-pub shown_known : (s : Day) (letters : List ℕ) → map (shown_byte (space_letter s)) (map Some letters) ≡ plaintext_bytes s letters
-shown_known s [] = refl
-shown_known s (letter ∷ letters) = ap (λ l. shown_byte (space_letter s) (Some letter) ∷ l) (shown_known s letters)
 
 known_letters : (items : List (Option ℕ)) → All (λ got. got ≢ None) items → (letters : List ℕ) × (items ≡ map Some letters)
 known_letters [] all = ([], refl)

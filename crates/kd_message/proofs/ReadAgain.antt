@@ -1,27 +1,25 @@
 -- A whole message in which nothing was lost is one that `desk receive` reads, if its parts stand in order.
 use Rattle.std.proofs.Common.{◌≡◌, ◌≢◌, ◌∙◌, ◌⊎◌, inl, inr, ℕ, zero, suc, ◌+◌, ◌-◌, ◌≤◌, true, List, []}
 use Rattle.std.proofs.Common.{◌∷◌, ◌++◌, All, Any, IsTrue, IsFalse, arith, refl, sym, ap, subst, map, drop, take, length, flat_map, get_or}
-use Rattle.std.proofs.Common.{Option, Some, None, Ok, option_map}
+use Rattle.std.proofs.Common.{Option, Some, None, Ok}
 use Rattle.std.proofs.lemmas.Bool.{Decides.nat_tests, and_parts, cases_eq, false≢true}
-use Rattle.std.proofs.lemmas.List.{drop-drop, drop-take, take-append-drop, take-take}
+use Rattle.std.proofs.lemmas.List.{drop-drop, drop-take, map-append, take-append-drop, take-take}
 use Rattle.std.proofs.lemmas.List.Elements.{All-contains_itself, All-cons, All-head, All-nil, All-tail, All-weaker}
-use Rattle.std.specs.List.{Contains, cons_option, range_with_len, slice_range}
+use Rattle.std.specs.List.{Contains, range_with_len, slice_range}
 use Rattle.std.specs.Prelude.{IfOk}
 use Rattle.kd_tables.specs.Text.{is_text_byte}
 use Rattle.kd_state.specs.AnswerRules.{GoesOn}
-use Rattle.kd_tables.specs.LineWords.{IsFirstPart, IsWithout, line_of}
+use Rattle.kd_tables.specs.LineWords.{IsFirstPart, line_of}
 use Rattle.kd_state.specs.SheetDay.{AreADaysGroup, Day}
 use Rattle.kd_state.proofs.OneAnswer.{ThenNext-Ok}
 use Rattle.kd_form.specs.declared.heading.{Heading.{Heading}, Indicator.{Indicator}}
-use Rattle.kd_form.specs.BodyCipher.{IsLettersAnswer, deciphered_key, group_of_body, list_of_body, text_of_body}
+use Rattle.kd_form.specs.BodyCipher.{IsLettersAnswer, group_of_body, list_of_body}
 use Rattle.kd_form.specs.FormParts.{HasFirstLine, IsHeading, IsLineText}
 use Rattle.kd_form.specs.FormText.{IsAnswerAt, ReadsPartsTo, first_part_start, next_part_start}
 use Rattle.kd_form.specs.Part.{heading_words}
 use Rattle.kd_form.specs.PartMaking.{list_letters}
 use Rattle.kd_form.specs.PartReading.{IsExpectedCount, IsPartAnswer, PartContent, PartStart, ReadPart}
-use Rattle.kd_form.specs.Sending.{IsBytesAnswer, letter_of_byte, letters_from, space_letter}
-use Rattle.kd_form.proofs.Headings.{ended_heading, one_heading}
-use Rattle.kd_form.proofs.MadeParts.{enciphered_length}
+use Rattle.kd_form.specs.Sending.{IsBytesAnswer, letters_from, space_letter}
 use Rattle.kd_lost.specs.declared.damaged_text.DamagedText.{DamagedText}
 use Rattle.kd_lost.specs.declared.damaged_text.GroupTest.{GroupTest}
 use Rattle.kd_lost.specs.declared.damaged_text.GroupTest.TheVariants.{Wrong}
@@ -30,23 +28,25 @@ use Rattle.kd_lost.specs.DamagedForm.{IsReadOf, form_parts, letters_in, shown_by
 use Rattle.kd_lost.proofs.Counting.{numbers_given}
 use Rattle.kd_lost.proofs.Forms.{AreAllReadOf, all_read as all_read_of}
 use Rattle.kd_lost.specs.DamagedPart.{AreNumbersRead, IsDamagedHeading, IsDamagedTextAnswer, IsPartShown, body_of}
-use Rattle.kd_lost.specs.DamagedPart.{filled_byte, first_line, numbers_of}
+use Rattle.kd_lost.specs.DamagedPart.{first_line, numbers_of}
 use Rattle.kd_lost.specs.DamagedText.{AreWarnings, GroupLost, GroupRight, GroupWrong, IsGroupTest, IsListTest, IsTextShown}
-use Rattle.kd_lost.specs.DamagedText.{ListLost, ListRight, ListWrong, text_part}
-use Rattle.kd_lost.specs.Lost.{AnyLetter, AsReceived, Completes, IsCompletion, covered, is_lost, meant_byte, received_letter}
+use Rattle.kd_lost.specs.DamagedText.{ListLost, ListRight, ListWrong}
+use Rattle.kd_lost.specs.Lost.{AnyLetter, AsReceived, Completes, IsCompletion, is_lost}
 use Rattle.kd_lost.specs.Lost.{received_letters}
 use Rattle.kd_lost.specs.WholePart.{IsLettersText, IsPartText, IsPinText}
 use Rattle.kd_lost.proofs.FirmBytes.{IsFirm, firm_filled, received_all}
-use Rattle.kd_lost.proofs.KnownLetters.{covered_none, drop_known, known_completes, known_length, none_lost_in_both}
+use Rattle.kd_lost.proofs.KnownLetters.{drop_known, known_length, none_lost_in_both}
 use Rattle.kd_lost.proofs.KnownLetters.{not_any_lost, same_known, take_known}
 use Rattle.kd_lost.proofs.Parts.{lines_there}
 use Rattle.kd_lost.proofs.PartShown.{least_count, shown_there}
+use Rattle.kd_lost.proofs.WholeForms.{shown_known}
+use Rattle.kd_lost.proofs.WholeParts.{known_shown, same_heading}
 use Rattle.kd_message.specs.Laws.{IsClear, WholeMessagesAreRead, letters_of_part}
 use Rattle.kd_lost.specs.OneMessage.{are_of_one_message}
 use Rattle.kd_lost.specs.ShownParts.{IsNumberWhole, IsWhole, MayBeOfTheDay, are_covered, is_number, shown_under, total_of}
 use Rattle.kd_lost.specs.Texts.{is_wrong_day, test_or, text_or}
 use Rattle.kd_lost.proofs.CompletedParts.{read_as_it_stands}
-use Rattle.kd_message.proofs.PagesWhole.{at_range, shown_known, shown_numbered, total_is, whole_under}
+use Rattle.kd_message.proofs.PagesWhole.{at_range, shown_numbered, total_is, whole_under}
 use Rattle.kd_message.proofs.ReceivePages.{shown_holds}
 use Rattle.kd_lost.proofs.ShownParts.{range_first}
 
@@ -75,16 +75,6 @@ clear_front (byte ∷ line) rest clear =
 clear_back : (line rest : List ℕ) → IsClear (line ++ rest) → IsClear rest
 clear_back [] rest clear = clear
 clear_back (byte ∷ line) rest clear = clear_back line rest (All-tail IsFirm byte (line ++ rest) clear)
-
--- two headings in one line are equal
-same_heading : (s : Day) (line body : List ℕ) (h other : Heading) → IsWithout 10 line → IsClear line → IsHeading s h
-    → IsLineText line (line_of (heading_words h)) → IsDamagedHeading s line other → other ≡ h
-same_heading s line body h other without clear is text headed =
-    let filled = firm_filled line clear in
-    (one_heading s (line ++ 10 ∷ body) other h body body
-    (ended_heading s line body other without headed.is_heading
-    (subst (λ l. IsLineText l (line_of (heading_words other))) filled headed.text))
-    (ended_heading s line body h without is text)).0
 
 all_bytes : (position : ℕ) (body : List ℕ) → All (λ byte. IsTrue (is_text_byte byte)) body
     → IsBytesAnswer position body (Ok tt)
@@ -149,26 +139,14 @@ letters_read : (s : Day) (number : ℕ) (i : Option Indicator) (letters text : L
     → (i ≡ None → 20 ≤ length letters) → IsLettersText s i letters text → IsTextShown s i (map Some letters) shown
     → shown.group ≢ Wrong
     → IsLettersAnswer s number i letters (Ok text) × (shown.letters.items ≡ map Some text)
-letters_read s number (Some i) letters text shown some is given right =
-    let size : length (drop 5 letters) ≡ length text =
-    sym (ap length is ∙ enciphered_length s (deciphered_key s i) (drop 5 letters)) in (
-      GoesOn tt (a_group s letters shown.group given.warnings.0 right) (ap Ok is),
-      given.each letters text (known_completes letters) is ∙ ap (λ r. covered r text) (drop_known 5 letters)
-          ∙ covered_none (drop 5 letters) text size,
-    )
-letters_read s number None letters text shown some is given right =
-    let n = length letters in
-    let received = map Some letters in
-    let size : length received ≡ n = known_length letters in
-    let middle : text_part None received ≡ map Some (text_of_body letters) =
-    ap (λ m. slice_range received 10 (m - 10)) size ∙ ap (take (n - 10 - 10)) (drop_known 10 letters)
-    ∙ take_known (n - 10 - 10) (drop 10 letters) in
-    let same : length (text_of_body letters) ≡ length text =
-    sym (ap length is.is ∙ enciphered_length s is.internal (text_of_body letters)) in (
-      pin_answer s number letters text shown (some refl) is given.warnings right,
-      given.each letters text (known_completes letters) is ∙ ap (λ r. covered r text) middle
-          ∙ covered_none (text_of_body letters) text same,
-    )
+letters_read s number (Some i) letters text shown some is given right = (
+  GoesOn tt (a_group s letters shown.group given.warnings.0 right) (ap Ok is),
+  known_shown s (Some i) letters text shown given is,
+)
+letters_read s number None letters text shown some is given right = (
+  pin_answer s number letters text shown (some refl) is given.warnings right,
+  known_shown s None letters text shown given is,
+)
 
 -- -------- a part of which no byte is lost
 
@@ -194,13 +172,16 @@ lines_read s p part line body text h numbers shown first is line_text allowed co
     let there = lines_there line body first.without in
     let first_is : first_line part ≡ line = ap first_line first.joined ∙ there.0 in
     let rest_is : body_of part ≡ body = ap body_of first.joined ∙ there.1 in
+    let filled = firm_filled line clear_line in
+    let headed : IsDamagedHeading s line h =
+    record { is_heading = is; text = subst (λ l. IsLineText l (line_of (heading_words h))) (sym filled) line_text } in
     let other_is : other ≡ h =
-    same_heading s line body h other first.without clear_line is line_text
+    same_heading s line body h other first.without filled headed
     (subst (λ l. IsDamagedHeading s l other) first_is other_headed) in
     let numbers_are : numbers ≡ numbers_of h = given ∙ ap numbers_of other_is in
     let one = ThenNext-Ok read in
     let found_is : one.found ≡ h =
-    same_heading s line body h one.found first.without clear_line is line_text
+    same_heading s line body h one.found first.without filled headed
     (subst (λ l. IsDamagedHeading s l one.found) first_is one.says) in
     let two = ThenNext-Ok one.next in
     let three = ThenNext-Ok two.next in
@@ -317,10 +298,6 @@ its_numbers number (Some numbers) is = (numbers, refl, grind (arith, nat_tests, 
 
 -- -------- one part after another
 
-known_joined : (one other : List ℕ) → map Some one ++ map Some other ≡ map Some (one ++ other)
-known_joined [] other = refl
-known_joined (letter ∷ one) other = ap (λ l. Some letter ∷ l) (known_joined one other)
-
 abbrev texts_from : List DamagedPart → ℕ → ℕ → List (Option ℕ)
 texts_from reads from count = flat_map (λ m. letters_of_part (shown_under reads m)) (range_with_len from count)
 
@@ -391,7 +368,7 @@ module _ (s : Day) (bytes : List (List ℕ)) (reads : List DamagedPart) (whole :
             ap (flat_map f) (range_first p.number (suc count) (omega arith))
             ∙ ap (λ n. f p.number ++ texts_from reads (p.number + 1) n) step
             ∙ ap (λ l. l ++ texts_from reads (p.number + 1) count) one.shown
-            ∙ ap (λ l. map Some one.text ++ l) rest.shown ∙ known_joined one.text rest.letters;
+            ∙ ap (λ l. map Some one.text ++ l) rest.shown ∙ sym (map-append Some one.text rest.letters);
       }
 
   more_read : (count : ℕ) (p : PartStart) → 1 ≤ p.number → p.number + count ≡ total_of reads + 1

@@ -1,7 +1,7 @@
 -- The page for receiving a form: its parts, one after another.
 use Rattle.std.proofs.Common.{◌≡◌, ◌∙◌, ℕ, ◌||◌, Bool, true, false, List, [], ◌∷◌, ◌++◌}
 use Rattle.std.proofs.Common.{All, if◌then◌else◌, arith, refl, sym, Option, Some, None, Ok, Err}
-use Rattle.std.proofs.Common.{Result, append_assoc}
+use Rattle.std.proofs.Common.{◌≤◌, Result, append_assoc, length}
 use Rattle.std.proofs.lemmas.List.Elements.{All-cons, All-head, All-nil, All-tail}
 use Rattle.std.specs.Prelude.{IfOk, IfSome}
 use Rattle.std.proofs.Common.{ap, subst}
@@ -15,10 +15,10 @@ use Rattle.kd_lost.specs.declared.damaged_text.TextKeys.{TextKeys}
 use Rattle.kd_lost.specs.declared.part.DamagedPart.{DamagedPart}
 use Rattle.kd_lost.specs.declared.part.PartNumbers.{PartNumbers}
 use Rattle.kd_lost.specs.ByCount.{GivesByCount, IsFoundIn, counted_part, text_of}
-use Rattle.kd_lost.specs.DamagedForm.{AreFormParts, AreReadOf, IsReadAs, PlacedPart}
+use Rattle.kd_lost.specs.DamagedForm.{AreFormParts, AreReadOf, IsReadAs, PlacedPart, damaged_parts_of}
 use Rattle.kd_lost.specs.DamagedPart.{IsDamagedTextAnswer}
 use Rattle.kd_lost.specs.DamagedText.{AreTextKeys}
-use Rattle.kd_lost.proofs.CompletedParts.{read_somehow}
+use Rattle.kd_lost.proofs.CompletedParts.{as_many_parts, read_somehow}
 use Rattle.kd_lost.proofs.PartShown.{shown_there}
 use Rattle.kd_language.specs.declared.language.Language.{Language}
 use Rattle.kd_message.specs.ReceivedWork.{AreShowable}
@@ -115,6 +115,11 @@ pub are_workable_parts : (s : Day) (form : List ℕ) (parts : List DamagedPart) 
     → AreWorkable s parts
 are_workable_parts s form parts is =
     let (bytes, are) = read_somehow s form parts is in are_workable s bytes parts are
+
+-- `desk receive` reads at most 255 parts
+pub few_parts : (s : Day) (form : List ℕ) (parts : List DamagedPart) → AreFormParts s form parts → length parts ≤ 255
+    → length (damaged_parts_of form) ≤ 255
+few_parts s form parts is few = omega (arith, as_many_parts s form parts is, few)
 
 -- ---- The page.
 

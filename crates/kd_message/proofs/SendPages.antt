@@ -1,5 +1,5 @@
 -- The page for sending an order: its parts, one after another.
-use Rattle.std.proofs.Common.{◌≡◌, ℕ, zero, suc, ◌+◌, ◌-◌, ◌<◌, ◌≤◌, Bool, List, [], ◌∷◌, ◌++◌, length, take, drop, flat_map}
+use Rattle.std.proofs.Common.{◌≡◌, ℕ, zero, suc, ◌+◌, ◌-◌, ◌<◌, Bool, List, [], ◌∷◌, ◌++◌, length, take, drop, flat_map}
 use Rattle.std.proofs.Common.{arith, refl, ap, ◌∙◌, Ok, Err, Option, inl, inr}
 use Rattle.std.proofs.lemmas.Grind.{common_steps}
 use Rattle.std.proofs.lemmas.List.{length-take, nil_from_length}
@@ -15,7 +15,7 @@ use Rattle.kd_form.specs.Keys.{AreKeys}
 use Rattle.kd_form.specs.OnTheKey.{IsAnswerOnKey, IsReadyOnKey, OffKey, WithKey}
 use Rattle.kd_form.specs.Order.{IsOrder}
 use Rattle.kd_form.specs.Part.{Part, part_text}
-use Rattle.kd_form.specs.PartMaking.{IsKeysAnswer, IsPartMade, part_size}
+use Rattle.kd_form.specs.PartMaking.{IsPartMade, part_size}
 use Rattle.kd_form.specs.Sending.{ArePartTextsMade, IsFormOf, IsSendFault, text_letters}
 use Rattle.kd_form.proofs.MadeParts.{size_some}
 use Rattle.kd_form.proofs.OneOrder.{all_of_the_day, one_order, orders_have_one_answer}
@@ -27,8 +27,8 @@ use Rattle.kd_part_sheet.specs.Rows.{pieces}
 use Rattle.kd_part_sheet.proofs.Pieces.{pieces-next, pieces-none}
 use Rattle.kd_pictures.specs.declared.results.Results.{Results}
 use Rattle.kd_message.specs.FormSheet.{form_part}
-use Rattle.kd_message.specs.SendPage.{AreKeysOfText, AreMade, AreOrderSheets, AreWorks, IsSendPage, IsSendRefusal, form_parts}
-use Rattle.kd_message.specs.SendPage.{name_in_place, part_sheets, send_sheet, sheets_text, text_pieces}
+use Rattle.kd_message.specs.SendPage.{AreKeysOfText, AreMade, AreOrderSheets, AreWorks, IsNextPart, IsSendPage, IsSendRefusal}
+use Rattle.kd_message.specs.SendPage.{form_parts, name_in_place, part_sheets, send_sheet, sheets_text, text_pieces}
 unfoldable use Rattle.kd_message.specs.SendPage.{send_text}
 use Rattle.kd_message.proofs.Orders.{parts_of_order}
 
@@ -42,15 +42,6 @@ length-first_chunks size (suc count) items = grind (arith, length-first_chunks s
 abbrev pub later_keys : List Keys → List Keys
 later_keys keys = take (length keys - 1) (drop 1 keys)
 
--- what is known of the next part: its keys, its piece of the text, and the keys and the text after it
-pub record HasNextPart (s : Day) (part parts : ℕ) (k : Keys) (keys : List Keys) (text piece later : List ℕ)
-    : Type 0 where
-  pub of_the_day : AreKeys s k
-  pub suits : IsKeysAnswer s part k (Ok tt)
-  pub few : length piece ≤ part_size s
-  pub cut : text_pieces s text ≡ piece ∷ text_pieces s later
-  pub rest : AreKeysOfText s (part + 1) parts keys later
-
 some_letters : (s : Day) (letters : List ℕ) → 0 < length (pieces (part_size s) letters) → 0 < length letters
 some_letters s [] some = absurd (omega (arith, ap length (pieces-none {X = ℕ} (part_size s) (size_some s))))
 some_letters s (letter ∷ letters) some = omega arith
@@ -58,7 +49,7 @@ some_letters s (letter ∷ letters) some = omega arith
 pub next_part : (s : Day) (part parts : ℕ) (all : List Keys) (k : Keys) (keys : List Keys) (text piece later : List ℕ)
     → all ≡ k ∷ keys → piece ≡ take (part_size s) (text_letters s text)
     → text_letters s later ≡ drop (part_size s) (text_letters s text) → AreKeysOfText s part parts all text
-    → HasNextPart s part parts k keys text piece later
+    → IsNextPart s part parts all text k piece keys later
 next_part s part parts all k keys text piece later same is left are =
     let mine = rw same at are.of_the_day in
     let suited = ThenNext-Ok (rw same at are.suited) in
@@ -68,6 +59,7 @@ next_part s part parts all k keys text piece later same is left are =
     pieces-next (part_size s) (text_letters s text) (size_some s) some
     ∙ rw (← is, ← left) refl in
     record {
+      split = same;
       of_the_day = All-head (AreKeys s) k keys mine;
       suits = suited.says;
       few = grind (arith, is, length-take);

@@ -6,24 +6,22 @@ use Rattle.std.proofs.lemmas.Bool.{Decides.nat_tests, cases_Bool}
 use Rattle.std.proofs.lemmas.List.Elements.{All-cons, All-head, All-nil, All-tail}
 use Rattle.std.specs.List.{range_with_len}
 use Rattle.kd_state.specs.SheetDay.{Day}
-use Rattle.kd_state.proofs.OneAnswer.{ThenNext-Ok, Yields-Ok}
 use Rattle.kd_form.specs.FormParts.{parts_of}
 use Rattle.kd_form.specs.FormText.{IsAnswerAt, ReadsPartsTo, first_part_start, next_part_start}
-use Rattle.kd_form.specs.PartReading.{HasDueNumbers, IsExpectedCount, IsPartAnswer, PartStart, ReadPart}
+use Rattle.kd_form.specs.PartReading.{IsExpectedCount, IsPartAnswer, PartStart, ReadPart}
 use Rattle.kd_form.specs.Sending.{space_letter}
 use Rattle.kd_lost.specs.declared.damaged_text.DamagedText.{DamagedText}
 use Rattle.kd_lost.specs.declared.damaged_text.GroupTest.TheVariants.{Right}
 use Rattle.kd_lost.specs.declared.part.{DamagedPart.{DamagedPart}, PartNumbers.{PartNumbers}}
-use Rattle.kd_form.specs.declared.heading.Heading.{Heading}
-use Rattle.kd_lost.specs.DamagedForm.{AsItStands, IsMeant, IsReadOf, Respaced, letters_in}
+use Rattle.kd_lost.specs.DamagedForm.{IsReadOf, letters_in}
 use Rattle.kd_lost.specs.DamagedForm.{shown_byte, shown_letters}
-use Rattle.kd_lost.specs.DamagedPart.{AreNumbersRead, IsDamagedHeading, IsDamagedTextAnswer, first_line}
-use Rattle.kd_lost.proofs.Parts.{lines_there}
+use Rattle.kd_lost.specs.DamagedPart.{AreNumbersRead, IsDamagedTextAnswer, first_line}
 use Rattle.kd_lost.specs.Lost.{is_lost}
 use Rattle.kd_lost.proofs.CompletedParts.{read_as_it_stands}
+use Rattle.kd_lost.proofs.KnownLetters.{none_lost}
 use Rattle.kd_lost.proofs.Forms.{AreAllReadOf, all_read}
 use Rattle.kd_lost.proofs.Counting.{numbers_given}
-use Rattle.kd_lost.proofs.WholeForms.{forms_shown, parts_kept, same_parts}
+use Rattle.kd_lost.proofs.WholeForms.{as_it_stands, forms_shown, parts_kept, same_parts}
 use Rattle.kd_lost.proofs.WholeParts.{numbers_there, shown_whole, whole_part}
 use Rattle.kd_message.specs.Laws.{FormsReadAreWhole, letters_of_part, message_letters}
 use Rattle.kd_lost.specs.OneMessage.{agrees_with_each, are_of_one_message, numbers_agree, headings_agree, may_repeat}
@@ -223,41 +221,9 @@ in_order_one total number parts are =
 
 -- -------- a form that `desk receive` reads
 
-expected_parts : (s : Day) (p : PartStart) (part : List ℕ) (read : ReadPart) → IsPartAnswer s p part (Ok read)
-    → IsExpectedCount p.expected read.parts
-expected_parts s p part read is =
-    let content = ThenNext-Ok is in
-    let one = ThenNext-Ok content.says in
-    let two = ThenNext-Ok one.next in
-    let three = ThenNext-Ok two.next in
-    let same = Yields-Ok three.next in
-    let text = ThenNext-Ok content.next in
-    let told = Yields-Ok text.next in
-    let due = subst (λ c. HasDueNumbers p.number p.expected c.heading) (sym same) two.says in
-    subst (IsExpectedCount p.expected) (sym (ap (λ (r : ReadPart). r.parts) told)) due.as_expected
-
-letters_known : (letters : List ℕ) → All (λ (got : Option ℕ). got ≢ None) (map Some letters)
-letters_known [] = All-nil (λ (got : Option ℕ). got ≢ None)
-letters_known (letter ∷ letters) =
-    All-cons (λ (got : Option ℕ). got ≢ None) (Some letter) (map Some letters) (λ is. absurd (cc)) (letters_known letters)
-
 right_day : (part : DamagedPart) (shown : DamagedText) → part.text ≡ Ok shown → shown.group ≡ Right → MayBeOfTheDay part
 right_day part shown is right =
     ap (λ t. is_wrong_day (test_or part.group (text_or t part.by_count))) is ∙ ap is_wrong_day right
-
-meant_whole : (s : Day) (part meant : List ℕ) (h : Heading) → IsDamagedHeading s (first_line part) h
-    → IsMeant s part meant → meant ≡ part
-meant_whole s part meant h headed (AsItStands other there is) = is
-meant_whole s part meant h headed (Respaced none is) = absurd (none h headed)
-
--- a part that `desk receive` reads is read as it stands
-as_it_stands : (s : Day) (p : PartStart) (part : List ℕ) (read : ReadPart) (one : DamagedPart)
-    → IsPartAnswer s p part (Ok read) → (is : IsReadOf s part one) → is.meant ≡ part
-as_it_stands s p part read one is of =
-    let w = whole_part s p part read is in
-    let first : first_line part ≡ w.line =
-    ap first_line w.first.joined ∙ (lines_there w.line w.body w.first.without).0 in
-    meant_whole s part of.meant w.h (subst (λ l. IsDamagedHeading s l w.h) (sym first) w.headed) of.is_meant
 
 -- the part is shown whole, under its number
 record IsShownAs (one : DamagedPart) (number : ℕ) (read : ReadPart) : Type 0 where
@@ -277,7 +243,7 @@ shown_as s p part read one is of =
     let (numbers, there, numbered, counted) = numbers_there s p part read one.numbers is
     (subst (λ l. AreNumbersRead s (first_line l) one.numbers) stands
     (numbers_given s of.meant one shown told of.as_meant)) in
-    let known = subst (All (λ (got : Option ℕ). got ≢ None)) (sym whole.letters) (letters_known read.letters) in
+    let known = subst (All (λ (got : Option ℕ). got ≢ None)) (sym whole.letters) (none_lost read.letters) in
     record {
       numbers = numbers;
       there = there;
@@ -308,7 +274,8 @@ module _ (s : Day) where
   read_in_order p total (part ∷ parts) letters (one ∷ reads) expected (inl (fault, none)) are =
       let off = fault.2 in absurd (cc)
   read_in_order p total (part ∷ parts) letters (one ∷ reads) expected (inr (read, more, is, rest, joined)) are =
-      let same : total ≡ read.parts = subst (λ e. IsExpectedCount e read.parts) expected (expected_parts s p part read is) in
+      let same : total ≡ read.parts =
+      subst (λ e. IsExpectedCount e read.parts) expected (whole_part s p part read is).expected in
       let its = shown_as s p part read one is are.0 in
       let others = read_in_order (next_part_start p read.parts part) total parts more reads (ap Some (sym same)) rest are.1 in
       record {

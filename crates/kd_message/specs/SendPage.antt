@@ -1,6 +1,6 @@
 -- The page for sending an order.
 use Rattle.std.specs.Prelude.{◌≡◌, ◌⊎◌, decimal, ℕ, ◌+◌, ◌*◌, ◌==◌, ◌||◌, if◌then◌else◌, List, [], ◌∷◌, ◌++◌, flat_map, length}
-use Rattle.std.specs.Prelude.{◌≤◌, All, Bool, true, false, Option, Some, None, Result, Ok, Err, is_err, OnErr}
+use Rattle.std.specs.Prelude.{◌≤◌, All, false, Option, Some, None, Result, Ok, Err, is_err, OnErr}
 use Rattle.std.specs.List.{range_with_len}
 use Rattle.kd_tables.specs.Ports.{Port}
 use Rattle.kd_tables.specs.Writing.{Writes}
@@ -190,3 +190,13 @@ pub record AreKeysOfText (s : Day) (part parts : ℕ) (keys : List Keys) (text :
   pub each : length (text_pieces s text) ≡ length keys
   pub count : part + length keys ≡ parts + 1
   pub few : parts ≤ 99
+
+-- The next of the parts left: its keys `k`, its letters `piece`, and the keys and the text of the parts after it.
+pub record IsNextPart (s : Day) (part parts : ℕ) (all : List Keys) (text : List ℕ) (k : Keys) (piece : List ℕ)
+    (keys : List Keys) (later : List ℕ) : Type 0 where
+  pub split : all ≡ k ∷ keys
+  pub cut : text_pieces s text ≡ piece ∷ text_pieces s later
+  pub of_the_day : AreKeys s k
+  pub suits : IsKeysAnswer s part k (Ok tt)
+  pub few : length piece ≤ part_size s
+  pub rest : AreKeysOfText s (part + 1) parts keys later

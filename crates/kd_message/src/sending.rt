@@ -1,5 +1,5 @@
 //! The page for sending an order.
-ghost use Rattle.std.specs.Prelude.{◌≡◌, ◌+◌, ◌≤◌, ◌++◌, ◌||◌, ℕ, List, false, flat_map, length, IsErr, Ok};
+ghost use Rattle.std.specs.Prelude.{◌≡◌, ◌+◌, ◌≤◌, ◌++◌, ◌||◌, ℕ, List, [], MatchOption, false, flat_map, length, IsErr, Ok};
 ghost use Rattle.std.specs.List.{range_with_len};
 ghost use Rattle.kd_tables.specs.{Ports.{port}, WriteFault.{is_device}};
 ghost use Rattle.kd_form.specs.Keys.{AreKeys};
@@ -10,7 +10,7 @@ ghost use Rattle.kd_pictures.specs.Drawing.{Draws};
 ghost use Rattle.kd_language.specs.Language.{in_language};
 ghost use Rattle.kd_part_sheet.specs.PartWork.{Work};
 ghost use Rattle.kd_message.specs.FormSheet.{form_part};
-ghost use Rattle.kd_message.specs.SendPage.{AreKeysOfText, AreMade, AreOrderSheets, AreWorks, HasForm, IsSendPage};
+ghost use Rattle.kd_message.specs.SendPage.{AreKeysOfText, AreMade, AreOrderSheets, AreWorks, HasForm, IsNextPart, IsSendPage};
 ghost use Rattle.kd_message.specs.SendPage.{IsSendPageAnswer, form_parts, list_head, list_text, listed_sheet};
 ghost use Rattle.kd_message.specs.SendPage.{listed_text, name_in_place, part_name, part_sheets, sheet_number};
 ghost use Rattle.kd_message.specs.SendPage.{sheet_to_send, sheets_text, text_pieces, title_text};
@@ -22,6 +22,7 @@ use crate::texts::{
     ARTICLE_END, LIST_END_WITH_FORM, LIST_OF_ONE, LIST_OF_SEVERAL, LISTED_FORM, LISTED_PART,
     TITLE_TO_SEND,
 };
+use arrayvec::ArrayVec;
 use kd_form::day_machine::DayMachine;
 use kd_form::keys::Keys;
 use kd_form::sending::order_head::HeadReader;
@@ -257,9 +258,8 @@ fn draw_part_sheets<W: Sink>(
         (part_sheets options.results options.language day.now place
         left.entry.part left.entry.parts works) }
 {
-    if let [first, rest @ ..] = left.keys {
-        let (piece, later) = take_piece(day, left.text);
-        let work = work_of(day, left.part, first, piece.as_slice());
+    if let Some((keys, piece, later)) = take_part(day, left) {
+        let work = work_of(day, left.part, keys, piece.as_slice());
         draw_part_sheet(
             sink,
             PartPage {
@@ -271,19 +271,33 @@ fn draw_part_sheets<W: Sink>(
             NO_WARNINGS,
             &work,
         );
-        draw_part_sheets(
-            sink,
-            options,
-            day,
-            place,
-            PartsLeft {
-                part: left.part + 1,
-                parts: left.parts,
-                keys: rest,
-                text: later,
-            },
-        );
+        draw_part_sheets(sink, options, day, place, later);
     }
+}
+
+/// The next part: its keys, its letters, and the parts after it. `None` if no part is left.
+fn take_part<'a>(
+    day: &SheetDay,
+    left: PartsLeft<'a>,
+) -> Option<(&'a Keys, ArrayVec<Letter, 500>, PartsLeft<'a>)>
+    requires { AreKeysOfText day.now left.part left.parts left.keys.now left.text.now }
+    ensures { MatchOption result
+        ((left.entry.keys.now ≡ []) × (text_pieces day.now left.entry.text.now ≡ []))
+        (λ next. IsNextPart day.now left.entry.part left.entry.parts left.entry.keys.now
+        left.entry.text.now next.0.now next.1.items next.2.keys.now next.2.text.now
+        × (next.2.part ≡ left.entry.part + 1) × (next.2.parts ≡ left.entry.parts)) }
+{
+    let [keys, rest @ ..] = left.keys else {
+        return None;
+    };
+    let (piece, text) = take_piece(day, left.text);
+    let later = PartsLeft {
+        part: left.part + 1,
+        parts: left.parts,
+        keys: rest,
+        text,
+    };
+    Some((keys, piece, later))
 }
 
 /// No warnings: a part to send has none.
@@ -342,27 +356,16 @@ fn draw_form_parts<W: Sink>(sink: &mut W, options: PageOptions, day: &SheetDay, 
         × Draws W.taken W.has_failed sink.old sink.new
         (form_parts options.results options.language day.now made) }
 {
-    if let [first, rest @ ..] = left.keys {
-        let (piece, later) = take_piece(day, left.text);
+    if let Some((keys, piece, later)) = take_part(day, left) {
         draw_made_part(
             sink,
             options.language,
             day,
             part_name(options.results, day, left.part, left.parts),
-            first,
+            keys,
             piece.as_slice(),
         );
-        draw_form_parts(
-            sink,
-            options,
-            day,
-            PartsLeft {
-                part: left.part + 1,
-                parts: left.parts,
-                keys: rest,
-                text: later,
-            },
-        );
+        draw_form_parts(sink, options, day, later);
     }
 }
 

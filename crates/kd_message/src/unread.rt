@@ -20,7 +20,7 @@ use crate::texts::{
 };
 use itoa::Buffer;
 use kd_language::Language;
-use kd_lost::{DamagedPart, PartDamage, PartNumbers, ShortLine, WrongSign, part_line};
+use kd_lost::{DamagedPart, PartDamage, ShortLine, WrongSign, heading_count, part_line};
 use kd_part_sheet::markup::COMMA;
 use kd_part_sheet::part_sheet::{PartName, PartPage, draw_warnings};
 use kd_pictures::template::{Value, fill_in};
@@ -281,16 +281,6 @@ fn draw_count_and_group<W: Sink>(sink: &mut W, language: Language, group: usize)
     draw_in(sink, language, ITS_COUNT);
     draw(sink, COMMA);
     draw_group_words(sink, language, group);
-}
-
-/// The letter count in the heading; 0 if the heading is damaged.
-fn heading_count(numbers: &Option<PartNumbers>) -> usize
-    ensures { result ≡ heading_count numbers.now }
-{
-    match numbers {
-        Some(numbers) => numbers.letters,
-        None => 0,
-    }
 }
 
 /// The place of key letter `number` in the first copy of the indicators, counted from 1.

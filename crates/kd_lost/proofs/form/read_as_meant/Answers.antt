@@ -1,4 +1,4 @@
-use Rattle.std.proofs.Common.{◌∙◌}
+use Rattle.std.proofs.Common.{◌∙◌, rules}
 use Rattle.kd_lost.specs.DamagedForm.{Respaced}
 use Rattle.kd_lost.proofs.Counting.{stands_read}
 use Rattle.kd_lost.proofs.form.read_as_meant.Goals as goal
@@ -14,21 +14,6 @@ returns c =
     record {
       meant = c.as_slice-meant.result.now;
       is_meant = Respaced c.if-is_headed.ensures.unheaded (c.as_slice-meant.ensures.value ∙ c.in-Ok.ensures);
-      as_meant = record {
-        given = read.given;
-        given_there = read.given_there;
-        heading = read.heading;
-        came = read.came;
-        body = read.body;
-        group = read.group;
-        text = read.text;
-        shown = read.shown;
-        by_count = read.by_count;
-        wrong_sign = read.wrong_sign;
-        short_line = read.short_line;
-        short_group = read.short_group;
-        as_spelled = read.as_spelled;
-        is_order = read.is_order;
-      };
+      as_meant = search rules;
       respaced = c.differs.ensures;
     }

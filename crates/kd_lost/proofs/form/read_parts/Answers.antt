@@ -1,6 +1,5 @@
-use Rattle.std.proofs.Common.{◌≡◌, ◌≤◌, ◌+◌, ◌∙◌, ◌++◌, ◌∷◌, [], refl, subst, sym, ap, arith, length, length-append}
-use Rattle.std.proofs.Common.{MatchOption}
-use Rattle.kd_lost.specs.DamagedForm.{AreReadOf, IsReadOf, TooMany, completed_parts, damaged_parts_of, parts_cut, placed_from}
+use Rattle.std.proofs.Common.{◌≡◌, ◌+◌, ◌∙◌, ◌++◌, ◌∷◌, [], refl, subst, sym, ap, arith, length, length-append}
+use Rattle.kd_lost.specs.DamagedForm.{AreReadOf, IsReadOf, TooMany, completed_parts, damaged_parts_of}
 use Rattle.kd_lost.specs.Repetitions.{completed_at}
 use Rattle.kd_lost.proofs.Forms.{as_many_read, completed_length, left_on, less_left, read_more, too_many}
 use Rattle.kd_lost.proofs.CompletedParts.{completed_more}
@@ -12,8 +11,7 @@ returns-then-len-eq-MOST_PARTS c =
     let all = damaged_parts_of c.args.form.now in
     let line = c.loop-left.line in
     let size = length c.args.form.now + 1 in
-    let is = subst (λ l. MatchOption l (all ≡ done) (λ rest. (all ≡ done ++ placed_from line (parts_cut rest.now))
-    × (line + length rest.now ≤ size))) c.in-Some.is left in
+    let is = rw c.in-Some.is at left in
     record {
       read = TooMany (too_many c.args.day.now c.args.copies.now all done c.loop-left.parts.items line c.in-Some.rest.now
           are is.0 (sym c.loop-left.parts.ok.0 ∙ sym c.len.ensures ∙ c.if-len-eq-MOST_PARTS.true)) refl;
@@ -26,8 +24,7 @@ loop-left-preserved c =
     let all = damaged_parts_of c.args.form.now in
     let line = c.loop-left.line in
     let size = length c.args.form.now + 1 in
-    let is = subst (λ l. MatchOption l (all ≡ done) (λ rest. (all ≡ done ++ placed_from line (parts_cut rest.now))
-    × (line + length rest.now ≤ size))) c.in-Some.is left in
+    let is = rw c.in-Some.is at left in
     let copies = c.args.copies.now in
     let part = c.split_part.result.0.now in
     let from_none : length done ≡ 0 + length done = omega arith in

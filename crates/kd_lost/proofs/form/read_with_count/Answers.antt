@@ -1,48 +1,21 @@
-use Rattle.std.proofs.Common.{◌∙◌, refl, sym}
+use Rattle.std.proofs.Common.{◌∙◌, refl, rules, sym}
+use Rattle.kd_lost.specs.ByCount.{GivesByCount, is_count_doubted, part_line}
 use Rattle.kd_lost.proofs.form.read_with_count.Goals as goal
 
 pub returns : goal.returns
 returns c =
-    let read = c.read_damaged_part-read.ensures in
-    let doubted = sym c.is_count_doubted.ensures ∙ c.if-not-is_count_doubted.false in (
-      record {
-        given = c.read_damaged_part-read.result.numbers;
-        given_there = read.numbers;
-        heading = read.heading;
-        came = read.came;
-        body = read.body;
-        group = read.group;
-        text = read.text;
-        shown = read.shown;
-        by_count = rw doubted (_, c.in-Ok.ensures, c.numbers_by_count-read.ensures);
-        wrong_sign = read.wrong_sign;
-        short_line = read.short_line;
-        short_group = read.short_group;
-        as_spelled = read.as_spelled;
-        is_order = read.is_order;
-      },
-      read.as_it_stands,
-    )
+    let read = c.read_damaged_part-read.result in
+    let by_count : GivesByCount (is_count_doubted read.text (part_line read)) c.args.day.now c.args.part.now read.came
+    read.numbers c.numbers_by_count-read.result c.in-Ok.found =
+    rw (sym c.is_count_doubted.ensures ∙ c.if-not-is_count_doubted.false)
+    (_, c.in-Ok.ensures, c.numbers_by_count-read.ensures) in
+    search rules
 
 pub returns-then-not-is_count_doubted : goal.returns-then-not-is_count_doubted
 returns-then-not-is_count_doubted c =
-    let read = c.read_damaged_part-read.ensures in
-    let sure = sym c.is_count_doubted.ensures ∙ c.if-not-is_count_doubted.true in (
-      record {
-        given = c.read_damaged_part-read.result.numbers;
-        given_there = read.numbers;
-        heading = read.heading;
-        came = read.came;
-        body = read.body;
-        group = read.group;
-        text = read.text;
-        shown = read.shown;
-        by_count = rw sure (read.by_count, refl);
-        wrong_sign = read.wrong_sign;
-        short_line = read.short_line;
-        short_group = read.short_group;
-        as_spelled = read.as_spelled;
-        is_order = read.is_order;
-      },
-      read.as_it_stands,
-    )
+    let read = c.read_damaged_part-read.result in
+    let by_count : GivesByCount (is_count_doubted read.text (part_line read)) c.args.day.now c.args.part.now read.came
+    read.numbers read.numbers read.by_count =
+    rw (sym c.is_count_doubted.ensures ∙ c.if-not-is_count_doubted.true)
+    (c.read_damaged_part-read.ensures.by_count, refl) in
+    search rules

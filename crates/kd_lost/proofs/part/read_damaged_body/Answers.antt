@@ -1,10 +1,11 @@
-use Rattle.std.proofs.Common.{◌≡◌, ◌∙◌, length, sym, ap, arith, refl, None, subst}
+use Rattle.std.proofs.Common.{◌∙◌, length, sym, ap, arith, refl, None, subst}
 use Rattle.std.proofs.lemmas.Bool.{false≢true}
-use Rattle.std.proofs.lemmas.List.{length-take, take_all}
+use Rattle.std.proofs.lemmas.List.{length-take}
 use Rattle.kd_state.specs.AnswerRules.{GoesOn, HasFault}
 use Rattle.kd_form.proofs.Headings.{at_most}
 use Rattle.kd_lost.specs.Lost.{received_letters}
 use Rattle.kd_lost.specs.DamagedText.{IsDamagedLettersAnswer}
+use Rattle.kd_lost.proofs.Parts.{counted_answer}
 use Rattle.kd_lost.proofs.part.read_damaged_body.Goals as goal
 
 pub returns-then-not-are_body_bytes : goal.returns-then-not-are_body_bytes
@@ -32,27 +33,15 @@ returns-then-len-heading c =
 
 pub returns-in-Some : goal.returns-in-Some
 returns-in-Some c =
-    let received = received_letters c.args.body.now in
-    let few = at_most _ c.args.heading.now.letters c.requires.letters in
-    let size = ap length c.received_letters-letters.ensures ∙ length-take 525 received in
-    let all : c.received_letters-letters.result.items ≡ received =
-    c.received_letters-letters.ensures ∙ take_all 525 received
-    (omega (arith, size, few, c.len.ensures.value, c.if-len-heading.false)) in
-    let counted : length received ≡ c.args.heading.now.letters =
-    omega (arith, ap length all, c.len.ensures.value, c.if-len-heading.false) in
-    let read = rw (c.as_slice.ensures.value ∙ all) at c.decipher_rotor.ensures in
-    GoesOn tt (c.are_body_bytes.ensures.0 c.if-not-are_body_bytes.false) (GoesOn tt counted (rw c.in-Some.is read))
+    counted_answer c.args.day.now c.args.heading.now c.args.body.now _ _ c.requires
+    (c.are_body_bytes.ensures.0 c.if-not-are_body_bytes.false) c.received_letters-letters.ensures
+    (omega (arith, c.len.ensures.value, c.if-len-heading.false))
+    (rw c.in-Some.is (rw c.as_slice.ensures.value at c.decipher_rotor.ensures))
 
 pub returns-in-None : goal.returns-in-None
 returns-in-None c =
-    let received = received_letters c.args.body.now in
-    let few = at_most _ c.args.heading.now.letters c.requires.letters in
-    let size = ap length c.received_letters-letters.ensures ∙ length-take 525 received in
-    let all : c.received_letters-letters.result.items ≡ received =
-    c.received_letters-letters.ensures ∙ take_all 525 received
-    (omega (arith, size, few, c.len.ensures.value, c.if-len-heading.false)) in
-    let counted : length received ≡ c.args.heading.now.letters =
-    omega (arith, ap length all, c.len.ensures.value, c.if-len-heading.false) in
-    let read = subst (λ l. IsDamagedLettersAnswer c.args.day.now None l c.decipher_pin.result)
-    (c.as_slice-in-None.ensures.value ∙ all) c.decipher_pin.ensures in
-    GoesOn tt (c.are_body_bytes.ensures.0 c.if-not-are_body_bytes.false) (GoesOn tt counted (rw c.in-None.is read))
+    counted_answer c.args.day.now c.args.heading.now c.args.body.now _ _ c.requires
+    (c.are_body_bytes.ensures.0 c.if-not-are_body_bytes.false) c.received_letters-letters.ensures
+    (omega (arith, c.len.ensures.value, c.if-len-heading.false))
+    (rw c.in-None.is (subst (λ l. IsDamagedLettersAnswer c.args.day.now None l c.decipher_pin.result)
+    c.as_slice-in-None.ensures.value c.decipher_pin.ensures))

@@ -24,27 +24,27 @@ returns-in_default-clause-text c =
       refl,
     ) refl
 
-pub read_body_after-requires : goal.read_body_after-requires
-read_body_after-requires c =
+pub read_body_after-read-requires : goal.read_body_after-read-requires
+read_body_after-read-requires c =
     (c.in-Some.ensures (map filled_byte c.args.line.now) (unbroken_filled c.args.line.now c.requires)
     (c.as_slice.ensures.value ∙ c.filled_line.ensures)).0
 
-pub returns-clause-numbers : goal.returns-clause-numbers
-returns-clause-numbers c =
+pub returns-in-Some-clause-numbers : goal.returns-in-Some-clause-numbers
+returns-in-Some-clause-numbers c =
     let found =
     c.in-Some.ensures (map filled_byte c.args.line.now) (unbroken_filled c.args.line.now c.requires)
     (c.as_slice.ensures.value ∙ c.filled_line.ensures) in
     (c.in-Some.heading, record { is_heading = found.0; text = found.1 }, c.numbers_of.ensures)
 
-pub returns-clause-text : goal.returns-clause-text
-returns-clause-text c =
+pub returns-in-Some-clause-text : goal.returns-in-Some-clause-text
+returns-in-Some-clause-text c =
     let found =
     c.in-Some.ensures (map filled_byte c.args.line.now) (unbroken_filled c.args.line.now c.requires)
     (c.as_slice.ensures.value ∙ c.filled_line.ensures) in
-    GoesOn c.in-Some.heading (record { is_heading = found.0; text = found.1 }) c.read_body_after.ensures
+    GoesOn c.in-Some.heading (record { is_heading = found.0; text = found.1 }) c.read_body_after-read.ensures
 
 pub returns-in_default-clause-came : goal.returns-in_default-clause-came
-returns-in_default-clause-came c = c.letter_count-came.ensures.count ∙ letters_counted c.args.body.now
+returns-in_default-clause-came c = c.letter_count.ensures.count ∙ letters_counted c.args.body.now
 
-pub returns-clause-came : goal.returns-clause-came
-returns-clause-came c = c.letter_count-came.ensures.count ∙ letters_counted c.args.body.now
+pub returns-in-Some-clause-came : goal.returns-in-Some-clause-came
+returns-in-Some-clause-came c = c.letter_count.ensures.count ∙ letters_counted c.args.body.now

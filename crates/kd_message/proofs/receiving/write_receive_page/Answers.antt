@@ -1,9 +1,7 @@
-use Rattle.std.proofs.Common.{◌≡◌, ◌∙◌, ◌≤◌, length, arith, refl, sym, subst, true, rules}
-use Rattle.kd_lost.specs.DamagedForm.{damaged_parts_of}
-use Rattle.kd_lost.proofs.CompletedParts.{as_many_parts}
+use Rattle.std.proofs.Common.{◌≡◌, ◌∙◌, arith, refl, sym, subst, true, rules}
 use Rattle.kd_pictures.proofs.Drawings.{writes_part}
 use Rattle.kd_message.specs.ReceivePage.{AreWorkable, FormNotRead, NotNoted, Noted, ReceivedPageWritten}
-use Rattle.kd_message.proofs.ReceivePages.{are_workable_parts, or_true, page_begins}
+use Rattle.kd_message.proofs.ReceivePages.{are_workable_parts, few_parts, or_true, page_begins}
 use Rattle.kd_message.proofs.receiving.write_receive_page.Goals as goal
 
 pub returns-in-Err-clause-page : goal.returns-in-Err-clause-page
@@ -17,12 +15,7 @@ draw_page-requires-clause-workable g c =
 
 pub returns-then-failed-clause-page : goal.returns-then-failed-clause-page
 returns-then-failed-clause-page g c =
-    let few : length (damaged_parts_of c.args.form.now) ≤ 255 =
-    omega (
-      arith,
-      as_many_parts c.args.day.now c.args.form.now c.in-Ok.parts.items c.in-Ok.ensures.read,
-      c.in-Ok.ensures.few,
-    ) in
+    let few = few_parts _ _ _ c.in-Ok.ensures.read c.in-Ok.ensures.few in
     let drawn = rw c.as_slice.ensures.value at c.draw_page.ensures in
     ReceivedPageWritten c.in-Ok.parts.items c.in-Ok.ensures.read few
     (writes_part _ (page_begins c.args.options.results c.args.options.language c.args.day.now c.in-Ok.parts.items).1.1 drawn
@@ -30,12 +23,7 @@ returns-then-failed-clause-page g c =
 
 pub returns-clause-page : goal.returns-clause-page
 returns-clause-page g c =
-    let few : length (damaged_parts_of c.args.form.now) ≤ 255 =
-    omega (
-      arith,
-      as_many_parts c.args.day.now c.args.form.now c.in-Ok.parts.items c.in-Ok.ensures.read,
-      c.in-Ok.ensures.few,
-    ) in
+    let few = few_parts _ _ _ c.in-Ok.ensures.read c.in-Ok.ensures.few in
     let drawn = rw c.as_slice.ensures.value at c.draw_page.ensures in
     ReceivedPageWritten c.in-Ok.parts.items c.in-Ok.ensures.read few (search rules)
     (rw c.as_slice-else-failed.ensures.value at c.is_whole.ensures) (search rules)

@@ -1,41 +1,23 @@
-use Rattle.std.proofs.Common.{arith}
-use Rattle.std.proofs.lemmas.Grind.{common_steps}
-use Rattle.std.proofs.Common.{[], refl, ◌≡◌, ◌∷◌}
-use Rattle.kd_message.proofs.SendPages.{later_keys, next_part, none_left, nothing_drawn, parts_next}
+use Rattle.std.proofs.Common.{[], ap, arith, length, refl}
+use Rattle.kd_message.proofs.SendPages.{nothing_drawn, parts_next}
 use Rattle.kd_message.proofs.sending.+draw_form_parts.Goals as goal
 
 pub draw_made_part-requires-clause-suits : goal.draw_made_part-requires-clause-suits
-draw_made_part-requires-clause-suits g t c =
-    let split : c.args.left.keys.now ≡ c.first-item.result ∷ later_keys c.args.left.keys.now =
-    grind (arith, common_steps) in
-    rw c.part_name.ensures (next_part c.args.day.now c.args.left.part c.args.left.parts c.args.left.keys.now
-    c.first-item.result
-    (later_keys c.args.left.keys.now) c.args.left.text.now c.take_piece-piece.result.0.items
-    c.take_piece-piece.result.1.now split c.take_piece-piece.ensures.piece
-    c.take_piece-piece.ensures.rest c.requires).suits
+draw_made_part-requires-clause-suits g t c = rw c.part_name.ensures c.in-Some.ensures.0.suits
 
 pub draw_form_parts-requires : goal.draw_form_parts-requires
 draw_form_parts-requires g t c κs within =
-    let split : c.args.left.keys.now ≡ c.first-item.result ∷ later_keys c.args.left.keys.now =
-    grind (arith, common_steps) in
-    let next = next_part c.args.day.now c.args.left.part c.args.left.parts c.args.left.keys.now c.first-item.result
-    (later_keys c.args.left.keys.now) c.args.left.text.now c.take_piece-piece.result.0.items
-    c.take_piece-piece.result.1.now split c.take_piece-piece.ensures.piece
-    c.take_piece-piece.ensures.rest c.requires in
-    (omega (arith, c.decreases), (within, next.rest))
+    let (next, part, parts) = c.in-Some.ensures in
+    (omega (arith, ap length next.split), (within, rw (part, parts) next.rest))
 
-pub returns-in-len1-up : goal.returns-in-len1-up
-returns-in-len1-up g t c =
-    let split : c.args.left.keys.now ≡ c.first-item.result ∷ later_keys c.args.left.keys.now =
-    grind (arith, common_steps) in
-    let next = next_part c.args.day.now c.args.left.part c.args.left.parts c.args.left.keys.now c.first-item.result
-    (later_keys c.args.left.keys.now) c.args.left.text.now c.take_piece-piece.result.0.items
-    c.take_piece-piece.result.1.now split c.take_piece-piece.ensures.piece
-    c.take_piece-piece.ensures.rest c.requires in
-    parts_next _ _ _ _ _ split next.cut
-    (rw (c.part_name.ensures, c.as_slice.ensures.value) at c.draw_made_part.ensures) c.draw_form_parts.ensures
+pub returns-in-Some : goal.returns-in-Some
+returns-in-Some g t c =
+    let (next, part, parts) = c.in-Some.ensures in
+    parts_next _ _ _ _ _ next.split next.cut
+    (rw (c.part_name.ensures, c.as_slice.ensures.value) at c.draw_made_part.ensures)
+    (rw (part, parts) at c.draw_form_parts.ensures)
 
 pub returns-in_default : goal.returns-in_default
 returns-in_default g t c =
-    let none = none_left _ _ _ _ _ (grind (arith, common_steps)) c.requires in
+    let none = c.in_default.ensures in
     ([], rw (none.0, none.1) refl, nothing_drawn _ _ _)
