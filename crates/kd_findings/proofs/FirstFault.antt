@@ -41,9 +41,10 @@ of_model place faults (Ok model) next follows = follows model
 of_model place faults (Err fault) next follows = record { first = refl }
 
 -- a reading from two steps, and then a third, are a reading and then two steps
-pub two_steps : {A C : Type 0} (reading : Result A SheetFault) (test : A → Bool) (fault : SheetFault)
+pub two_steps : {A C : Type 0} (reading : Result A SheetFault) (test : A → Bool) (fault : A → SheetFault)
     (next : A → Result C SheetFault)
-    → ((reading >>= (λ x. demand (test x) fault >> Ok x)) >>= next) ≡ (reading >>= (λ x. demand (test x) fault >> next x))
+    → ((reading >>= (λ x. demand (test x) (fault x) >> Ok x)) >>= next)
+    ≡ (reading >>= (λ x. demand (test x) (fault x) >> next x))
 two_steps (Ok x) test fault next = grind arith
 two_steps (Err e) test fault next = refl
 
@@ -74,7 +75,7 @@ of_versioned : (table : Members) (version : ℕ) → version_in table ≡ Ok ver
     (model_in table >>= (λ model. demand (nat_le (file_version model) version) UnknownModel >> parts_in model table))
 unfolding file_model
 of_versioned table version is =
-    rw is (rw (← two_steps (model_in table) (λ model. nat_le (file_version model) version) UnknownModel
+    rw is (rw (← two_steps (model_in table) (λ model. nat_le (file_version model) version) (λ model. UnknownModel)
     (λ model. parts_in model table)) (of_model _ _ _ _ (of_model_file table)))
 
 pub of_machine : (table : Members) → AreOf (machine_faults table) (machine_in table)

@@ -1,6 +1,6 @@
 -- The first of a key sheet's faults is the fault of its reading.
 use Rattle.std.proofs.Common.{◌≡◌, ℕ, ◌+◌, ◌==◌, ◌++◌, List, [], ◌∷◌, Option, Some, None, Result, Ok, Err, ap, refl}
-use Rattle.std.proofs.Common.{IfOk, inl, inr, subst, take, drop, map, get_or, ◌<◌, ◌≤◌, sym, ◌∙◌, Bool, true, false, not, length, arith, append_assoc, ok_or}
+use Rattle.std.proofs.Common.{IfOk, inl, inr, subst, take, drop, map, get_or, ◌<◌, ◌≤◌, sym, ◌∙◌, Bool, not, length, arith, append_assoc, ok_or}
 use Rattle.std.proofs.lemmas.List.{append-nil, map-append, take-append-drop, take-map, take_all, take_more}
 use Rattle.std.proofs.lemmas.List.Folds.{list_any-append}
 use Rattle.std.specs.List.{list_any}
@@ -21,7 +21,7 @@ use Rattle.kd_findings.specs.SheetFaults.{AreSheetFaults, day_place, entry_fault
 use Rattle.kd_findings.specs.SheetFaults.{has_number, in_entry, model_day_faults, number_in}
 use Rattle.kd_state.proofs.FirstFault.{demand-Ok}
 use Rattle.kd_sheet.proofs.ReadBack.Described.KeyValues.Steps.{bind-Ok}
-use Rattle.kd_findings.proofs.FirstFault.{AreOf, of_form, of_model, of_one, of_two}
+use Rattle.kd_findings.proofs.FirstFault.{AreOf, of_form, of_model, of_one, of_two, two_steps}
 use Rattle.std.proofs.lemmas.Option.{none-some}
 unfoldable use Rattle.kd_sheet.specs.MachineFile.{model_in}
 unfoldable use Rattle.kd_sheet.specs.SheetFile.{day_for, day_in, pin_day_in, rotor_day_in}
@@ -58,12 +58,6 @@ table_reading days table = number_in table >>= (λ number.
     demand (not (list_any (is_day number) days)) (DayTwice number)
     >> (model_in table >>= (λ model. day_in number model table)))
 
--- a test, its number, and then a step are the test and then the step
-of_test : {A : Type 0} (test : Bool) (fault : SheetFault) (n : ℕ) (next : ℕ → Result A SheetFault)
-    → ((demand test fault >> Ok n) >>= next) ≡ (demand test fault >> next n)
-of_test true fault n next = refl
-of_test false fault n next = refl
-
 -- the day of an entry and then its model are the reading of the entry
 day_and_model : (earlier : List Data) (days : List Day) (table : Members) (number : Result ℕ SheetFault)
     → HaveNumbers earlier days
@@ -72,7 +66,8 @@ day_and_model : (earlier : List Data) (days : List Day) (table : Members) (numbe
     ≡ (number >>= (λ n. demand (not (list_any (is_day n) days)) (DayTwice n)
     >> (model_in table >>= (λ model. day_in n model table))))
 day_and_model earlier days table (Err fault) have = refl
-day_and_model earlier days table (Ok n) have = rw (have n) (of_test (not (list_any (is_day n) days)) (DayTwice n) n
+day_and_model earlier days table (Ok n) have =
+    rw (have n) (two_steps (Ok n) (λ m. not (list_any (is_day m) days)) DayTwice
     (λ m. model_in table >>= (λ model. day_in m model table)))
 
 of_table : (earlier : List Data) (days : List Day) (table : Members) → HaveNumbers earlier days

@@ -13,36 +13,9 @@ use kd_tables::{Family, Model};
 use std::alloc::{AllocError, Global};
 use toml::{Table, Value};
 
-static ROTOR_FILE: [Key; 7] = [
-    Key::Version,
-    Key::Model,
-    Key::Reflector,
-    Key::Slots,
-    Key::Rings,
-    Key::Letters,
-    Key::Cables,
-];
-
-static PIN_FILE: [Key; 5] = [Key::Version, Key::Model, Key::Letters, Key::Pins, Key::Bars];
-
-/// The keys of a machine file whose model isn't known.
-static ANY_FILE: [Key; 12] = [
-    Key::Version,
-    Key::Model,
-    Key::Reflector,
-    Key::Slots,
-    Key::Rings,
-    Key::Letters,
-    Key::Cables,
-    Key::Version,
-    Key::Model,
-    Key::Letters,
-    Key::Pins,
-    Key::Bars,
-];
-
 /// All keys of machine files and of entries.
 static ANY_KEY: [Key; 26] = [
+    // a rotor machine's file
     Key::Version,
     Key::Model,
     Key::Reflector,
@@ -50,11 +23,13 @@ static ANY_KEY: [Key; 26] = [
     Key::Rings,
     Key::Letters,
     Key::Cables,
+    // a Converter's file
     Key::Version,
     Key::Model,
     Key::Letters,
     Key::Pins,
     Key::Bars,
+    // a rotor machine's day
     Key::Day,
     Key::Model,
     Key::Reflector,
@@ -63,6 +38,7 @@ static ANY_KEY: [Key; 26] = [
     Key::Window,
     Key::Plugs,
     Key::Groups,
+    // a Converter's day
     Key::Day,
     Key::Model,
     Key::Rows,
@@ -72,44 +48,6 @@ static ANY_KEY: [Key; 26] = [
 ];
 
 static SHEET: [Key; 1] = [Key::Day];
-
-static ROTOR_DAY: [Key; 8] = [
-    Key::Day,
-    Key::Model,
-    Key::Reflector,
-    Key::Wheels,
-    Key::Rings,
-    Key::Window,
-    Key::Plugs,
-    Key::Groups,
-];
-
-static PIN_DAY: [Key; 6] = [
-    Key::Day,
-    Key::Model,
-    Key::Rows,
-    Key::Pins,
-    Key::Window,
-    Key::List,
-];
-
-/// The keys of an entry whose model isn't known.
-static ANY_DAY: [Key; 14] = [
-    Key::Day,
-    Key::Model,
-    Key::Reflector,
-    Key::Wheels,
-    Key::Rings,
-    Key::Window,
-    Key::Plugs,
-    Key::Groups,
-    Key::Day,
-    Key::Model,
-    Key::Rows,
-    Key::Pins,
-    Key::Window,
-    Key::List,
-];
 
 /// A file's key that the desk doesn't know, and so doesn't read.
 #[derive(Clone, Copy)]
@@ -168,10 +106,10 @@ fn file_keys(model: Option<Model>) -> &'static [Key]
 {
     match model {
         Some(model) => match model.family() {
-            Family::Rotor => &ROTOR_FILE,
-            Family::Pin => &PIN_FILE,
+            Family::Rotor => &ANY_KEY[..7],
+            Family::Pin => &ANY_KEY[7..12],
         },
-        None => &ANY_FILE,
+        None => &ANY_KEY[..12],
     }
 }
 
@@ -212,10 +150,10 @@ fn day_keys(model: Option<Model>) -> &'static [Key]
 {
     match model {
         Some(model) => match model.family() {
-            Family::Rotor => &ROTOR_DAY,
-            Family::Pin => &PIN_DAY,
+            Family::Rotor => &ANY_KEY[12..20],
+            Family::Pin => &ANY_KEY[20..],
         },
-        None => &ANY_DAY,
+        None => &ANY_KEY[12..],
     }
 }
 

@@ -1,5 +1,5 @@
 -- The groups in the bodies of a form's parts: `look` finds each of them, and no others.
-use Rattle.std.proofs.Common.{◌≡◌, ◌≢◌, ◌∙◌, ℕ, zero, suc, ◌+◌, ◌-◌, ◌<◌, ◌≤◌, ◌==◌, Bool, true, false, not}
+use Rattle.std.proofs.Common.{◌≡◌, ◌≢◌, ◌∙◌, ℕ, zero, suc, ◌+◌, ◌-◌, ◌<◌, ◌≤◌, ◌==◌, Bool, true, false}
 use Rattle.std.proofs.Common.{List, [], ◌∷◌, ◌++◌, Option, Some, None, Result, Ok, Err, ap, arith, cond, drop, inl}
 use Rattle.std.proofs.Common.{inr, length, refl, subst, sym, take, nat_le, get_or, append_assoc, length-append, IfOk}
 use Rattle.std.proofs.Common.{if◌then◌else◌, map, option_map, option_to_list}
@@ -20,7 +20,6 @@ use Rattle.kd_form.specs.PartReading.{HasHeading}
 use Rattle.kd_form.specs.Sending.{letter_of_byte, letters_from}
 use Rattle.kd_form.proofs.Headings.{BeginsHeading-bytes, as_parts, begins_there}
 use Rattle.kd_form.proofs.Lines.{letters_first}
-use Rattle.kd_sheet.specs.Document.{◌>>◌, demand}
 use Rattle.kd_look.specs.Form.{body_end, body_signs, due_heading, first_or, form_answer, form_from, has_due_numbers}
 use Rattle.kd_look.specs.Form.{heading_fault, heading_follows, part_at}
 use Rattle.kd_look.specs.FormHeading.{heading_at, heading_keys}
@@ -30,12 +29,12 @@ use Rattle.kd_look.specs.Laws.{AreGroupsOfParts, ConverterFormsHaveNoGroups, For
 use Rattle.kd_look.specs.Laws.{HasKeyLineForm, IsDayOfForm}
 use Rattle.kd_look.specs.MessageWords.{is_form}
 use Rattle.kd_look.specs.Order.{order_start}
-use Rattle.kd_look.specs.declared.message.fault.MessageFault.{MessageFault}
 use Rattle.kd_look.specs.declared.message.form.FormPart.{FormPart}
 use Rattle.kd_look.specs.declared.message.form_heading.FormHeading.{FormHeading}
 use Rattle.kd_look.specs.declared.message.order_head.KeyLine.{KeyLine}
 use Rattle.kd_look.specs.declared.message.order_head.KeyLine.TheVariants as lines
 use Rattle.kd_look.specs.declared.message.signs.WrongByte.{WrongByte}
+use Rattle.kd_look.proofs.Form.{answer_after}
 use Rattle.kd_look.proofs.Forms.{IsKeyed, capitals_agree, keyed_on, keys_known}
 use Rattle.kd_look.proofs.Groups.{letters_of-append}
 use Rattle.kd_look.proofs.HeadingsRead.{end_read, heading_is, heading_read, with_demand, with_ok}
@@ -244,16 +243,14 @@ more_after text (Some i) less = refl
 
 -- after a part, the form ends, or its next part is read
 form_step : {P : Type 0} (text : List ℕ) (left number : ℕ) (first : Option FormHeading) (part : FormPart)
-    (result : FormHeading) (fault : MessageFault) (last : Bool)
-    → (if not last then form_from text left (Some (first_or part.heading first)) (number + 1) part.end
-    else demand (part.heading.parts == number) fault >> Ok (first_or part.heading first)) ≡ Ok result
+    (result : FormHeading) (last : Bool) → answer_after text left first number part last ≡ Ok result
     → (last ≡ true → first_or part.heading first ≡ result → P)
     → (last ≡ false → form_from text left (Some (first_or part.heading first)) (number + 1) part.end ≡ Ok result → P)
     → P
-form_step text left number first part result fault true is ended more =
-    with_demand (part.heading.parts == number) fault (Ok (first_or part.heading first)) is (λ _ made.
+form_step text left number first part result true is ended more =
+    with_demand (part.heading.parts == number) _ (Ok (first_or part.heading first)) is (λ _ made.
     let same : first_or part.heading first ≡ result = cc in ended refl same)
-form_step text left number first part result fault false is ended more = more refl is
+form_step text left number first part result false is ended more = more refl is
 
 form_keys : (s : Day) (text : List ℕ) (left : ℕ) (first : Option FormHeading) (number index : ℕ) (result : FormHeading)
     → IsKeyed s text first index → form_from text left first number index ≡ Ok result → HasKeyLineForm s result.keys
@@ -262,7 +259,7 @@ form_keys s text (suc left) first number index result keyed is =
     with_ok (part_at text first number index) _ is (λ part one rest.
     let own = part_keys s text first index part keyed (part_read text first number index part one) in
     let key = keyed_on s text first index part.heading keyed own in
-    form_step text left number first part result _ (part.end == length text) rest
+    form_step text left number first part result (part.end == length text) rest
     (λ last same. subst (λ (h : FormHeading). HasKeyLineForm s h.keys) same key)
     (λ last more. form_keys s text left (Some (first_or part.heading first)) (number + 1) part.end result key more))
 
@@ -301,7 +298,7 @@ form_grouped s text (suc left) first number index result inside keyed is =
     let later : first_end text index < length text
     → AreGroupsOfParts (Rotor s) (parts_of (drop (first_end text index) text))
     (groups_from text (first_end text index)) =
-    (λ less. form_step text left number first part result _ (part.end == length text) rest
+    (λ less. form_step text left number first part result (part.end == length text) rest
     (λ last same. let at = eqb-true part.end (length text) last in absurd (omega (arith, at, less, own.ends)))
     (λ last more. subst (λ n. AreGroupsOfParts (Rotor s) (parts_of (drop n text)) (groups_from text n)) own.ends
     (form_grouped s text left (Some (first_or part.heading first)) (number + 1) part.end result

@@ -1,7 +1,7 @@
 -- What `look` says of a form, and what `receive` says of it.
-use Rattle.std.proofs.Common.{◌≡◌, ◌≢◌, ◌∙◌, ℕ, zero, suc, ◌+◌, ◌-◌, ◌<◌, ◌≤◌, ◌==◌, ◌⊎◌, Bool, true, false, not}
+use Rattle.std.proofs.Common.{◌≡◌, ◌≢◌, ◌∙◌, ℕ, zero, suc, ◌+◌, ◌-◌, ◌<◌, ◌≤◌, ◌==◌, ◌⊎◌, Bool, true, false}
 use Rattle.std.proofs.Common.{List, [], ◌∷◌, ◌++◌, Option, Some, None, Result, Ok, Err, ap, arith, cond, drop, inl}
-use Rattle.std.proofs.Common.{inr, length, refl, subst, Contains, IfOk, sym, if◌then◌else◌, option_map}
+use Rattle.std.proofs.Common.{inr, length, refl, subst, Contains, IfOk, sym, option_map}
 use Rattle.std.proofs.Common.{option_to_list}
 use Rattle.std.proofs.lemmas.List.Elements.{Contains-append_right}
 use Rattle.std.proofs.lemmas.Bool.{cases_Bool, eq-eqb, eqb-true, false≢true}
@@ -39,6 +39,7 @@ use Rattle.kd_look.specs.declared.message.fault.Reason.TheVariants as reasons
 use Rattle.kd_look.specs.declared.message.form.FormPart.{FormPart}
 use Rattle.kd_look.specs.declared.message.form_heading.FormHeading.{FormHeading}
 use Rattle.kd_look.specs.declared.message.signs.WrongByte.{WrongByte}
+use Rattle.kd_look.proofs.Form.{after_part, answer_after, end_answer}
 use Rattle.kd_look.proofs.HeadingsRead.{HeadingsAgree, end_read, heading_is, heading_read}
 use Rattle.kd_look.proofs.HeadingsThere.{heading_there}
 use Rattle.kd_look.proofs.Marks.{in_text}
@@ -375,8 +376,7 @@ module _ (s : Day) (all : List (List ℕ)) (p : PartStart) (part : List ℕ) (pa
 count_told : (s : Day) (all : List (List ℕ)) (p : PartStart) (parts : List (List ℕ))
     (answer : Result (Unit {0}) FormFault) (number count length : ℕ) (first : FormHeading) (right : Bool)
     → (count == number) ≡ right → Demands (number + 1 ≡ count + 1) PartOrder answer
-    → IsTold s all p parts answer (demand right (record { index = length; fault = PartOrder; reason = reasons.PartsMissing })
-    >> Ok first)
+    → IsTold s all p parts answer (end_answer length first right)
 count_told s all p parts (Ok done) number count length first true right is = inl refl
 count_told s all p parts (Err fault) number count length first true right (none, is) =
     let same = eqb-true count number right in absurd (none tt (ap (λ n. n + 1) (sym same)))
@@ -414,16 +414,13 @@ module _ (s : Day) (text : List ℕ) (all : List (List ℕ)) (answer : Result (U
     abbrev start : PartStart
     start = start_of number (option_map (λ heading. heading.parts) first) index
 
-    after_part : (part : FormPart) → IsPartFaultless s text first number index inside cut part → (read : ReadPart)
+    after_told : (part : FormPart) → IsPartFaultless s text first number index inside cut part → (read : ReadPart)
         → read.parts ≡ part.heading.parts → (more : List ℕ)
         → ReadsPartsTo s (IsAnswerAt s answer) (next_part_start start read.parts cut.part) cut.others more
         → (last : Bool) → (part.end == length text) ≡ last → IsAfterPart text cut.part (first_end text index) cut.others
-        → IsTold s all (next_part_start start read.parts cut.part) cut.others answer (if not last
-        then form_from text left (Some (first_or part.heading first)) (number + 1) part.end
-        else demand (part.heading.parts == number)
-        (record { index = length text; fault = PartOrder; reason = reasons.PartsMissing })
-        >> Ok (first_or part.heading first))
-    after_part part faultless read same more rest true ended (Last at none) =
+        → IsTold s all (next_part_start start read.parts cut.part) cut.others answer
+        (answer_after text left first number part last)
+    after_told part faultless read same more rest true ended (Last at none) =
         let (held, nil) =
         subst (λ others. ReadsPartsTo s (IsAnswerAt s answer)
         (next_part_start start read.parts cut.part) others more) none
@@ -432,11 +429,11 @@ module _ (s : Day) (text : List ℕ) (all : List (List ℕ)) (answer : Result (U
         let counts : count ≡ part.heading.parts = cc (expected, same) in
         count_told s all (next_part_start start read.parts cut.part) cut.others answer number part.heading.parts (length text) (first_or part.heading first)
         (part.heading.parts == number) refl (subst (λ n. Demands (number + 1 ≡ n + 1) PartOrder answer) counts right)
-    after_part part faultless read same more rest false ended (Last at none) =
+    after_told part faultless read same more rest false ended (Last at none) =
         absurd (false≢true (sym ended ∙ eq-eqb part.end (length text) (faultless.ends ∙ at)))
-    after_part part faultless read same more rest true ended (More front whole others less) =
+    after_told part faultless read same more rest true ended (More front whole others less) =
         let at = eqb-true part.end (length text) ended in absurd (omega (arith, at, less, faultless.ends))
-    after_part part faultless read same more rest false ended (More front whole others less) =
+    after_told part faultless read same more rest false ended (More front whole others less) =
         let (numbered, parts) = parts_known first number part.heading faultless.due in
         let key = keyed_on s text first index part.heading keyed faultless.keyed in
         let parts_left : cut.others ≡ parts_of (drop part.end text) =
@@ -457,11 +454,7 @@ module _ (s : Day) (text : List ℕ) (all : List (List ℕ)) (answer : Result (U
 
     part_told : (seen : Result FormPart MessageFault) → IsPartSeen s text first number index inside cut seen
         → ReadsPartsTo s (IsAnswerAt s answer) start (cut.part ∷ cut.others) letters
-        → IsTold s all start (cut.part ∷ cut.others) answer (seen >>= (λ part. if not (part.end == length text)
-        then form_from text left (Some (first_or part.heading first)) (number + 1) part.end
-        else demand (part.heading.parts == number)
-        (record { index = length text; fault = PartOrder; reason = reasons.PartsMissing })
-        >> Ok (first_or part.heading first)))
+        → IsTold s all start (cut.part ∷ cut.others) answer (seen >>= after_part text left first number)
     part_told (Err found) seen (inl ((fault, refused, is), nil)) =
         let right = shown_refused s start cut.part found.fault seen in
         let one = HasOneAnswer-part s start cut.part (Err fault) (Err found.fault) refused right in inl (cc (is, one))
@@ -480,7 +473,7 @@ module _ (s : Day) (text : List ℕ) (all : List (List ℕ)) (answer : Result (U
         })
     part_told (Ok part) faultless (inr (read, more, is, rest, joined)) =
         told_later s all start cut.part cut.others answer read is _
-        (after_part part faultless read (faultless.told (Ok read) is) more rest (part.end == length text) refl cut.after)
+        (after_told part faultless read (faultless.told (Ok read) is) more rest (part.end == length text) refl cut.after)
 
   form_told : (left : ℕ) (first : Option FormHeading) (number index : ℕ) (letters : List ℕ) → index ≤ length text
       → left + number ≡ 101 → number ≤ 100 → IsKeyed s text first index

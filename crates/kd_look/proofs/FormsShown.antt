@@ -1,7 +1,7 @@
 -- What `look` says of a form is what the form shows without deciphering.
-use Rattle.std.proofs.Common.{◌≡◌, ◌∙◌, ℕ, zero, suc, ◌+◌, ◌≤◌, ◌==◌, Bool, true, false, not, List, ◌∷◌}
+use Rattle.std.proofs.Common.{◌≡◌, ◌∙◌, ℕ, zero, suc, ◌+◌, ◌≤◌, ◌==◌, Bool, true, false, List, ◌∷◌}
 use Rattle.std.proofs.Common.{Option, Some, None, Result, Ok, Err, ap, arith, drop, length, refl, subst, IfOk, sym, inl, inr}
-use Rattle.std.proofs.Common.{if◌then◌else◌, option_map}
+use Rattle.std.proofs.Common.{option_map}
 use Rattle.std.proofs.lemmas.Bool.{eq-eqb, eqb-true, false≢true}
 use Rattle.kd_state.specs.AnswerRules.{Demands, GoesOn, HasFault}
 use Rattle.kd_state.specs.SheetDay.{Day}
@@ -12,22 +12,22 @@ use Rattle.kd_form.specs.FormText.{IsTextOf, next_part_start}
 use Rattle.kd_form.specs.PartReading.{PartStart}
 use Rattle.kd_form.proofs.Headings.{as_parts}
 use Rattle.kd_form.proofs.OneText.{start_of}
-use Rattle.kd_sheet.specs.Document.{◌>>=◌, ◌>>◌, demand}
+use Rattle.kd_sheet.specs.Document.{◌>>=◌}
 use Rattle.kd_look.specs.Form.{first_or, form_answer, form_from, part_at}
 use Rattle.kd_look.specs.FormHeading.{heading_keys}
 use Rattle.kd_look.specs.FormShown.{AreShownPartsAnswer}
 use Rattle.kd_look.specs.Laws.{FormsAreSeenWithoutLetters, HasKeyLineForm, IsDayOfForm, form_result}
 use Rattle.kd_look.specs.declared.message.fault.MessageFault.{MessageFault}
-use Rattle.kd_look.specs.declared.message.fault.Reason.TheVariants as reasons
 use Rattle.kd_look.specs.declared.message.form.FormPart.{FormPart}
 use Rattle.kd_look.specs.declared.message.form_heading.FormHeading.{FormHeading}
+use Rattle.kd_look.proofs.Form.{after_part, answer_after, end_answer}
 use Rattle.kd_look.proofs.Forms.{form_faults_agree, IsKeyed, IsPartFaultless, IsPartSeen, keyed_on, part_seen, parts_known}
 use Rattle.kd_look.proofs.PartsCut.{IsPartCut, IsAfterPart, Last, More, cut_of, first_end}
 
 -- after the last part
 count_shown : (number count length : ℕ) (first : FormHeading) (right : Bool) → (count == number) ≡ right
     → Demands (number + 1 ≡ count + 1) PartOrder
-    (form_result (demand right (record { index = length; fault = PartOrder; reason = reasons.PartsMissing }) >> Ok first))
+    (form_result (end_answer length first right))
 count_shown number count length first true right = ap (λ n. n + 1) (sym (eqb-true count number right))
 count_shown number count length first false wrong =
     ((λ _ same. false≢true (sym wrong ∙ eq-eqb count number (omega (arith, same)))), refl)
@@ -49,16 +49,10 @@ module _ (s : Day) (text : List ℕ) where
     after_shown : (part : FormPart) → IsPartFaultless s text first number index inside cut part
         → (last : Bool) → (part.end == length text) ≡ last → IsAfterPart text cut.part (first_end text index) cut.others
         → AreShownPartsAnswer s (next_part_start start part.heading.parts cut.part) cut.others
-        (form_result (if not last
-        then form_from text left (Some (first_or part.heading first)) (number + 1) part.end
-        else demand (part.heading.parts == number)
-        (record { index = length text; fault = PartOrder; reason = reasons.PartsMissing })
-        >> Ok (first_or part.heading first)))
+        (form_result (answer_after text left first number part last))
     after_shown part faultless true ended (Last at none) =
         subst (λ others. AreShownPartsAnswer s (next_part_start start part.heading.parts cut.part) others
-        (form_result (demand (part.heading.parts == number)
-        (record { index = length text; fault = PartOrder; reason = reasons.PartsMissing })
-        >> Ok (first_or part.heading first)))) (sym none) (
+        (form_result (answer_after text left first number part true))) (sym none) (
           part.heading.parts,
           refl,
           count_shown number part.heading.parts (length text) (first_or part.heading first)
@@ -87,11 +81,7 @@ module _ (s : Day) (text : List ℕ) where
 
     part_shown : (seen : Result FormPart MessageFault) → IsPartSeen s text first number index inside cut seen
         → AreShownPartsAnswer s start (cut.part ∷ cut.others)
-        (form_result (seen >>= (λ part. if not (part.end == length text)
-        then form_from text left (Some (first_or part.heading first)) (number + 1) part.end
-        else demand (part.heading.parts == number)
-        (record { index = length text; fault = PartOrder; reason = reasons.PartsMissing })
-        >> Ok (first_or part.heading first))))
+        (form_result (seen >>= after_part text left first number))
     part_shown (Err found) seen = HasFault found.fault seen refl
     part_shown (Ok part) faultless = GoesOn part.heading.parts faultless.shown
         (after_shown part faultless (part.end == length text) refl cut.after)
@@ -122,8 +112,7 @@ abbrev IsKeyedAnswer : Day → Result FormHeading MessageFault → Type 0
 IsKeyedAnswer s seen = IfOk seen (λ first. HasKeyLineForm s first.keys)
 
 last_keyed : (s : Day) (length : ℕ) (first : FormHeading) (right : Bool) → HasKeyLineForm s first.keys
-    → IsKeyedAnswer s
-    (demand right (record { index = length; fault = PartOrder; reason = reasons.PartsMissing }) >> Ok first)
+    → IsKeyedAnswer s (end_answer length first right)
 last_keyed s length first true same = same
 last_keyed s length first false same = tt
 
@@ -134,11 +123,7 @@ module _ (s : Day) (text : List ℕ) where
       → IsKeyedAnswer s (form_from text left (Some heading) (number + 1) end)) where
     after_keyed : (part : FormPart) → IsPartFaultless s text first number index inside cut part
         → (last : Bool) → IsAfterPart text cut.part (first_end text index) cut.others
-        → IsKeyedAnswer s (if not last
-        then form_from text left (Some (first_or part.heading first)) (number + 1) part.end
-        else demand (part.heading.parts == number)
-        (record { index = length text; fault = PartOrder; reason = reasons.PartsMissing })
-        >> Ok (first_or part.heading first))
+        → IsKeyedAnswer s (answer_after text left first number part last)
     after_keyed part faultless true after =
         last_keyed s (length text) (first_or part.heading first) (part.heading.parts == number)
         (keyed_on s text first index part.heading keyed faultless.keyed)
@@ -150,11 +135,7 @@ module _ (s : Day) (text : List ℕ) where
         (keyed_on s text first index part.heading keyed faultless.keyed)
 
     part_keyed : (seen : Result FormPart MessageFault) → IsPartSeen s text first number index inside cut seen
-        → IsKeyedAnswer s (seen >>= (λ part. if not (part.end == length text)
-        then form_from text left (Some (first_or part.heading first)) (number + 1) part.end
-        else demand (part.heading.parts == number)
-        (record { index = length text; fault = PartOrder; reason = reasons.PartsMissing })
-        >> Ok (first_or part.heading first)))
+        → IsKeyedAnswer s (seen >>= after_part text left first number)
     part_keyed (Err found) seen = tt
     part_keyed (Ok part) faultless = after_keyed part faultless (part.end == length text) cut.after
 

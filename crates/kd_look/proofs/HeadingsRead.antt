@@ -184,31 +184,21 @@ end_cases text last body true at is =
 end_cases text last body false at is =
     let line : IsLineAnswer (IsPatternLine []) text last (Ok body) =
     subst (IsLineAnswer (IsPatternLine []) text last) is (line_answer text [] last) in
+    let inside : 1 ≤ length line.line → body ≤ length text = λ some.
+    omega (
+      arith,
+      some,
+      line.size,
+      ap length line.joined,
+      length-drop last text,
+      length-append line.line (drop body text),
+      length-drop body text,
+    ) in
     elim (line.is.1.ended) [
-      | inl feed ↦ (
-        AtFeed (line.joined ∙ ap (λ l. l ++ drop body text) feed),
-        omega (
-          arith,
-          line.size,
-          ap length feed,
-          ap length line.joined,
-          length-drop last text,
-          length-append line.line (drop body text),
-          length-drop body text,
-        ),
-      )
-      | inr return ↦ (
-        AtReturn (line.joined ∙ ap (λ l. l ++ drop body text) return),
-        omega (
-          arith,
-          line.size,
-          ap length return,
-          ap length line.joined,
-          length-drop last text,
-          length-append line.line (drop body text),
-          length-drop body text,
-        ),
-      )
+      | inl feed ↦
+          (AtFeed (line.joined ∙ ap (λ l. l ++ drop body text) feed), inside (omega (arith, ap length feed)))
+      | inr return ↦
+          (AtReturn (line.joined ∙ ap (λ l. l ++ drop body text) return), inside (omega (arith, ap length return)))
     ]
 
 pub end_read : (text : List ℕ) (last body : ℕ) → heading_end text last ≡ Ok body

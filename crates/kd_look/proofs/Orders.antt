@@ -8,7 +8,7 @@ use Rattle.std.proofs.lemmas.List.{length-append, length-take-le, nil_from_lengt
 use Rattle.std.specs.List.{count_by, position, position_from}
 use Rattle.std.specs.Option.{option_map_or}
 use Rattle.kd_tables.specs.Text.{is_text_byte}
-use Rattle.kd_state.specs.AnswerRules.{GoesOn, HasFault}
+use Rattle.kd_state.specs.AnswerRules.{GoesOn, HasFault, ThenNext}
 use Rattle.kd_state.specs.SheetDay.{Day, Rotor, Pin}
 use Rattle.kd_form.specs.declared.fault.FormFault.{FormFault}
 use Rattle.kd_form.specs.declared.fault.FormFault.TheVariants.{BadByte, EmptyText, PartKeys}
@@ -68,9 +68,12 @@ counts_agree s form same (byte ∷ text) =
 -- -------- what `send` answers
 
 module _ {s : Day} {order head text : List ℕ} {keys : List Keys} (is : IsOrder s order keys head text) where
-  head_decides : (answer : Result OrderParts FormFault) → IsHeadAnswer s order answer
-      → InTurn (IsKeysAnswer s) 1 keys (Ok tt)
+  -- the answer tells that the order's keys suit the day, or it is the fault of keys that don't
+  abbrev pub TellsOfKeys : {X : Type 0} → Result X FormFault → Type 0
+  TellsOfKeys answer = InTurn (IsKeysAnswer s) 1 keys (Ok tt)
       ⊎ ((fault : FormFault) × InTurn (IsKeysAnswer s) 1 keys (Err fault) × (answer ≡ Err fault))
+
+  head_decides : (answer : Result OrderParts FormFault) → IsHeadAnswer s order answer → TellsOfKeys answer
   head_decides answer (HasFault fault (position, at, e) d) = absurd
       (no_head_fault s order keys head text position is at)
   head_decides answer (GoesOn parts other (HasFault fault unsuited d)) =
@@ -80,30 +83,25 @@ module _ {s : Day} {order head text : List ℕ} {keys : List Keys} (is : IsOrder
       let same = one_order s order parts.keys keys parts.head head parts.text text other is in
       inl (subst (λ k. InTurn (IsKeysAnswer s) 1 k (Ok tt)) same.0 suited)
 
-  read_decides : (answer : Result OrderParts FormFault) → IsReadAnswer s order answer
-      → InTurn (IsKeysAnswer s) 1 keys (Ok tt)
-      ⊎ ((fault : FormFault) × InTurn (IsKeysAnswer s) 1 keys (Err fault) × (answer ≡ Err fault))
-  read_decides answer (HasFault fault found d) = elim (head_decides (Err fault) found) [
+  -- if the first of two steps tells of the keys, so do both
+  both_decide : {X Y : Type 0} (First : Result X FormFault → Type 0) (Next : X → Result Y FormFault → Type 0)
+      → ((answer : Result X FormFault) → First answer → TellsOfKeys answer)
+      → (answer : Result Y FormFault) → ThenNext First Next answer → TellsOfKeys answer
+  both_decide First Next first answer (HasFault fault found d) = elim (first (Err fault) found) [
     | inl suited ↦ inl suited
     | inr unsuited ↦ inr (unsuited.0, unsuited.1, cc (d, unsuited.2))
   ]
-  read_decides answer (GoesOn parts found d) = elim (head_decides (Ok parts) found) [
+  both_decide First Next first answer (GoesOn x found next) = elim (first (Ok x) found) [
     | inl suited ↦ inl suited
     | inr unsuited ↦ absurd (cc (unsuited.2))
   ]
 
+  read_decides : (answer : Result OrderParts FormFault) → IsReadAnswer s order answer → TellsOfKeys answer
+  read_decides = both_decide (IsHeadAnswer s order) _ head_decides
+
   -- the answer for an order tells whether its keys suit the day
-  pub keys_decide : (answer : Result (List ℕ) FormFault) → IsOrderAnswer s order answer
-      → InTurn (IsKeysAnswer s) 1 keys (Ok tt)
-      ⊎ ((fault : FormFault) × InTurn (IsKeysAnswer s) 1 keys (Err fault) × (answer ≡ Err fault))
-  keys_decide answer (HasFault fault found d) = elim (read_decides (Err fault) found) [
-    | inl suited ↦ inl suited
-    | inr unsuited ↦ inr (unsuited.0, unsuited.1, cc (d, unsuited.2))
-  ]
-  keys_decide answer (GoesOn parts found d) = elim (read_decides (Ok parts) found) [
-    | inl suited ↦ inl suited
-    | inr unsuited ↦ absurd (cc (unsuited.2))
-  ]
+  pub keys_decide : (answer : Result (List ℕ) FormFault) → IsOrderAnswer s order answer → TellsOfKeys answer
+  keys_decide = both_decide (IsReadAnswer s order) _ read_decides
 
   abbrev parts : OrderParts
   parts = record { keys = keys; head = head; text = text }

@@ -19,8 +19,7 @@ use Rattle.kd_state.specs.declared.setting.why.Why.TheVariants.{SlotEmpty}
 use Rattle.kd_state.specs.Machine.{IsMachine, machine_pin, machine_slot}
 use Rattle.kd_state.specs.SameParts.{numbered_item}
 use Rattle.kd_state.specs.Setting.{Carries, Leads, cable_with}
-use Rattle.kd_state.proofs.Carrying.{lug_moved, pin_made, pulled, reflector_made, ring_made, seat_made, turn_made}
-use Rattle.kd_state.proofs.Carrying.{was_put, wheel_turn_made}
+use Rattle.kd_state.proofs.Carrying.{lug_moved, pin_made, turn_made, was_put, wheel_turn_made}
 use Rattle.kd_state.proofs.FirstFault.{found-Ok}
 use Rattle.kd_state.proofs.Prelude.{gets, position-Some}
 use Rattle.kd_state.proofs.Slots.{has_letter-Decides, numbered_here, place_there, seated_in_box}
@@ -35,7 +34,7 @@ use Rattle.kd_page.specs.Spots.{is_at, row_of, row_spot, step_spot}
 use Rattle.kd_page.specs.Windows.{letter_in_slot}
 use Rattle.kd_page.proofs.Groups.{group}
 use Rattle.kd_page.proofs.PageOrders.{row_is}
-use Rattle.kd_page.proofs.MarkedThings.{are_equal, keeps, stays}
+use Rattle.kd_page.proofs.MarkedThings.{are_equal, keeps, pin_keeps, rotor_keeps, stays}
 
 -- Numbers that are at least `more` are at least `from`.
 pub ranked_from : {X : Type 0} (key : X → ℕ) (from more end : ℕ) (xs : List X) → from ≤ more → IsRanked key more end xs
@@ -50,20 +49,8 @@ is_pin (Rotor m) = false
 is_pin (Pin m) = true
 
 kind_step : (m next : Parts) (x : Setting) → Carries m x next → false ≡ false → is_pin next ≡ is_pin m
-kind_step (Rotor m) next (Pull cable at) carries none = keeps is_pin _ (pulled m cable at next carries).made refl
-kind_step (Rotor m) next (Put cable at) carries none = keeps is_pin _ (was_put m cable at next carries).made refl
-kind_step (Rotor m) next (Seat slot wheel) carries none = keeps is_pin _ (seat_made m slot wheel next carries).1 refl
-kind_step (Rotor m) next (SeatReflector reflector) carries none =
-    keeps is_pin _ (reflector_made m reflector next carries).1 refl
-kind_step (Rotor m) next (RingTo wheel to) carries none = keeps is_pin _ (ring_made m wheel to next carries) refl
-kind_step (Rotor m) next (Turn slot to) carries none = keeps is_pin _ (turn_made m slot to next carries).1 refl
-kind_step (Rotor m) next x carries none = absurd (cc)
-kind_step (Pin m) next (Turn wheel to) carries none = keeps is_pin _ (wheel_turn_made m wheel to next carries).3 refl
-kind_step (Pin m) next (PinTo wheel at effective) carries none =
-    keeps is_pin _ (pin_made m wheel at effective next carries).1 refl
-kind_step (Pin m) next (LugTo bar lug place) carries none =
-    keeps is_pin _ (lug_moved m bar lug place next carries).made refl
-kind_step (Pin m) next x carries none = absurd (cc)
+kind_step (Rotor m) next x carries none = rotor_keeps is_pin (λ m n. refl) m next x carries
+kind_step (Pin m) next x carries none = pin_keeps is_pin (λ m n. refl) m next x carries
 
 never : (xs : List Setting) → list_any (λ x. false) xs ≡ false
 never [] = refl

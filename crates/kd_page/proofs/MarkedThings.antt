@@ -13,6 +13,8 @@ use Rattle.kd_tables.specs.Rings.{place_on}
 unfoldable use Rattle.kd_tables.specs.Rings.{ring_of}
 use Rattle.kd_tables.specs.Tables.{box_of}
 use Rattle.kd_state.specs.declared.machine.parts.Parts.{Parts}
+use Rattle.kd_state.specs.declared.machine.pin_parts.PinParts.{PinParts}
+use Rattle.kd_state.specs.declared.machine.rotor_parts.RotorParts.{RotorParts}
 use Rattle.kd_state.specs.declared.machine.parts.Parts.TheVariants.{Pin, Rotor}
 use Rattle.kd_state.specs.declared.setting.Setting.{Setting}
 use Rattle.kd_state.specs.declared.setting.Setting.TheVariants.{Pull, Put, Seat, SeatReflector, RingTo, Turn, PinTo}
@@ -55,6 +57,34 @@ pub keeps : {A : Type 0} (shown : Parts → A) (old : A) {made next : Parts} →
     → shown next ≡ old
 keeps shown old is same = subst (λ p. shown p ≡ old) is same
 
+-- Any two Converters show the same of a part that only rotor machines have. So a setting of a Converter keeps it.
+pub pin_keeps : {A : Type 0} (shown : Parts → A) → ((m n : PinParts) → shown (Pin n) ≡ shown (Pin m)) → (m : PinParts)
+    (next : Parts) (x : Setting) → Carries (Pin m) x next → shown next ≡ shown (Pin m)
+pin_keeps shown alike m next (Turn wheel letter) carries =
+    keeps shown _ (wheel_turn_made m wheel letter next carries).3 (alike m _)
+pin_keeps shown alike m next (PinTo wheel letter effective) carries =
+    keeps shown _ (pin_made m wheel letter effective next carries).1 (alike m _)
+pin_keeps shown alike m next (LugTo bar lug place) carries =
+    keeps shown _ (lug_moved m bar lug place next carries).made (alike m _)
+pin_keeps shown alike m next x carries = absurd (cc)
+
+-- Any two rotor machines show the same of a part that only Converters have. So a setting of a rotor machine keeps it.
+pub rotor_keeps : {A : Type 0} (shown : Parts → A) → ((m n : RotorParts) → shown (Rotor n) ≡ shown (Rotor m))
+    → (m : RotorParts) (next : Parts) (x : Setting) → Carries (Rotor m) x next → shown next ≡ shown (Rotor m)
+rotor_keeps shown alike m next (Pull cable letter) carries =
+    keeps shown _ (pulled m cable letter next carries).made (alike m _)
+rotor_keeps shown alike m next (Put cable letter) carries =
+    keeps shown _ (was_put m cable letter next carries).made (alike m _)
+rotor_keeps shown alike m next (Seat slot wheel) carries =
+    keeps shown _ (seat_made m slot wheel next carries).1 (alike m _)
+rotor_keeps shown alike m next (SeatReflector reflector) carries =
+    keeps shown _ (reflector_made m reflector next carries).1 (alike m _)
+rotor_keeps shown alike m next (RingTo wheel letter) carries =
+    keeps shown _ (ring_made m wheel letter next carries) (alike m _)
+rotor_keeps shown alike m next (Turn slot letter) carries =
+    keeps shown _ (turn_made m slot letter next carries).1 (alike m _)
+rotor_keeps shown alike m next x carries = absurd (cc)
+
 reflector_step : (m next : Parts) (x : Setting) → Carries m x next → sets_reflector x ≡ false
     → machine_reflector next ≡ machine_reflector m
 reflector_step (Rotor m) next (Pull cable letter) carries none =
@@ -69,13 +99,7 @@ reflector_step (Rotor m) next (RingTo wheel letter) carries none =
 reflector_step (Rotor m) next (Turn slot letter) carries none =
     keeps machine_reflector _ (turn_made m slot letter next carries).1 refl
 reflector_step (Rotor m) next x carries none = absurd (cc)
-reflector_step (Pin m) next (Turn wheel letter) carries none =
-    keeps machine_reflector _ (wheel_turn_made m wheel letter next carries).3 refl
-reflector_step (Pin m) next (PinTo wheel letter effective) carries none =
-    keeps machine_reflector _ (pin_made m wheel letter effective next carries).1 refl
-reflector_step (Pin m) next (LugTo bar lug place) carries none =
-    keeps machine_reflector _ (lug_moved m bar lug place next carries).made refl
-reflector_step (Pin m) next x carries none = absurd (cc)
+reflector_step (Pin m) next x carries none = pin_keeps machine_reflector (λ m n. refl) m next x carries
 
 pub reflector_stays : (m n : Parts) (xs : List Setting) → Leads m xs n → list_any sets_reflector xs ≡ false
     → machine_reflector n ≡ machine_reflector m
@@ -83,19 +107,7 @@ reflector_stays = stays machine_reflector sets_reflector reflector_step
 
 bar_step : (bar : ℕ) (m next : Parts) (x : Setting) → Carries m x next → moves_lug bar x ≡ false
     → machine_standing next bar ≡ machine_standing m bar
-bar_step bar (Rotor m) next (Pull cable letter) carries none =
-    keeps (λ p. machine_standing p bar) _ (pulled m cable letter next carries).made refl
-bar_step bar (Rotor m) next (Put cable letter) carries none =
-    keeps (λ p. machine_standing p bar) _ (was_put m cable letter next carries).made refl
-bar_step bar (Rotor m) next (Seat slot wheel) carries none =
-    keeps (λ p. machine_standing p bar) _ (seat_made m slot wheel next carries).1 refl
-bar_step bar (Rotor m) next (SeatReflector reflector) carries none =
-    keeps (λ p. machine_standing p bar) _ (reflector_made m reflector next carries).1 refl
-bar_step bar (Rotor m) next (RingTo wheel letter) carries none =
-    keeps (λ p. machine_standing p bar) _ (ring_made m wheel letter next carries) refl
-bar_step bar (Rotor m) next (Turn slot letter) carries none =
-    keeps (λ p. machine_standing p bar) _ (turn_made m slot letter next carries).1 refl
-bar_step bar (Rotor m) next x carries none = absurd (cc)
+bar_step bar (Rotor m) next x carries none = rotor_keeps (λ p. machine_standing p bar) (λ m n. refl) m next x carries
 bar_step bar (Pin m) next (Turn wheel letter) carries none =
     keeps (λ p. machine_standing p bar) _ (wheel_turn_made m wheel letter next carries).3 refl
 bar_step bar (Pin m) next (PinTo wheel letter effective) carries none =
@@ -112,19 +124,7 @@ bar_stays bar = stays (λ p. machine_standing p bar) (moves_lug bar) (bar_step b
 
 letter_step : (wheel : ℕ) (m next : Parts) (x : Setting) → Carries m x next → turns_pin_wheel wheel x ≡ false
     → machine_pin_letter next wheel ≡ machine_pin_letter m wheel
-letter_step wheel (Rotor m) next (Pull cable letter) carries none =
-    keeps (λ p. machine_pin_letter p wheel) _ (pulled m cable letter next carries).made refl
-letter_step wheel (Rotor m) next (Put cable letter) carries none =
-    keeps (λ p. machine_pin_letter p wheel) _ (was_put m cable letter next carries).made refl
-letter_step wheel (Rotor m) next (Seat slot seated) carries none =
-    keeps (λ p. machine_pin_letter p wheel) _ (seat_made m slot seated next carries).1 refl
-letter_step wheel (Rotor m) next (SeatReflector reflector) carries none =
-    keeps (λ p. machine_pin_letter p wheel) _ (reflector_made m reflector next carries).1 refl
-letter_step wheel (Rotor m) next (RingTo ring letter) carries none =
-    keeps (λ p. machine_pin_letter p wheel) _ (ring_made m ring letter next carries) refl
-letter_step wheel (Rotor m) next (Turn slot letter) carries none =
-    keeps (λ p. machine_pin_letter p wheel) _ (turn_made m slot letter next carries).1 refl
-letter_step wheel (Rotor m) next x carries none = absurd (cc)
+letter_step wheel (Rotor m) next x carries none = rotor_keeps (λ p. machine_pin_letter p wheel) (λ m n. refl) m next x carries
 letter_step wheel (Pin m) next (Turn other letter) carries none =
     let turned = wheel_turn_made m other letter next carries in
     let apart : wheel ≢ other = λ same. absurd (grind (arith, same, none)) in
@@ -169,13 +169,7 @@ ring_step wheel (Rotor m) next (RingTo other letter) carries none =
 ring_step wheel (Rotor m) next (Turn slot letter) carries none =
     keeps (λ p. machine_ring p wheel) _ (turn_made m slot letter next carries).1 refl
 ring_step wheel (Rotor m) next x carries none = absurd (cc)
-ring_step wheel (Pin m) next (Turn other letter) carries none =
-    keeps (λ p. machine_ring p wheel) _ (wheel_turn_made m other letter next carries).3 refl
-ring_step wheel (Pin m) next (PinTo other letter effective) carries none =
-    keeps (λ p. machine_ring p wheel) _ (pin_made m other letter effective next carries).1 refl
-ring_step wheel (Pin m) next (LugTo bar lug place) carries none =
-    keeps (λ p. machine_ring p wheel) _ (lug_moved m bar lug place next carries).made refl
-ring_step wheel (Pin m) next x carries none = absurd (cc)
+ring_step wheel (Pin m) next x carries none = pin_keeps (λ p. machine_ring p wheel) (λ m n. refl) m next x carries
 
 pub ring_stays : (wheel : Wheel) (m n : Parts) (xs : List Setting) → Leads m xs n → list_any (sets_ring wheel) xs ≡ false
     → machine_ring n wheel ≡ machine_ring m wheel
@@ -259,13 +253,7 @@ plug_in_step cable letter (Rotor m) next (RingTo wheel to) carries none was =
 plug_in_step cable letter (Rotor m) next (Turn slot to) carries none was =
     keeps (λ p. has_plug p cable letter) false (turn_made m slot to next carries).1 was
 plug_in_step cable letter (Rotor m) next x carries none was = absurd (cc)
-plug_in_step cable letter (Pin m) next (Turn wheel to) carries none was =
-    keeps (λ p. has_plug p cable letter) false (wheel_turn_made m wheel to next carries).3 was
-plug_in_step cable letter (Pin m) next (PinTo wheel to effective) carries none was =
-    keeps (λ p. has_plug p cable letter) false (pin_made m wheel to effective next carries).1 was
-plug_in_step cable letter (Pin m) next (LugTo bar lug place) carries none was =
-    keeps (λ p. has_plug p cable letter) false (lug_moved m bar lug place next carries).made was
-plug_in_step cable letter (Pin m) next x carries none was = absurd (cc)
+plug_in_step cable letter (Pin m) next x carries none was = pin_keeps (λ p. has_plug p cable letter) (λ m n. refl) m next x carries ∙ was
 
 pub plug_stays_out : (cable letter : ℕ) (m n : Parts) (xs : List Setting) → Leads m xs n
     → list_any (puts_plug cable letter) xs ≡ false → has_plug m cable letter ≡ false → has_plug n cable letter ≡ false
@@ -293,13 +281,7 @@ plug_out_step cable letter (Rotor m) next (RingTo wheel to) carries none was =
 plug_out_step cable letter (Rotor m) next (Turn slot to) carries none was =
     keeps (λ p. has_plug p cable letter) true (turn_made m slot to next carries).1 was
 plug_out_step cable letter (Rotor m) next x carries none was = absurd (cc)
-plug_out_step cable letter (Pin m) next (Turn wheel to) carries none was =
-    keeps (λ p. has_plug p cable letter) true (wheel_turn_made m wheel to next carries).3 was
-plug_out_step cable letter (Pin m) next (PinTo wheel to effective) carries none was =
-    keeps (λ p. has_plug p cable letter) true (pin_made m wheel to effective next carries).1 was
-plug_out_step cable letter (Pin m) next (LugTo bar lug place) carries none was =
-    keeps (λ p. has_plug p cable letter) true (lug_moved m bar lug place next carries).made was
-plug_out_step cable letter (Pin m) next x carries none was = absurd (cc)
+plug_out_step cable letter (Pin m) next x carries none was = pin_keeps (λ p. has_plug p cable letter) (λ m n. refl) m next x carries ∙ was
 
 pub plug_stays_in : (cable letter : ℕ) (m n : Parts) (xs : List Setting) → Leads m xs n
     → list_any (pulls_plug cable letter) xs ≡ false → has_plug m cable letter ≡ true → has_plug n cable letter ≡ true
@@ -365,19 +347,7 @@ pin_kept pins wheel letter other at effective true has is none =
 
 pin_step : (wheel letter : ℕ) (m next : Parts) (x : Setting) → Carries m x next → sets_pin wheel letter x ≡ false
     → machine_pin next wheel letter ≡ machine_pin m wheel letter
-pin_step wheel letter (Rotor m) next (Pull cable at) carries none =
-    keeps (λ p. machine_pin p wheel letter) _ (pulled m cable at next carries).made refl
-pin_step wheel letter (Rotor m) next (Put cable at) carries none =
-    keeps (λ p. machine_pin p wheel letter) _ (was_put m cable at next carries).made refl
-pin_step wheel letter (Rotor m) next (Seat slot seated) carries none =
-    keeps (λ p. machine_pin p wheel letter) _ (seat_made m slot seated next carries).1 refl
-pin_step wheel letter (Rotor m) next (SeatReflector reflector) carries none =
-    keeps (λ p. machine_pin p wheel letter) _ (reflector_made m reflector next carries).1 refl
-pin_step wheel letter (Rotor m) next (RingTo other to) carries none =
-    keeps (λ p. machine_pin p wheel letter) _ (ring_made m other to next carries) refl
-pin_step wheel letter (Rotor m) next (Turn slot to) carries none =
-    keeps (λ p. machine_pin p wheel letter) _ (turn_made m slot to next carries).1 refl
-pin_step wheel letter (Rotor m) next x carries none = absurd (cc)
+pin_step wheel letter (Rotor m) next x carries none = rotor_keeps (λ p. machine_pin p wheel letter) (λ m n. refl) m next x carries
 pin_step wheel letter (Pin m) next (Turn other to) carries none =
     keeps (λ p. machine_pin p wheel letter) _ (wheel_turn_made m other to next carries).3 refl
 pin_step wheel letter (Pin m) next (PinTo other at effective) carries none =
@@ -463,13 +433,7 @@ wheel_step slot wheel (Rotor m) next (RingTo other to) carries none was =
 wheel_step slot wheel (Rotor m) next (Turn other to) carries none was =
     keeps (λ p. is_seated p slot wheel) false (turn_made m other to next carries).1 was
 wheel_step slot wheel (Rotor m) next x carries none was = absurd (cc)
-wheel_step slot wheel (Pin m) next (Turn other to) carries none was =
-    keeps (λ p. is_seated p slot wheel) false (wheel_turn_made m other to next carries).3 was
-wheel_step slot wheel (Pin m) next (PinTo other at effective) carries none was =
-    keeps (λ p. is_seated p slot wheel) false (pin_made m other at effective next carries).1 was
-wheel_step slot wheel (Pin m) next (LugTo bar lug place) carries none was =
-    keeps (λ p. is_seated p slot wheel) false (lug_moved m bar lug place next carries).made was
-wheel_step slot wheel (Pin m) next x carries none was = absurd (cc)
+wheel_step slot wheel (Pin m) next x carries none was = pin_keeps (λ p. is_seated p slot wheel) (λ m n. refl) m next x carries ∙ was
 
 pub wheel_stays_out : (slot : ℕ) (wheel : Wheel) (m n : Parts) (xs : List Setting) → Leads m xs n
     → list_any (puts_wheel slot wheel) xs ≡ false → is_seated m slot wheel ≡ false → is_seated n slot wheel ≡ false

@@ -2,7 +2,6 @@
 use Rattle.std.proofs.Common.{◌≡◌, ℕ, zero, suc, ◌+◌, ◌≤◌, Bool, ◌&&◌, List, [], ◌∷◌, ◌++◌, filter, flat_map, arith}
 use Rattle.std.proofs.Common.{refl, ap₂, sym, ◌∙◌}
 use Rattle.std.proofs.Common.{nat_eq, append_assoc, append-nil}
-use Rattle.kd_tables.specs.Permutation.{alphabet}
 use Rattle.kd_state.specs.declared.setting.Setting.{Setting}
 use Rattle.kd_pictures.specs.declared.numbers.TheConstants.{PIN_WHEELS}
 use Rattle.kd_page.specs.declared.spots.Step.{Step}
@@ -18,15 +17,6 @@ narrowed : {X : Type 0} (p q r : X → Bool) → ((x : X) → r x ≡ (p x && q 
     → filter r xs ≡ filter q (filter p xs)
 narrowed p q r both [] = refl
 narrowed p q r both (x ∷ xs) = grind (arith, both x, narrowed p q r both xs)
-
-same_filter : {X : Type 0} (p q : X → Bool) → ((x : X) → p x ≡ q x) → (xs : List X) → filter p xs ≡ filter q xs
-same_filter p q same [] = refl
-same_filter p q same (x ∷ xs) = grind (arith, same x, same_filter p q same xs)
-
-same_flat_map : {X A : Type 0} (f g : X → List A) → ((x : X) → f x ≡ g x) → (xs : List X)
-    → flat_map f xs ≡ flat_map g xs
-same_flat_map f g same [] = refl
-same_flat_map f g same (x ∷ xs) = ap₂ (λ a b. a ++ b) (same x) (same_flat_map f g same xs)
 
 -- this many numbers, from `from` on
 abbrev numbers : ℕ → ℕ → List ℕ
@@ -47,7 +37,8 @@ ranked_parts key f xs are from count end within ranked =
 
 step_is : (step : Step) (xs : List Setting) → settings_at (step_spot step) xs ≡ group step_number (step_rank step) xs
 step_is step xs =
-    same_filter (is_at (step_spot step)) (λ x. nat_eq (step_number x) (step_rank step)) (λ x. grind arith) xs
+    let same : (x : Setting) → is_at (step_spot step) x ≡ nat_eq (step_number x) (step_rank step) = λ x. grind arith in
+    λ i. filter (λ x. same x i) xs
 
 pub row_is : (step : Step) (xs : List Setting) (row : ℕ)
     → settings_at (row_spot step row) xs ≡ group row_of row (settings_at (step_spot step) xs)
@@ -71,11 +62,8 @@ rows_are step xs from count end within ranked =
 pins_are : (xs : List Setting) → ((wheel : ℕ) → IsRanked cell_of 0 26 (settings_at (row_spot Pins wheel) xs))
     → pin_by_pin xs ≡ row_by_row Pins PIN_WHEELS xs
 pins_are xs ranked =
-    same_flat_map (λ wheel. flat_map (λ letter. settings_at (pin_spot wheel letter) xs) alphabet)
-    (λ wheel. settings_at (row_spot Pins wheel) xs)
-    (λ wheel. ranked_parts cell_of (λ letter. settings_at (pin_spot wheel letter) xs)
-    (settings_at (row_spot Pins wheel) xs) (cell_is wheel xs) 0 26 26 (omega arith) (ranked wheel))
-    PIN_WHEELS
+    λ i. flat_map (λ wheel. ranked_parts cell_of (λ letter. settings_at (pin_spot wheel letter) xs)
+    (settings_at (row_spot Pins wheel) xs) (cell_is wheel xs) 0 26 26 (omega arith) (ranked wheel) i) PIN_WHEELS
 
 five_of_seven : {X : Type 0} (a b c d e f g all : List X) → e ≡ [] → f ≡ []
     → a ++ (b ++ (c ++ (d ++ (e ++ (f ++ (g ++ [])))))) ≡ all → a ++ b ++ c ++ d ++ g ≡ all

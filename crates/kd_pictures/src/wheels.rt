@@ -360,30 +360,21 @@ fn draw_ring<W: Sink>(
     let Point { x, y } = at;
     match ring {
         None => draw(sink, ""),
-        Some(letter) if other == Some(letter) => fill(
-            sink,
-            language,
-            RING_SHOWN,
-            &[
-                Value::Number(x + 48),
-                Value::Number(y + 85),
-                Value::Letter(letter),
-                Value::Ordinal(letter),
-            ],
-        ),
-        Some(letter) => fill(
-            sink,
-            language,
-            NEW_RING,
-            &[
+        Some(letter) => {
+            let values: &[Value] = &[
                 Value::Number(x + 10),
                 Value::Number(y + 64),
                 Value::Number(x + 48),
                 Value::Number(y + 85),
                 Value::Letter(letter),
                 Value::Ordinal(letter),
-            ],
-        ),
+            ];
+            if other == Some(letter) {
+                fill(sink, language, RING_SHOWN, &values[2..]);
+            } else {
+                fill(sink, language, NEW_RING, values);
+            }
+        }
     }
 }
 

@@ -70,10 +70,7 @@ fn form_from(
 fn first_or(own: FormHeading, first: Option<FormHeading>) -> FormHeading
     ensures { result ≡ first_or own first }
 {
-    match first {
-        Some(first) => first,
-        None => own,
-    }
+    first.unwrap_or(own)
 }
 
 /// Part `number` of the form, which begins at `index`, or the part's first fault.

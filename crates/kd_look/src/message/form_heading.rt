@@ -148,10 +148,7 @@ fn heading_keys(text: &[u8], index: usize) -> KeyLine
 fn keys_or(own: KeyLine, first: Option<KeyLine>) -> KeyLine
     ensures { result ≡ keys_or own first }
 {
-    match first {
-        Some(first) => first,
-        None => own,
-    }
+    first.unwrap_or(own)
 }
 
 /// The pattern for the end of a heading line, after the number of letters.
