@@ -1,5 +1,6 @@
 //! The page for sending an order.
-ghost use Rattle.std.specs.Prelude.{◌≡◌, ◌+◌, ◌≤◌, ◌++◌, ◌||◌, ℕ, List, [], MatchOption, false, flat_map, length, IsErr, Ok};
+ghost use Rattle.std.specs.Prelude.{◌≡◌, ◌+◌, ◌≤◌, ◌++◌, ◌||◌, ℕ, List, [], false, flat_map, length};
+ghost use Rattle.std.specs.Prelude.{IsErr, MatchOption, Ok};
 ghost use Rattle.std.specs.List.{range_with_len};
 ghost use Rattle.kd_tables.specs.{Ports.{port}, WriteFault.{is_device}};
 ghost use Rattle.kd_form.specs.Keys.{AreKeys};
@@ -10,7 +11,8 @@ ghost use Rattle.kd_pictures.specs.Drawing.{Draws};
 ghost use Rattle.kd_language.specs.Language.{in_language};
 ghost use Rattle.kd_part_sheet.specs.PartWork.{Work};
 ghost use Rattle.kd_message.specs.FormSheet.{form_part};
-ghost use Rattle.kd_message.specs.SendPage.{AreKeysOfText, AreMade, AreOrderSheets, AreWorks, HasForm, IsNextPart, IsSendPage};
+ghost use Rattle.kd_message.specs.SendPage.{AreKeysOfText, AreMade, AreOrderSheets, AreWorks, HasForm};
+ghost use Rattle.kd_message.specs.SendPage.{IsNextPart, IsSendPage};
 ghost use Rattle.kd_message.specs.SendPage.{IsSendPageAnswer, form_parts, list_head, list_text, listed_sheet};
 ghost use Rattle.kd_message.specs.SendPage.{listed_text, name_in_place, part_name, part_sheets, sheet_number};
 ghost use Rattle.kd_message.specs.SendPage.{sheet_to_send, sheets_text, text_pieces, title_text};
