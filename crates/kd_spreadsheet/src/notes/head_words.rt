@@ -30,37 +30,12 @@ pub fn head_words(head: &Head<'_>, rows: &[ByteRecord]) -> Words {
     }
     if !names_none(head.columns()) {
         for cell in &ALL_CELLS {
-            if is_needed(head, rows, *cell) {
-                tell_missing(&mut lines, head, *cell);
-            }
+            tell_missing(&mut lines, head, rows, *cell);
         }
     } else if lines.is_empty() {
         lines.tell(nameless_words(cell_at(head.names(), Some(0))), &[]);
     }
     lines
-}
-
-/// Whether every table needs `cell`, or one of `rows` needs it.
-fn is_needed(head: &Head<'_>, rows: &[ByteRecord], cell: Cell) -> bool {
-    if matches!(cell, Cell::Day | Cell::Model) {
-        return true;
-    }
-    for row in rows {
-        if !is_blank_row(head.columns(), row) && is_cell_of_row(head, row, cell) {
-            return true;
-        }
-    }
-    false
-}
-
-/// Whether the model of `row` needs `cell`.
-fn is_cell_of_row(head: &Head<'_>, row: &ByteRecord, cell: Cell) -> bool {
-    for other in known_cells(head.options(), head.columns(), row) {
-        if *other == cell {
-            return true;
-        }
-    }
-    false
 }
 
 /// If the column of `cell` is misnamed, asks whether this column is meant by the mistyped name.
@@ -126,15 +101,38 @@ fn meant_name(cell: Cell, name: &[u8]) -> &'static str {
     }
 }
 
-/// If the table lacks the column of `cell`, and no misnamed column is meant, says so. A column that no row must have is
-/// left out.
-fn tell_missing(lines: &mut Words, head: &Head<'_>, cell: Cell) {
+/// If the column of `cell` is needed, but neither misnamed nor there, says that the table lacks the column.
+fn tell_missing(lines: &mut Words, head: &Head<'_>, rows: &[ByteRecord], cell: Cell) {
     if !is_optional(cell)
         && !has_text(head.options(), head.columns(), cell)
         && near_column(head.columns(), head.names(), cell).is_none()
+        && is_in_tables(head, rows, cell)
     {
         missing_column(lines, head, cell);
     }
+}
+
+/// Whether every table has `cell`, or a model of `rows` has it.
+fn is_in_tables(head: &Head<'_>, rows: &[ByteRecord], cell: Cell) -> bool {
+    if matches!(cell, Cell::Day | Cell::Model) {
+        return true;
+    }
+    for row in rows {
+        if !is_blank_row(head.columns(), row) && is_in_row(head, row, cell) {
+            return true;
+        }
+    }
+    false
+}
+
+/// Whether the model of `row` has `cell`.
+fn is_in_row(head: &Head<'_>, row: &ByteRecord, cell: Cell) -> bool {
+    for other in known_cells(head.options(), head.columns(), row) {
+        if *other == cell {
+            return true;
+        }
+    }
+    false
 }
 
 /// Says that the table lacks the column of `cell`.
