@@ -31,8 +31,8 @@ next_part_start p count part = record
 abbrev pub PartsProperty : Type 1
 PartsProperty = PartStart → List (List ℕ) → Type 0
 
--- The first parts, from the start `p` on, were read in order and without a fault. `Holds` is true for the parts that
--- are left. `letters` are the deciphered letters of the parts that were read.
+-- Reading began at `p`. None, some or all of the parts were read, in order and without a fault. `letters` are their
+-- deciphered letters. `Holds` is true for the parts that are left.
 abbrev pub ReadsPartsTo : Day → PartsProperty → PartStart → List (List ℕ) → List ℕ → Type 0
 ReadsPartsTo s Holds p [] letters = Holds p [] × (letters ≡ [])
 ReadsPartsTo s Holds p (part ∷ parts) letters =

@@ -16,7 +16,7 @@ abbrev pub after_blanks : List ℕ → List ℕ
 after_blanks [] = []
 after_blanks (byte ∷ bytes) = if is_blank byte then after_blanks bytes else byte ∷ bytes
 
--- how many signs of `word` stand at the same place in the first line of `bytes`; small letters mean
+-- for how many signs of `word` the first line of `bytes` has the same sign at this place; small letters mean
 -- capitals
 unfoldable pub right_signs : List ℕ → List ℕ → ℕ
 right_signs (letter ∷ word) (byte ∷ bytes) =
@@ -24,7 +24,7 @@ right_signs (letter ∷ word) (byte ∷ bytes) =
 right_signs [] bytes = 0
 right_signs (letter ∷ word) [] = 0
 
--- how many signs of `word` stand at the same place in the first line of `bytes`, or are lost there
+-- for how many signs of `word` the first line of `bytes` has the same sign or a lost one at this place
 unfoldable pub fitting_signs : List ℕ → List ℕ → ℕ
 fitting_signs (letter ∷ word) (byte ∷ bytes) =
     if byte == 10 then 0

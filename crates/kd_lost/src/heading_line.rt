@@ -227,16 +227,14 @@ fn are_right(least: usize, word: &[u8], bytes: &[u8]) -> bool
     right_signs(word, bytes) >= least
 }
 
-/// Whether at least `least` signs of `word` stand at the same place in `bytes`, or are lost there.
-///
-/// Only the first line of `bytes` counts.
+/// Whether the first line of `bytes` has the same sign or a lost one at the places of at least `least` signs of `word`.
 fn are_fitting(least: usize, word: &[u8], bytes: &[u8]) -> bool
     ensures { result ≡ nat_le least (fitting_signs word.now bytes.now) }
 {
     fitting_signs(word, bytes) >= least
 }
 
-/// How many signs of `word` stand at the same place in the first line of `bytes`.
+/// For how many signs of `word` the first line of `bytes` has the same sign at this place.
 fn right_signs(word: &[u8], bytes: &[u8]) -> usize
     ensures signs { result ≡ right_signs word.now bytes.now }
     ensures few { result ≤ length word.now }
@@ -251,7 +249,7 @@ fn right_signs(word: &[u8], bytes: &[u8]) -> usize
     0
 }
 
-/// How many signs of `word` stand at the same place in the first line of `bytes`, or are lost there.
+/// For how many signs of `word` the first line of `bytes` has the same sign or a lost one at this place.
 fn fitting_signs(word: &[u8], bytes: &[u8]) -> usize
     ensures signs { result ≡ fitting_signs word.now bytes.now }
     ensures few { result ≤ length word.now }

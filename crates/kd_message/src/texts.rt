@@ -277,8 +277,8 @@ pub const FULL_GROUPS: Text = (
 
 pub const FULL_GROUPS_END: Text = (" may be right.", " stimmen.");
 
-/// In the sentence about a short line: the space before the words for the line. `LINE_HAS` stands before the number of
-/// the line's letters, and `FULL_LINE` after this number.
+/// A sentence about a short line begins with this space, since another sentence stands before it. Then come the words
+/// for the line, `LINE_HAS`, the number of the line's letters and `FULL_LINE`.
 pub const GAP: &str = " ";
 
 pub const LINE_HAS: Text = (" has ", " hat ");

@@ -90,7 +90,7 @@ warnings_text l sheet warnings =
     ++ text_if warnings.wrong_day (sheet_text l sheet texts.WRONG_DAY)
     ++ text_if warnings.not_tested (sheet_text l sheet texts.NOT_TESTED)
 
--- the picture of the windows to set before the text; nothing on a worksheet if the first step finds these windows
+-- the picture of the windows to set before the text; none if, on a worksheet, the first step finds these windows
 abbrev pub start_text : Language → Sheet → PartName → List ℕ → List ℕ
 start_text l sheet name letters =
     if are_open name.results && not (has_given_start sheet) then [] else windows_text l (is_converter name.model) letters

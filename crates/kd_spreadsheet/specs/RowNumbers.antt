@@ -62,8 +62,8 @@ pub record AreLineEnds (bytes : List ℕ) (count : ℕ) (left : List ℕ) : Type
       ≡ numbers_from separator (AtStart false) (number + count) left
   pub shorter : count + length left ≤ length bytes
 
--- `bytes` count as one row that isn't empty, and then the rows in `left`. `left` is empty, or at least two bytes
--- shorter than `bytes`. Or both `bytes` and `left` are empty.
+-- In `bytes`, one row that isn't empty stands before the rows of `left`. `left` is empty, or at least two bytes shorter
+-- than `bytes`. If `bytes` has no row, both are empty.
 pub data IsRowBefore (separator : ℕ) (bytes left : List ℕ) : Type 0 where
   NoRow : bytes ≡ [] → left ≡ [] → IsRowBefore separator bytes left
   OneRow : ((number : ℕ) → numbers_from separator (AtStart false) number bytes
