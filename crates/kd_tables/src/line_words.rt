@@ -34,16 +34,10 @@ pub fn split_words<const N: usize>(line: &[u8]) -> Option<ArrayVec<&[u8], N>>
     let mut words = ArrayVec::new();
     let mut rest = line;
     while let Some((word, after)) = split_once(rest, b' ') {
-        if words.is_full() {
-            return None;
-        }
-        words.push(word);
+        words.try_push(word).ok()?;
         rest = after;
     }
-    if words.is_full() {
-        return None;
-    }
-    words.push(rest);
+    words.try_push(rest).ok()?;
     Some(words)
 }
 
