@@ -1,5 +1,5 @@
 //! The line of a setting, as it stands in a card or in a list.
-ghost use Rattle.std.specs.Prelude.{◌≡◌, ◌≢◌, ◌<◌, ◌≤◌, [], ◌∷◌, ◌++◌, length, map, decimal, IfSome, MatchOption};
+ghost use Rattle.std.specs.Prelude.{◌≡◌, ◌≢◌, ◌<◌, ◌≤◌, [], ◌∷◌, ◌++◌, codes, length, map, decimal, IfSome, MatchOption};
 ghost use Rattle.arrayvec.specs.ArrayString.{array_string_len};
 ghost use Rattle.kd_state.specs.declared.setting.Setting.TheVariants.{Seat, SeatReflector, RingTo, PinTo, LugTo};
 ghost use Rattle.kd_tables.specs.Text.{letters_text};
@@ -160,19 +160,43 @@ fn setting_of_three_words(keyword: &[u8], first: &[u8], second: &[u8]) -> Option
     ensures { IsSettingOfWords (keyword.now ∷ first.now ∷ second.now ∷ []) result }
 {
     if is_word(keyword, "RING") {
-        return Some(Setting::RingTo {
-            wheel: Wheel::from_text(first)?,
-            letter: letter_of_text(second)?,
-        });
+        return ring_setting(first, second);
     }
     let number = number_of_text(first)?;
     if is_word(keyword, "SEAT") {
-        return Some(Setting::Seat {
-            slot: number,
-            wheel: Wheel::from_text(second)?,
-        });
+        seat_setting(number, second)
+    } else {
+        letter_setting(keyword, number, second)
     }
-    let letter = letter_of_text(second)?;
+}
+
+/// The setting whose line has the words `RING`, `wheel` and `letter`; `None` if there is no such setting.
+fn ring_setting(wheel: &[u8], letter: &[u8]) -> Option<Setting>
+    ensures { IsSettingOfWords (codes "RING" ∷ wheel.now ∷ letter.now ∷ []) result }
+{
+    Some(Setting::RingTo {
+        wheel: Wheel::from_text(wheel)?,
+        letter: letter_of_text(letter)?,
+    })
+}
+
+/// The setting whose line has the words `SEAT`, `slot` and `wheel`; `None` if there is no such setting.
+fn seat_setting(slot: u8, wheel: &[u8]) -> Option<Setting>
+    ensures { IsSettingOfWords (codes "SEAT" ∷ decimal slot ∷ wheel.now ∷ []) result }
+{
+    Some(Setting::Seat {
+        slot,
+        wheel: Wheel::from_text(wheel)?,
+    })
+}
+
+/// The setting whose line has the words `keyword`, `number` and `letter`; `None` if there is no such setting.
+fn letter_setting(keyword: &[u8], number: u8, letter: &[u8]) -> Option<Setting>
+    requires no_ring { keyword.now ≢ codes "RING" }
+    requires no_seat { keyword.now ≢ codes "SEAT" }
+    ensures { IsSettingOfWords (keyword.now ∷ decimal number ∷ letter.now ∷ []) result }
+{
+    let letter = letter_of_text(letter)?;
     if is_word(keyword, "PULL") {
         Some(Setting::Pull {
             cable: number,
@@ -204,20 +228,34 @@ fn setting_of_four_words(
 {
     let number = number_of_text(first)?;
     if is_word(keyword, "PIN") {
-        Some(Setting::PinTo {
-            wheel: number,
-            letter: letter_of_text(second)?,
-            effective: effective_of_text(third)?,
-        })
+        pin_setting(number, second, third)
     } else if is_word(keyword, "LUG") {
-        Some(Setting::LugTo {
-            bar: number,
-            lug: Lug::from_text(second)?,
-            place: Place::from_text(third)?,
-        })
+        lug_setting(number, second, third)
     } else {
         None
     }
+}
+
+/// The setting whose line has the words `PIN`, `wheel`, `letter` and `effective`; `None` if there is no such setting.
+fn pin_setting(wheel: u8, letter: &[u8], effective: &[u8]) -> Option<Setting>
+    ensures { IsSettingOfWords (codes "PIN" ∷ decimal wheel ∷ letter.now ∷ effective.now ∷ []) result }
+{
+    Some(Setting::PinTo {
+        wheel,
+        letter: letter_of_text(letter)?,
+        effective: effective_of_text(effective)?,
+    })
+}
+
+/// The setting whose line has the words `LUG`, `bar`, `lug` and `place`; `None` if there is no such setting.
+fn lug_setting(bar: u8, lug: &[u8], place: &[u8]) -> Option<Setting>
+    ensures { IsSettingOfWords (codes "LUG" ∷ decimal bar ∷ lug.now ∷ place.now ∷ []) result }
+{
+    Some(Setting::LugTo {
+        bar,
+        lug: Lug::from_text(lug)?,
+        place: Place::from_text(place)?,
+    })
 }
 
 /// Reads whether a pin is effective: true for `ON`, false for `OFF`, and `None` for other texts.
