@@ -4,9 +4,7 @@ pub(crate) mod entry;
 pub(crate) mod pin_entry;
 pub(crate) mod rotor_entry;
 
-use crate::machine::per_slot::PerSlot;
 use crate::numbered_items::numbered_item;
-use arrayvec::ArrayVec;
 use entry::Entry;
 use kd_pins::PinSet;
 use kd_tables::{Letter, Model, Reading, Reflector, Wheel};
@@ -56,14 +54,7 @@ impl SheetDay {
         ensures value { IfSome result (λ sheet_day. sheet_day
             ≡ Rotor (rotor_day_of day model reflector wheels.now pairs.now groups.now)) }
     {
-        let entry = RotorEntry {
-            day,
-            model,
-            reflector,
-            wheels: PerSlot::new(wheels)?,
-            pairs: ArrayVec::try_from(pairs).ok()?,
-            groups: ArrayVec::try_from(groups).ok()?,
-        };
+        let entry = RotorEntry::new(day, model, reflector, wheels, pairs, groups)?;
         if entry.is_legal() {
             Some(SheetDay {
                 entry: Entry::Rotor(entry),

@@ -49,8 +49,35 @@ pub struct RotorEntry {
 }
 
 impl RotorEntry {
-    ghost use Rattle.kd_state.specs.SheetDay.{IsLegalRotorDay, AreOneOfGroups};
+    ghost use Rattle.std.specs.Prelude.{◌≡◌, ◌⊎◌, ◌≤◌, length, IfSome};
+    ghost use Rattle.std.specs.Option.{IsSome};
+    ghost use Rattle.kd_state.specs.SheetDay.{rotor_day_of, IsLegalRotorDay, AreOneOfGroups};
     ghost use Rattle.kd_state.specs.Entry.{rotor_values};
+
+    /// The entry with these values. `None` if it has no room for them.
+    pub(crate) fn new(
+        day: u8,
+        model: Model,
+        reflector: Reflector,
+        wheels: &[SheetWheel],
+        pairs: &[(Letter, Letter)],
+        groups: &[[Letter; 3]],
+    ) -> Option<RotorEntry>
+        ensures exists { IsSome result
+            ↔ ((length wheels.now ≡ 3) ⊎ (length wheels.now ≡ 4)) × (length pairs.now ≤ 13)
+            × (length groups.now ≤ 4) }
+        ensures value { IfSome result (λ entry. rotor_values entry
+            ≡ rotor_day_of day model reflector wheels.now pairs.now groups.now) }
+    {
+        Some(RotorEntry {
+            day,
+            model,
+            reflector,
+            wheels: PerSlot::new(wheels)?,
+            pairs: ArrayVec::try_from(pairs).ok()?,
+            groups: ArrayVec::try_from(groups).ok()?,
+        })
+    }
 
     /// Whether the values are legal for a day of a key sheet.
     pub(crate) fn is_legal(&self) -> bool
