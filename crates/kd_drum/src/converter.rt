@@ -76,6 +76,15 @@ impl Converter {
         if !self.can_show(&letters) {
             return Err(NotOnWheel);
         }
+        self.show(letters);
+        Ok(())
+    }
+
+    /// Turns the wheels so that they show `letters`, each of which must be on its wheel.
+    fn show(&mut self, letters: [Letter; 6])
+        requires { IsEachOnItsWheel letters }
+        ensures { self.new ≡ pin_key_turned self.old letters }
+    {
         let [l1, l2, l3, l4, l5, l6] = letters;
         self.w1.show(l1);
         self.w2.show(l2);
@@ -83,7 +92,6 @@ impl Converter {
         self.w4.show(l4);
         self.w5.show(l5);
         self.w6.show(l6);
-        Ok(())
     }
 
     /// Whether each of `letters` is on its wheel.

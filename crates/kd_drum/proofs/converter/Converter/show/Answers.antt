@@ -1,12 +1,12 @@
 use Rattle.std.proofs.Common.{ap, ◌∙◌, ◌∷◌, [], arith, rules}
-use Rattle.kd_drum.{proofs.Letters.shows_letter, proofs.Letters.six_letters, specs.Converter.IsEachOnItsWheel}
+use Rattle.kd_drum.{proofs.Letters.{pin_wheel_shows, shows_letter, six_letters}, specs.Converter.IsEachOnItsWheel}
 use Rattle.kd_drum.specs.Converter.{pin_key_turned}
-use Rattle.kd_drum.proofs.converter.Converter.turn_to.Goals as goal
+use Rattle.kd_drum.proofs.converter.Converter.show.Goals as goal
 
-pub returns-clause-turned : goal.returns-clause-turned
-returns-clause-turned c =
+pub returns : goal.returns
+returns c =
     let there = c.args.letters in
-    let on : IsEachOnItsWheel there = c.can_show.ensures.0 (search rules) in
+    let on : IsEachOnItsWheel there = c.requires in
     let stands = c.self.invariant.0 in
     let l1 = shows_letter _ _ there 0 _ _ stands.first.ring (search rules)
     (on 1 (omega arith) (omega arith)) c.show.ensures.shows in
@@ -30,3 +30,17 @@ returns-clause-turned c =
       letters = letters i;
       bars = c.self.inside.bars;
     }) ∙ ap (λ key. pin_key_turned key there) c.self.view_is
+
+pub invariant_of-self : goal.invariant_of-self
+invariant_of-self c =
+    let stands = c.self.invariant.0 in (
+      record {
+        first = pin_wheel_shows 1 26 _ _ _ stands.first c.show.ensures.turned c.show.ensures.wheel;
+        second = pin_wheel_shows 2 25 _ _ _ stands.second c.show-2.ensures.turned c.show-2.ensures.wheel;
+        third = pin_wheel_shows 3 23 _ _ _ stands.third c.show-3.ensures.turned c.show-3.ensures.wheel;
+        fourth = pin_wheel_shows 4 21 _ _ _ stands.fourth c.show-4.ensures.turned c.show-4.ensures.wheel;
+        fifth = pin_wheel_shows 5 19 _ _ _ stands.fifth c.show-5.ensures.turned c.show-5.ensures.wheel;
+        sixth = pin_wheel_shows 6 17 _ _ _ stands.sixth c.show-6.ensures.turned c.show-6.ensures.wheel;
+      },
+      c.self.invariant.1,
+    )
