@@ -4,7 +4,7 @@ use Rattle.std.proofs.Common.{ap, get_or, slice_index, refl, arith, ◌∙◌}
 use Rattle.{kd_drum.{proofs.WheelsAfterLetters.each_wheel, specs.Converter.IsEachOnItsWheel}}
 use Rattle.{kd_tables.specs.Rings.ring_of}
 use Rattle.kd_drum.specs.SixWheels.{IsPinWheel}
-use Rattle.kd_pins.specs.PinWheel.{TurnedWheel, IsWheel, wheel_showing}
+use Rattle.kd_pins.specs.PinWheel.{TurnedWheel, IsWheel, wheel_at_place}
 use Rattle.std.proofs.{Math.Bool.beq, lemmas.Bool.Decides.nat_tests, lemmas.List.get_or_default}
 
 -- `has` is true exactly if `letters` has the letter at `place` of `there`, because this holds of `ring`, and the
@@ -32,13 +32,13 @@ pub shows_letter : (ring letters there : List ℕ) (place d shown : ℕ) → rin
     → (Contains ring (get_or there place d) → shown ≡ get_or there place d) → shown ≡ slice_index there place
 shows_letter ring letters there place d shown same lt on h = grind (arith, get_or_default)
 
--- A pin wheel that is turned to a letter is still the same pin wheel.
-pub pin_wheel_shows : (number size letter : ℕ) (wheel shown : TurnedWheel) → IsPinWheel number size wheel
-    → shown ≡ wheel_showing wheel letter → IsWheel size shown → IsPinWheel number size shown
-pin_wheel_shows number size letter wheel shown h e turned = record {
+-- A pin wheel that is turned is still the same pin wheel.
+pub pin_wheel_turned : (number size place : ℕ) (wheel turned : TurnedWheel) → IsPinWheel number size wheel
+    → turned ≡ wheel_at_place wheel place → IsWheel size turned → IsPinWheel number size turned
+pin_wheel_turned number size place wheel turned h e is_wheel = record {
   ring = ap (λ w. w.ring) e ∙ h.ring;
   offset = ap (λ w. w.offset) e ∙ h.offset;
-  turned = turned;
+  turned = is_wheel;
 }
 
 pub six_letters : (letters : List ℕ) → length letters ≡ 6

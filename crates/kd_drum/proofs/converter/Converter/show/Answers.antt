@@ -1,5 +1,5 @@
 use Rattle.std.proofs.Common.{ap, ◌∙◌, ◌∷◌, [], arith, rules}
-use Rattle.kd_drum.{proofs.Letters.{pin_wheel_shows, shows_letter, six_letters}, specs.Converter.IsEachOnItsWheel}
+use Rattle.kd_drum.{proofs.Letters.{pin_wheel_turned, shows_letter, six_letters}, specs.Converter.IsEachOnItsWheel}
 use Rattle.kd_drum.specs.Converter.{pin_key_turned}
 use Rattle.kd_drum.proofs.converter.Converter.show.Goals as goal
 
@@ -35,12 +35,12 @@ pub invariant_of-self : goal.invariant_of-self
 invariant_of-self c =
     let stands = c.self.invariant.0 in (
       record {
-        first = pin_wheel_shows 1 26 _ _ _ stands.first c.show.ensures.turned c.show.ensures.wheel;
-        second = pin_wheel_shows 2 25 _ _ _ stands.second c.show-2.ensures.turned c.show-2.ensures.wheel;
-        third = pin_wheel_shows 3 23 _ _ _ stands.third c.show-3.ensures.turned c.show-3.ensures.wheel;
-        fourth = pin_wheel_shows 4 21 _ _ _ stands.fourth c.show-4.ensures.turned c.show-4.ensures.wheel;
-        fifth = pin_wheel_shows 5 19 _ _ _ stands.fifth c.show-5.ensures.turned c.show-5.ensures.wheel;
-        sixth = pin_wheel_shows 6 17 _ _ _ stands.sixth c.show-6.ensures.turned c.show-6.ensures.wheel;
+        first = pin_wheel_turned 1 26 _ _ _ stands.first c.show.ensures.turned c.show.ensures.wheel;
+        second = pin_wheel_turned 2 25 _ _ _ stands.second c.show-2.ensures.turned c.show-2.ensures.wheel;
+        third = pin_wheel_turned 3 23 _ _ _ stands.third c.show-3.ensures.turned c.show-3.ensures.wheel;
+        fourth = pin_wheel_turned 4 21 _ _ _ stands.fourth c.show-4.ensures.turned c.show-4.ensures.wheel;
+        fifth = pin_wheel_turned 5 19 _ _ _ stands.fifth c.show-5.ensures.turned c.show-5.ensures.wheel;
+        sixth = pin_wheel_turned 6 17 _ _ _ stands.sixth c.show-6.ensures.turned c.show-6.ensures.wheel;
       },
       c.self.invariant.1,
     )
