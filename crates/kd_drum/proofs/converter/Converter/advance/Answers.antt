@@ -1,4 +1,5 @@
-use Rattle.kd_drum.{proofs.{Letters.pin_wheel_turned, WheelsAfterLetters.key_moved}, specs.Converter.{PinKey, pin_key_after}}
+use Rattle.kd_drum.proofs.{Letters.pin_wheel_turned, WheelsAfterLetters.key_moved}
+use Rattle.kd_drum.specs.Converter.{PinKey, pin_key_after}
 use Rattle.std.proofs.Common.{ap, refl, ◌∙◌}
 use Rattle.kd_drum.proofs.converter.Converter.advance.Goals as goal
 
