@@ -52,13 +52,13 @@ pub ruleset stay_letters = (common_steps, enciphered_letters)
 -- ---- the day's own machine stays on the day's key, whatever is enciphered on it
 
 pub new_has_days_key : (s : Day) (key : EngineKey) → key ≡ sheet_key s → IsKeyOfDaysMachine s key
-new_has_days_key (Rotor s) key is = (_, is)
-new_has_days_key (Pin s) key is = (_, is)
+new_has_days_key (Rotor s) key is = record { window = _; is = is }
+new_has_days_key (Pin s) key is = record { window = _; is = is }
 
 pub run_keeps_days_key : (s : Day) (key left : EngineKey) (window : List ℕ) (count : ℕ) → IsKeyOfDaysMachine s key
     → left ≡ engine_key_after (key_with_window key window) count → IsKeyOfDaysMachine s left
-run_keeps_days_key (Rotor s) key left window count (shown, is) left_is = grind arith
-run_keeps_days_key (Pin s) key left window count (shown, is) left_is = grind arith
+run_keeps_days_key (Rotor s) key left window count kept left_is = grind (arith, kept.is)
+run_keeps_days_key (Pin s) key left window count kept left_is = grind (arith, kept.is)
 
 -- -------- skipping letters finds the first rising places, letter by letter and wheel by wheel
 

@@ -69,6 +69,13 @@ IsPinAnswer s part letters = do
   internal ← Finds (IsInternalKey (enciphered_choice s (keys_of_body letters))) (IndicatorSpent part)
   Yields (cipher_from s internal (text_of_body letters))
 
+-- The result of deciphering `text` with the internal key that `keys` give: the last two steps of `IsPinAnswer`. No
+-- public contract cites this definition.
+abbrev pub IsPinTextAnswer : Day → ℕ → PinKeys → List ℕ → AnswerRule FormFault (List ℕ)
+IsPinTextAnswer s part keys text = do
+  internal ← Finds (IsInternalKey (enciphered_choice s keys)) (IndicatorSpent part)
+  Yields (cipher_from s internal text)
+
 -- ---- The letters of a body for either kind of machine.
 -- Test: tests/cases/desk-messages.toml
 

@@ -20,8 +20,9 @@ abbrev pub cipher_from : Day → List ℕ → List ℕ → List ℕ
 cipher_from s window text = cipher (key_with_window (sheet_key s) window) text
 
 -- `key` is the key of a machine set as the day says, with any letters in its windows.
-abbrev pub IsKeyOfDaysMachine : Day → EngineKey → Type 0
-IsKeyOfDaysMachine s key = (window : List ℕ) × (key ≡ key_with_window (sheet_key s) window)
+pub record IsKeyOfDaysMachine (s : Day) (key : EngineKey) : Type 0 where
+  pub window : List ℕ
+  pub is : key ≡ key_with_window (sheet_key s) window
 
 -- the two letters of the day's key list on the Converter M-209; no letters on a rotor machine
 abbrev pub list_letters : Day → List ℕ

@@ -1,7 +1,10 @@
 //! Reads the letters of a part's body: tests the indicators and the group, and deciphers the text.
 ghost use Rattle.std.specs.Prelude.{◌≡◌, ◌<◌, ◌≤◌, ◌↔◌, Some, length, IsTrue, MatchResult};
 ghost use Rattle.kd_form.specs.BodyCipher.{HasIndicator, IsRotorAnswer, IsPinAnswer};
-ghost use Rattle.kd_form.specs.BodyCipher.{HasIndicatorsAround, keys_of_body};
+ghost use Rattle.kd_form.specs.BodyCipher.{HasIndicatorsAround, keys_of_body, list_of_body, IsPinTextAnswer};
+ghost use Rattle.kd_form.specs.PartMaking.{list_letters};
+ghost use Rattle.kd_state.specs.EngineKey.{IsWindow};
+ghost use Rattle.kd_state.specs.OwnKeys.{sheet_key};
 ghost use Rattle.kd_form.specs.KeyPatterns.{IsConverterDay};
 ghost use Rattle.kd_form.specs.FormParts.{IsHeading};
 ghost use Rattle.kd_form.specs.PartReading.{IsBodyAnswer};
@@ -62,6 +65,36 @@ fn keys_of_body(letters: &[Letter]) -> PinKeys
     PinKeys { chosen, external }
 }
 
+/// Whether the list letters in the indicators are the day's list letters.
+fn has_list_letters(day: &SheetDay, letters: &[Letter]) -> bool
+    requires pins { IsConverterDay day.now }
+    requires some { 20 ≤ length letters.now }
+    ensures { IsTrue result ↔ list_of_body letters.now ≡ list_letters day.now }
+{
+    let due = day.list().unwrap();
+    letters[8..10] == due[..]
+}
+
+/// Deciphers `text` with the internal key that `keys` give.
+fn decipher_pin_text(
+    machine: &mut DayMachine,
+    part: u8,
+    keys: &PinKeys,
+    text: &[Letter],
+) -> Result<ArrayVec<Letter, 500>, FormFault>
+    requires pins { IsConverterDay machine.old }
+    requires window { IsWindow (sheet_key machine.old) keys.now.external }
+    requires few { length text.now ≤ 500 }
+    ensures { MatchResult result
+        (λ plain. IsPinTextAnswer machine.old part keys.now text.now (Ok plain.items))
+        (λ fault. IsPinTextAnswer machine.old part keys.now text.now (Err fault)) }
+{
+    match internal_key_of(machine, keys) {
+        Some(internal) => Ok(machine.encipher_text(internal.as_slice(), text)),
+        None => Err(FormFault::IndicatorSpent(part)),
+    }
+}
+
 /// Tests the indicators of a Converter M-209's part, and deciphers the letters between the indicators.
 fn decipher_pin_body(
     day: &SheetDay,
@@ -83,15 +116,10 @@ fn decipher_pin_body(
     if !machine.can_show(&keys.external) {
         return Err(FormFault::KeyNotOnWheel);
     }
-    let due = day.list().unwrap();
-    if letters[8..10] != due[..] {
+    if !has_list_letters(day, letters) {
         return Err(FormFault::WrongGroup(part));
     }
-    let text = &letters[10..letters.len() - 10];
-    match internal_key_of(&mut machine, &keys) {
-        Some(internal) => Ok(machine.encipher_text(internal.as_slice(), text)),
-        None => Err(FormFault::IndicatorSpent(part)),
-    }
+    decipher_pin_text(&mut machine, part, &keys, &letters[10..letters.len() - 10])
 }
 
 /// Deciphers `letters`, the body of the part with the heading `heading`.
