@@ -68,7 +68,6 @@ impl<'day> DayMachine<'day> {
     }
 
     /// Enciphers or deciphers `text`. At the start, the machine's windows show the letters of `window`.
-    #[tactic(auto, using(crate::proofs::MadeParts::stay_letters))]
     pub fn encipher_text<const N: usize>(
         &mut self,
         window: &[Letter],

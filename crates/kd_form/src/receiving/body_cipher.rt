@@ -47,7 +47,6 @@ fn decipher_rotor_body(
 }
 
 /// Whether the last ten letters repeat the first ten, and the first two letters are equal.
-#[tactic(auto, using(crate::proofs::Lines::comparing))]
 fn has_indicators_around(letters: &[Letter]) -> bool
     requires { 20 ≤ length letters.now }
     ensures { IsTrue result ↔ HasIndicatorsAround letters.now }
