@@ -1,5 +1,5 @@
 -- Prefixes of a list up to an item with a property, plain text, and the lines of an order's head.
-use Rattle.{std.specs.Cmp.Lexicographic.pointwise_decides, kd_state.specs.Machine.AreLetters}
+use Rattle.kd_state.specs.Machine.{AreLetters}
 use Rattle.kd_form.specs.declared.sending.pattern_line.PatternFault.TheVariants.{Incomplete, Mismatch}
 pub use Rattle.kd_form.proofs.Prelude.{err_is, ◌≡◌, ◌≢◌, ℕ, ◌+◌, ◌≤◌, ◌<◌, true, List, [], ◌∷◌, ◌++◌, refl, Day}
 pub use Rattle.kd_form.proofs.Prelude.{length-append, arith, take, ap, ◌∙◌, length, sym, codes, All, nat_le, IsTrue}
@@ -67,9 +67,6 @@ letters_first for_space byte text = grind arith
 -- the bytes are allowed in a text
 abbrev pub AreAllowed : List ℕ → Type 0
 AreAllowed bytes = All (λ b. IsTrue (is_text_byte b)) bytes
-
--- lists are compared item by item
-pub ruleset comparing = (pointwise_decides)
 
 -- -------- lines of a pattern, mark by mark
 

@@ -47,8 +47,6 @@ enciphered_letters (Rotor s) window text =
 enciphered_letters (Pin s) window text =
     All-map (λ letter. letter < 26) _ (enumerate_from 0 text) (λ k d inside. omega arith)
 
-pub ruleset stay_letters = (common_steps, enciphered_letters)
-
 -- ---- the day's own machine stays on the day's key, whatever is enciphered on it
 
 pub new_has_days_key : (s : Day) (key : EngineKey) → key ≡ sheet_key s → IsKeyOfDaysMachine s key

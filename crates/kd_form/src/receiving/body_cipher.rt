@@ -19,7 +19,6 @@ use kd_state::SheetDay;
 use kd_tables::Letter;
 
 /// Tests the group of a rotor machine's message part, and deciphers the letters after the group.
-#[tactic(auto, using(crate::proofs::MadeParts::key_is_window))]
 fn decipher_rotor_body(
     day: &SheetDay,
     part: u8,

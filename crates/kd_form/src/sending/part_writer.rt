@@ -98,7 +98,6 @@ impl PartWriter {
     }
 
     /// Writes the next part to `output`. The part's text is the letters collected so far.
-    #[tactic(auto, using(crate::proofs::Rules::suited_at))]
     fn write_part(&mut self, day: &SheetDay, keys: &[Keys], output: &mut Output)
         requires keys { AreSuitedKeys day.now keys.now }
         requires another { self.old.written < length keys.now }

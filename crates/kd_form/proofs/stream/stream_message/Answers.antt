@@ -6,6 +6,16 @@ use Rattle.kd_form.proofs.stream.stream_message.Goals as goal
 pub loop-read-init : goal.loop-read-init
 loop-read-init g c = grind (arith, Consumes-nil, Appends-nil)
 
+pub read_next-requires-clause-room : goal.read_next-requires-clause-room
+read_next-requires-clause-room g c =
+    let before = c.loop-read.invariant in
+    record {
+      bytes = before.read;
+      text = before.text;
+      held = before.held;
+      within = omega (arith, before.counted, before.within);
+    }
+
 pub close-requires : goal.close-requires
 close-requires g c = grind (arith, SoFar-read c.loop-read.invariant refl _ c.in_ok-count.ensures)
 
@@ -23,6 +33,16 @@ pub returns-in_err-count : goal.returns-in_err-count
 returns-in_err-count g c =
     rw (err_is _ _ c.from_residual.ensures.1)
     (IsStreamed-stopped c.loop-read.invariant refl _ _ refl c.in_err-count.ensures)
+
+pub close-requires-2 : goal.close-requires-2
+close-requires-2 g c =
+    let before = c.loop-read.invariant in
+    record {
+      bytes = before.read;
+      text = before.text;
+      held = before.held;
+      within = omega (arith, before.counted, before.within);
+    }
 
 pub returns : goal.returns
 returns g c =

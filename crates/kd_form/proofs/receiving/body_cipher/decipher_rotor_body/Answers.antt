@@ -1,9 +1,12 @@
-use Rattle.kd_form.proofs.MadeParts.{Ok, ap, refl, arith, ◌∙◌}
+use Rattle.kd_form.proofs.MadeParts.{Ok, ap, refl, arith, ◌∙◌, key_is_window}
 use Rattle.kd_form.proofs.Prelude.{GoesOn, HasFault, ℕ, ◌-◌, length, drop, length-drop, take_all}
 use Rattle.kd_form.proofs.receiving.body_cipher.decipher_rotor_body.Goals as goal
 
 pub returns-then-not-has_group : goal.returns-then-not-has_group
 returns-then-not-has_group c = HasFault _ ((λ _. grind arith), refl) refl
+
+pub encipher_text-requires : goal.encipher_text-requires
+encipher_text-requires c = grind (arith, key_is_window)
 
 pub returns : goal.returns
 returns c =
