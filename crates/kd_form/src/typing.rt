@@ -66,7 +66,6 @@ impl ChunkReader<Machine> for Typist {
 
     ghost holds = { HasTyped };
 
-    #[tactic(auto, using(crate::proofs::Streaming::read_whole))]
     fn read_chunk<W: Sink>(
         &mut self,
         _context: &Machine,

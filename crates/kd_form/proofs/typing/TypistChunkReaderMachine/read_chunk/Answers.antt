@@ -1,4 +1,4 @@
-use Rattle.kd_form.proofs.Streaming.{err_is, read_refused, read_in_part, refl, subst, Appends, TakesPrefix}
+use Rattle.kd_form.proofs.Streaming.{err_is, arith, read_refused, read_in_part, read_whole, refl, subst, Appends, TakesPrefix}
 use Rattle.kd_form.proofs.typing.TypistChunkReaderMachine.read_chunk.Goals as goal
 
 pub returns-in_err-put_all-clause-fed : goal.returns-in_err-put_all-clause-fed
@@ -12,3 +12,9 @@ returns-then-allowed-bytes-clause-fed g c =
     let piece = c.type_chunk-allowed.ensures in
     read_refused _ _ _ _ _ _ piece.allowed piece.lights refl _ _ _ _
     (subst (Appends _ _) c.deref.ensures.0 c.in_ok-put_all.ensures.text.whole) c.if-allowed-bytes.true
+
+pub returns-clause-fed : goal.returns-clause-fed
+returns-clause-fed g c =
+    let piece = c.type_chunk-allowed.ensures in
+    read_whole _ _ _ _ _ _ piece.allowed piece.lights refl _ _ _ _
+    (subst (Appends _ _) c.deref.ensures.0 c.in_ok-put_all.ensures.text.whole) (omega (arith, c.if-allowed-bytes.false))
