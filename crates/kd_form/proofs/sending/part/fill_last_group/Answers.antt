@@ -1,4 +1,4 @@
-use Rattle.kd_form.proofs.Prelude.{arith, length-append, length-replicate, take_all}
+use Rattle.kd_form.proofs.Prelude.{arith, length-append, length-replicate}
 use Rattle.kd_form.proofs.sending.part.fill_last_group.Goals as goal
 
 pub push-requires : goal.push-requires
