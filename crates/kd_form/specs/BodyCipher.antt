@@ -55,6 +55,13 @@ list_of_body letters = slice_range letters 8 10
 abbrev pub text_of_body : List ℕ → List ℕ
 text_of_body letters = slice_range letters 10 (length letters - 10)
 
+-- The result of deciphering `text` on the Converter M-209 with the internal key that `keys` give, or the fault that no
+-- internal key can be picked.
+abbrev pub IsPinTextAnswer : Day → ℕ → PinKeys → List ℕ → AnswerRule FormFault (List ℕ)
+IsPinTextAnswer s part keys text = do
+  internal ← Finds (IsInternalKey (enciphered_choice s keys)) (IndicatorSpent part)
+  Yields (cipher_from s internal text)
+
 -- The result of deciphering a body on the Converter M-209: the text, or the fault of the first test that fails. The
 -- text is deciphered with the internal key in the windows at the start. The tests, in this order:
 -- - The last ten letters repeat the first ten, and the first two letters are equal (`HasIndicatorsAround`).
@@ -66,15 +73,7 @@ IsPinAnswer s part letters = do
   _ ← Demands (HasIndicatorsAround letters) (IndicatorsDiffer part)
   _ ← Demands (IsWindow (sheet_key s) (keys_of_body letters).external) KeyNotOnWheel
   _ ← Demands (list_of_body letters ≡ list_letters s) (WrongGroup part)
-  internal ← Finds (IsInternalKey (enciphered_choice s (keys_of_body letters))) (IndicatorSpent part)
-  Yields (cipher_from s internal (text_of_body letters))
-
--- The result of deciphering `text` with the internal key that `keys` give: the last two steps of `IsPinAnswer`. No
--- public contract cites this definition.
-abbrev pub IsPinTextAnswer : Day → ℕ → PinKeys → List ℕ → AnswerRule FormFault (List ℕ)
-IsPinTextAnswer s part keys text = do
-  internal ← Finds (IsInternalKey (enciphered_choice s keys)) (IndicatorSpent part)
-  Yields (cipher_from s internal text)
+  IsPinTextAnswer s part (keys_of_body letters) (text_of_body letters)
 
 -- ---- The letters of a body for either kind of machine.
 -- Test: tests/cases/desk-messages.toml
