@@ -161,6 +161,27 @@ pub demand-passes : {B : Type 0} (test : Bool) (fault : SheetFault) (next result
     → next ≡ result → (demand test fault >> next) ≡ result
 demand-passes test fault next result e d = grind arith
 
+-- ---- an array
+
+-- The array at a key, which the code reads in three steps: the array's `items`, their number, and each item.
+module _ {A : Type 0} (key : Key) (fits : ℕ → Bool) (parse : List A → Data → Result A SheetFault)
+    (value : Result Data SheetFault) where
+  abbrev items_at : Result (List Data) SheetFault
+  items_at = value >>= (λ array. ok_or (as_items array) (BadValue key))
+
+  abbrev array_at : Result (List A) SheetFault
+  array_at = value >>= read_array key fits parse
+
+  pub array-no_items : (fault : SheetFault) → Err fault ≡ items_at → array_at ≡ Err fault
+  array-no_items fault none = grind arith
+
+  module _ (items : List Data) (found : Ok items ≡ items_at) where
+    pub array-unfit : fits (length items) ≡ false → array_at ≡ Err (BadValue key)
+    array-unfit unfit = grind arith
+
+    pub array-fits : fits (length items) ≡ true → array_at ≡ read_items parse items
+    array-fits fit = grind arith
+
 -- ---- items, one after another
 
 -- a value in place of an item past the end
