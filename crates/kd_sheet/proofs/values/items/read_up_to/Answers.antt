@@ -1,6 +1,6 @@
 use Rattle.kd_sheet.proofs.ReadBack.Described.KeyValues.Steps.{Ok, arith, array-fits, array-no_items}
 use Rattle.kd_sheet.proofs.ReadBack.Described.KeyValues.Steps.{le-leb, length, length-map, map, nat_le, rules, view}
-use Rattle.kd_sheet.proofs.ReadBack.Described.KeyValues.Steps.{◌≡◌, ◌≤◌}
+use Rattle.kd_sheet.proofs.ReadBack.Described.KeyValues.Steps.{◌≤◌}
 use Rattle.kd_sheet.proofs.values.items.read_up_to.Goals as goal
 
 pub returns : goal.returns
