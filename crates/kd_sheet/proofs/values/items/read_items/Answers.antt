@@ -1,5 +1,6 @@
 use Rattle.kd_sheet.proofs.ReadBack.Described.KeyValues.Steps.{arith, read_after_none, read_after_more, rules, ◌∙◌}
-use Rattle.kd_sheet.proofs.ReadBack.Described.KeyValues.Steps.{read_after_fault}
+use Rattle.kd_sheet.proofs.ReadBack.Described.KeyValues.Steps.{length, length-map, map, read_after_all, read_after_fault}
+use Rattle.kd_sheet.proofs.ReadBack.Described.KeyValues.Steps.{refl, view, ◌≤◌}
 use Rattle.kd_sheet.proofs.values.items.read_items.Goals as goal
 
 pub loop-item-init : goal.loop-item-init
@@ -17,3 +18,9 @@ pub returns-in_err-value-clause-value : goal.returns-in_err-value-clause-value
 returns-in_err-value-clause-value g c =
     rw (c.loop-item.invariant.read ∙ read_after_fault (g.T.FromItem.parse c.args.given.now) _ _ _ c.loop-item-test.true
     c.item-item.is _ _ (rw c.as_slice.ensures.value at c.in_err-value.ensures)) (search rules)
+
+pub returns-clause-value : goal.returns-clause-value
+returns-clause-value g c =
+    let items = c.args.items.now in
+    let done : length (map view items) ≤ c.loop-item.item-index = omega (arith, length-map items view) in
+    rw (c.loop-item.invariant.read, read_after_all (g.T.FromItem.parse c.args.given.now) _ _ _ done) refl
