@@ -1,9 +1,11 @@
 //! Reads the text of a card.
 ghost use Rattle.kd_card.specs.CardFault.{BeginsWithHead, HasLineWords, IsValueAnswer, IsGroupsAnswer, IsListsAnswer};
-ghost use Rattle.kd_card.specs.CardFault.{IsAllPricesAnswer, IsTableAnswer, IsTablePricesAnswer, IsCardFault};
-ghost use Rattle.kd_card.specs.{CardText.IsCard, Reading.IsNoPriceLine};
+ghost use Rattle.kd_card.specs.CardFault.{IsAllPricesAnswer, IsTableAnswer, IsTablePricesAnswer, IsRestAnswer, IsCardFault};
+ghost use Rattle.kd_card.specs.{CardText.IsCard, Prices.price_sum, Reading.IsNoPriceLine};
+ghost use Rattle.kd_state.specs.declared.setting.Setting.{Setting};
 ghost use Rattle.kd_tables.specs.LineWords.{words_of, IsWithout};
-ghost use Rattle.std.specs.Prelude.{◌≡◌, ◌≢◌, ℕ, ◌<◌, ◌≤◌, ◌∷◌, ◌++◌, List, MatchOption, MatchResult, Ok, Err};
+ghost use Rattle.std.specs.Prelude.{◌≡◌, ◌≢◌, ℕ, ◌<◌, ◌≤◌, ◌∷◌, ◌++◌, ◌+◌, List, MatchOption, MatchResult, Ok, Err, true};
+ghost use Rattle.std.specs.{Prelude.{codes, decimal, false}, Fmt.signed_decimal};
 
 use super::card::Card;
 use super::fault::CardFault;
@@ -28,16 +30,50 @@ pub fn read_card(text: &[u8]) -> Result<(u8, Card), CardFault>
     let Some((settings, rest)) = split_settings(rest) else {
         return Err(CardFault::TooMany);
     };
-    let mut buffer = Buffer::new();
-    let count = settings.len();
-    let rest = read_value(rest, "SETTINGS ", buffer.format(count), false, count + 2)?;
-    let (prices, rest) = read_prices(rest, version, count + 3)?;
-    let line = count + 3 + prices.line_count();
-    let rest = read_value(rest, "SUM ", buffer.format(prices.sum()), true, line)?;
-    if !rest.is_empty() {
-        return Err(CardFault::Trailing);
-    }
+    let prices = read_rest(rest, version, settings.len())?;
     Ok((day, Card { settings, prices }))
+}
+
+/// Reads a card of `version` from the line `SETTINGS` to the end. Above this line, the card has `count` settings.
+fn read_rest(text: &[u8], version: Version, count: usize) -> Result<Prices, CardFault>
+    requires { count ≤ 192 }
+    ensures { MatchResult result
+        (λ prices. (day : ℕ) (settings : List Setting)
+        → IsRestAnswer version day settings count text.now (Ok (day, settings, prices)))
+        (λ fault. (day : ℕ) (settings : List Setting)
+        → IsRestAnswer version day settings count text.now (Err fault)) }
+{
+    let rest = read_count(text, count)?;
+    let (prices, rest) = read_prices(rest, version, count + 3)?;
+    let rest = read_sum(rest, &prices, count + 3 + prices.line_count())?;
+    if rest.is_empty() {
+        Ok(prices)
+    } else {
+        Err(CardFault::Trailing)
+    }
+}
+
+/// Checks the first line of `text`, such as `SETTINGS 12` if `count` is 12. Returns the text after this line.
+fn read_count(text: &[u8], count: usize) -> Result<&[u8], CardFault>
+    requires { count ≤ 192 }
+    ensures { let says =
+        IsValueAnswer false (codes "SETTINGS ") (decimal count) (count + 2) text.now in
+        MatchResult result (λ rest. says (Ok rest.now)) (λ fault. says (Err fault)) }
+{
+    let mut buffer = Buffer::new();
+    read_value(text, "SETTINGS ", buffer.format(count), false, count + 2)
+}
+
+/// Checks the first line of `text`, such as `SUM 12`: the sum of `prices`. Returns the text after this line.
+///
+/// The line is line `line` of the card.
+fn read_sum<'a>(text: &'a [u8], prices: &Prices, line: usize) -> Result<&'a [u8], CardFault>
+    ensures { let says =
+        IsValueAnswer true (codes "SUM ") (signed_decimal (price_sum prices.now)) line text.now in
+        MatchResult result (λ rest. says (Ok rest.now)) (λ fault. says (Err fault)) }
+{
+    let mut buffer = Buffer::new();
+    read_value(text, "SUM ", buffer.format(prices.sum()), true, line)
 }
 
 /// Splits off the first line of `text`. Returns this line's text after `prefix`, and the text of the next lines.
@@ -123,26 +159,57 @@ fn read_table_prices(
         (λ found. IsTablePricesAnswer version table line text.now (Ok (found.0, found.1.now)))
         (λ fault. IsTablePricesAnswer version table line text.now (Err fault)) }
 {
-    match (version, table) {
-        (Version::ByNumber, CostTable::Cables) => read_lists(text, "CABLES", "PAIRS", line).map(|(
-            cables,
-            pairs,
-            rest,
-        )| (PriceParts::Cables(cables, pairs), rest)),
-        (Version::ByNumber, CostTable::Bars) => read_lists(text, "BARS", "ROWS", line).map(|(
-            bars,
-            rows,
-            rest,
-        )| (PriceParts::Bars(bars, rows), rest)),
-        (Version::ByKind, CostTable::Cables) => read_groups(text, line).map(|(
-            cables,
-            pairs,
-            rest,
-        )| (PriceParts::CableKinds(cables, pairs), rest)),
-        (Version::ByKind, CostTable::Bars) => read_groups(text, line).map(|(bars, rows, rest)| (
-            PriceParts::BarKinds(bars, rows),
-            rest,
-        )),
+    match version {
+        Version::ByNumber => read_number_prices(text, table, line),
+        Version::ByKind => read_kind_prices(text, table, line),
+    }
+}
+
+/// Reads the prices by number for `table`. The lines and the result are as in `read_table_prices`.
+fn read_number_prices(
+    text: &[u8],
+    table: CostTable,
+    line: usize,
+) -> Result<(PriceParts, &[u8]), CardFault>
+    requires { line < 200 }
+    ensures { let says = IsTablePricesAnswer Version.ByNumber table line text.now in
+        MatchResult result
+        (λ found. says (Ok (found.0, found.1.now)))
+        (λ fault. says (Err fault)) }
+{
+    match table {
+        CostTable::Cables => {
+            let (cables, pairs, rest) = read_lists(text, "CABLES", "PAIRS", line)?;
+            Ok((PriceParts::Cables(cables, pairs), rest))
+        }
+        CostTable::Bars => {
+            let (bars, rows, rest) = read_lists(text, "BARS", "ROWS", line)?;
+            Ok((PriceParts::Bars(bars, rows), rest))
+        }
+    }
+}
+
+/// Reads the prices by kind for `table`. The lines and the result are as in `read_table_prices`.
+fn read_kind_prices(
+    text: &[u8],
+    table: CostTable,
+    line: usize,
+) -> Result<(PriceParts, &[u8]), CardFault>
+    requires { line < 200 }
+    ensures { let says = IsTablePricesAnswer Version.ByKind table line text.now in
+        MatchResult result
+        (λ found. says (Ok (found.0, found.1.now)))
+        (λ fault. says (Err fault)) }
+{
+    match table {
+        CostTable::Cables => {
+            let (cables, pairs, rest) = read_groups(text, line)?;
+            Ok((PriceParts::CableKinds(cables, pairs), rest))
+        }
+        CostTable::Bars => {
+            let (bars, rows, rest) = read_groups(text, line)?;
+            Ok((PriceParts::BarKinds(bars, rows), rest))
+        }
     }
 }
 

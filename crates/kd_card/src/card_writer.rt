@@ -2,7 +2,7 @@
 ghost use Rattle.arrayvec.specs.ArrayString.{array_string_len};
 ghost use Rattle.kd_card.specs.CardText.{card_text, lines_text, price_lines, IsCard};
 ghost use Rattle.kd_tables.specs.LineWords.{line_then};
-ghost use Rattle.kd_card.specs.{Prices.{ArePricesInRange, ArePrices}};
+ghost use Rattle.kd_card.specs.{Kinds.{kind_words, IsGroup}, Prices.{ArePricesInRange, ArePrices}};
 ghost use Rattle.kd_state.specs.{Line.{list_text, IsSettingInRange}, SheetDay.IsDayNumber};
 ghost use Rattle.kd_tables.specs.Writing.{Writes};
 ghost use Rattle.std.specs.Prelude.{◌≡◌, ◌+◌, ◌*◌, ◌≤◌, ◌||◌, [], ◌∷◌, ◌++◌, length, map, is_err, All};
@@ -10,8 +10,9 @@ ghost use Rattle.std.specs.Fmt.{signed_decimal};
 
 use super::card::Card;
 use super::kind_text::push_kinds;
+use super::kinds::Kind;
 use super::prices::{PriceParts, Prices};
-use arrayvec::ArrayString;
+use arrayvec::{ArrayString, ArrayVec};
 use itoa::Buffer;
 use kd_state::Setting;
 use kd_tables::{Device, Sink, put_all};
@@ -79,7 +80,6 @@ fn push_settings<const N: usize>(text: &mut ArrayString<N>, settings: &[Setting]
 }
 
 /// Appends the price lines of a card.
-#[tactic(auto, using(crate::proofs::OneCard::groups_joined))]
 fn push_prices<const N: usize>(text: &mut ArrayString<N>, prices: &Prices)
     requires { array_string_len text.old + 1404 ≤ N }
     ensures bytes { text.new.bytes ≡ text.old.bytes ++ lines_text (price_lines prices.now) }
@@ -94,15 +94,28 @@ fn push_prices<const N: usize>(text: &mut ArrayString<N>, prices: &Prices)
             push_price_line(text, "BARS", &bars);
             push_price_line(text, "ROWS", &rows);
         }
-        PriceParts::CableKinds(cables, pairs) => {
-            push_kinds(text, cables.as_slice());
-            push_kinds(text, pairs.as_slice());
-        }
-        PriceParts::BarKinds(bars, rows) => {
-            push_kinds(text, bars.as_slice());
-            push_kinds(text, rows.as_slice());
-        }
+        PriceParts::CableKinds(cables, pairs) => push_groups(text, &cables, &pairs),
+        PriceParts::BarKinds(bars, rows) => push_groups(text, &bars, &rows),
     }
+}
+
+/// Appends a line for each kind: first for `rows`, and then for `columns`.
+#[tactic(auto, using(crate::proofs::OneCard::groups_joined))]
+fn push_groups<R: Kind, C: Kind, const M: usize, const N: usize>(
+    text: &mut ArrayString<N>,
+    rows: &ArrayVec<R, M>,
+    columns: &ArrayVec<C, M>,
+)
+    requires room { array_string_len text.old + 52 * M ≤ N }
+    requires rows { IsGroup R.format M rows.now.items }
+    requires columns { IsGroup C.format M columns.now.items }
+    ensures bytes { let rows = map (kind_words R.format) rows.now.items in
+        text.new.bytes ≡ text.old.bytes
+        ++ lines_text (rows ++ map (kind_words C.format) columns.now.items) }
+    ensures len { array_string_len text.new ≤ array_string_len text.old + 52 * M }
+{
+    push_kinds(text, rows.as_slice());
+    push_kinds(text, columns.as_slice());
 }
 
 /// Appends a line: `word`, and then `prices`, with a space before each price.

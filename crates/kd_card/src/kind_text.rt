@@ -1,7 +1,7 @@
 //! Reads and writes the lines of kinds: one line for each kind of cables, columns, bars or rows.
 ghost use Rattle.arrayvec.specs.ArrayString.{array_string_len};
 ghost use Rattle.kd_card.specs.Reading.{words_after_first, EndsKindsAt, IsBadKindAt, IsKindOfWords};
-ghost use Rattle.kd_card.specs.{Kinds.{kinds_text, HasKindWords, IsKind}, CardFault.{IsNextKind, IsGroupAnswer}};
+ghost use Rattle.kd_card.specs.{Kinds.{kinds_text, ComesAfter, HasKindWords, IsKind}, CardFault.{IsNextKind, IsGroupAnswer}};
 ghost use Rattle.std.specs.Prelude.{◌≡◌, ◌+◌, ◌*◌, ◌<◌, ◌≤◌, [], ◌∷◌, ◌++◌, length, All, MatchOption, MatchResult, Ok};
 ghost use Rattle.std.specs.Prelude.{Err};
 ghost use Rattle.std.specs.Option.{option_copied};
@@ -69,10 +69,21 @@ fn next_kind<K: Kind>(
     if !is_word(first, K::word()) {
         return Ok(None);
     }
-    match kind_of_words::<K>(behind) {
-        Some(kind) if comes_after(last, &kind) => Ok(Some((kind, rest))),
-        _ => Err(CardFault::BadLine(line)),
+    match kind_after::<K>(last, behind) {
+        Some(kind) => Ok(Some((kind, rest))),
+        None => Err(CardFault::BadLine(line)),
     }
+}
+
+/// Parses a kind as `kind_of_words` does. The result is also `None` if the kind doesn't come after `last`.
+fn kind_after<K: Kind>(last: Option<K>, behind: Option<&[u8]>) -> Option<K>
+    ensures { let words = K.format.word ∷ words_after_first (option_copied behind.entry) in
+        MatchOption result
+        ((kind : K) → HasKindWords K.format words kind → ¬ (ComesAfter K.format last kind))
+        (λ kind. IsKindOfWords K.format words kind × ComesAfter K.format last kind) }
+{
+    let kind = kind_of_words::<K>(behind)?;
+    comes_after(last, &kind).then_some(kind)
 }
 
 /// Reads a group: kinds whose counts have to add up to `N`. Returns the kinds, and the text after the group.

@@ -1,7 +1,7 @@
 //! The prices of a card, by number or by kind. With prices by number, each cable, column, bar or row has its own price.
 //! With prices by kind, all cables, columns, bars or rows of one kind share a price.
 ghost use Rattle.kd_card.specs.Prices.{price_sum, version_of, ArePricesInRange, IsPriceList, ArePrices};
-ghost use Rattle.kd_card.specs.{CardFault.first_text, CardText.price_lines, Kinds.IsGroup, Reading.head_prefix};
+ghost use Rattle.kd_card.specs.{CardFault.first_text, CardText.price_lines, Kinds.{prices_of_kinds, IsGroup}, Reading.head_prefix};
 ghost use Rattle.std.specs.Prelude.{◌≡◌, ◌↔◌, ◌+◌, ◌*◌, ◌≤◌, ◌++◌, length, fold, pos, unsigned_abs, ◌+ℤ◌, IsTrue};
 ghost use Rattle.std.specs.Prelude.{MatchOption};
 
@@ -194,16 +194,27 @@ impl Prices {
         match &self.parts {
             PriceParts::Cables(cables, pairs) => sum_of_prices(cables, pairs),
             PriceParts::Bars(bars, rows) => sum_of_prices(bars, rows),
-            PriceParts::CableKinds(cables, pairs) => sum_of_prices(
-                prices_of_kinds(cables.as_slice()).as_slice(),
-                prices_of_kinds(pairs.as_slice()).as_slice(),
-            ),
-            PriceParts::BarKinds(bars, rows) => sum_of_prices(
-                prices_of_kinds(bars.as_slice()).as_slice(),
-                prices_of_kinds(rows.as_slice()).as_slice(),
-            ),
+            PriceParts::CableKinds(cables, pairs) => sum_of_kinds(cables, pairs),
+            PriceParts::BarKinds(bars, rows) => sum_of_kinds(bars, rows),
         }
     }
+}
+
+/// Adds up the prices of all members of the kinds `rows` and `columns`.
+fn sum_of_kinds<R: Kind, C: Kind, const N: usize>(
+    rows: &ArrayVec<R, N>,
+    columns: &ArrayVec<C, N>,
+) -> i32
+    requires few { N ≤ 27 }
+    requires rows { IsGroup R.format N rows.now.items }
+    requires columns { IsGroup C.format N columns.now.items }
+    ensures { let rows = prices_of_kinds R.format rows.now.items in
+        let columns = prices_of_kinds C.format columns.now.items in
+        result ≡ fold (λ sum price. sum +ℤ price) (pos 0) (rows ++ columns) }
+{
+    let rows = prices_of_kinds(rows.as_slice());
+    let columns = prices_of_kinds(columns.as_slice());
+    sum_of_prices(rows.as_slice(), columns.as_slice())
 }
 
 /// Adds up the prices `rows` and `columns`.
