@@ -2,7 +2,7 @@
 ghost use Rattle.arrayvec.specs.ArrayString.{array_string_len};
 ghost use Rattle.kd_card.specs.CardText.{card_text, lines_text, price_lines, IsCard};
 ghost use Rattle.kd_tables.specs.LineWords.{line_then};
-ghost use Rattle.kd_card.specs.{Kinds.{kind_words, IsGroup}, Prices.{ArePricesInRange, ArePrices}};
+ghost use Rattle.kd_card.specs.{Kinds.{kind_words, IsGroup}, Prices.{ArePricesInRange, ArePrices, IsPriceList}};
 ghost use Rattle.kd_state.specs.{Line.{list_text, IsSettingInRange}, SheetDay.IsDayNumber};
 ghost use Rattle.kd_tables.specs.Writing.{Writes};
 ghost use Rattle.std.specs.Prelude.{◌≡◌, ◌+◌, ◌*◌, ◌≤◌, ◌||◌, [], ◌∷◌, ◌++◌, length, map, is_err, All};
@@ -86,17 +86,32 @@ fn push_prices<const N: usize>(text: &mut ArrayString<N>, prices: &Prices)
     ensures len { array_string_len text.new ≤ array_string_len text.old + 1404 }
 {
     match prices.parts() {
-        PriceParts::Cables(cables, pairs) => {
-            push_price_line(text, "CABLES", &cables);
-            push_price_line(text, "PAIRS", &pairs);
-        }
-        PriceParts::Bars(bars, rows) => {
-            push_price_line(text, "BARS", &bars);
-            push_price_line(text, "ROWS", &rows);
-        }
+        PriceParts::Cables(cables, pairs) => push_lists(text, "CABLES", &cables, "PAIRS", &pairs),
+        PriceParts::Bars(bars, rows) => push_lists(text, "BARS", &bars, "ROWS", &rows),
         PriceParts::CableKinds(cables, pairs) => push_groups(text, &cables, &pairs),
         PriceParts::BarKinds(bars, rows) => push_groups(text, &bars, &rows),
     }
+}
+
+/// Appends two lines: `row_word` and then `rows`, and `column_word` and then `columns`.
+fn push_lists<const M: usize, const N: usize>(
+    text: &mut ArrayString<N>,
+    row_word: &str,
+    rows: &[i16; M],
+    column_word: &str,
+    columns: &[i16; M],
+)
+    requires room { array_string_len text.old + length row_word.now + length column_word.now + 14 * M + 2 ≤ N }
+    requires rows { IsPriceList M rows.now }
+    requires columns { IsPriceList M columns.now }
+    ensures bytes { let lines = (row_word.now ∷ map signed_decimal rows.now)
+        ∷ (column_word.now ∷ map signed_decimal columns.now) ∷ [] in
+        text.new.bytes ≡ text.old.bytes ++ lines_text lines }
+    ensures len { array_string_len text.new
+        ≤ array_string_len text.old + length row_word.now + length column_word.now + 14 * M + 2 }
+{
+    push_price_line(text, row_word, rows);
+    push_price_line(text, column_word, columns);
 }
 
 /// Appends a line for each kind: first for `rows`, and then for `columns`.
