@@ -11,7 +11,7 @@ use super::cable_lines::{CableMove, push_moves};
 use super::other_model::OtherModel;
 use super::spares::keep_spares_free;
 use kd_assign::{Solution, assign};
-use kd_card::{Card, Prices, pin_settings, rotor_settings};
+use kd_card::{Card, PriceParts, Prices, pin_settings, rotor_settings};
 use kd_state::{
     Machine, OneModel, Parts, PinEntry, PinParts, RotorEntry, RotorParts, SheetDay, bar_costs,
     cable_costs,
@@ -60,7 +60,7 @@ fn rotor_card(machine: &Machine, parts: &RotorParts, entry: &RotorEntry) -> Card
         ..
     } = assign(&costs);
     keep_spares_free(&parts.cables, pairs, &mut to);
-    let prices = Prices::cables(prices_or_zeros(total, row), prices_or_zeros(total, col)).unwrap();
+    let prices = cable_prices(total, row, col);
     let mut settings = rotor_settings(machine, parts, entry);
     push_moves(&mut settings, CableMove::Out, 1, &parts.cables, pairs, &to);
     push_moves(&mut settings, CableMove::In, 1, &parts.cables, pairs, &to);
@@ -82,10 +82,40 @@ fn pin_card(parts: &PinParts, entry: &PinEntry) -> Card
         total,
         ..
     } = assign(&costs);
-    let prices = Prices::bars(prices_or_zeros(total, row), prices_or_zeros(total, col)).unwrap();
+    let prices = bar_prices(total, row, col);
     let mut settings = pin_settings(parts, entry);
     push_lugs(&mut settings, 1, &parts.bars, &entry.rows, &to);
     Card { settings, prices }
+}
+
+/// The prices for cables and columns: `rows` and `columns`, or only zeros if the assignment's cost `total` is 0.
+fn cable_prices(total: u16, rows: [i16; 13], columns: [i16; 13]) -> Prices
+    requires rows { All (λ price. unsigned_abs price ≤ 4 * 13) rows }
+    requires columns { All (λ price. unsigned_abs price ≤ 4 * 13) columns }
+    ensures { result ≡ PriceParts.Cables
+        (if total == 0 then replicate (length rows) (pos 0) else rows)
+        (if total == 0 then replicate (length columns) (pos 0) else columns) }
+{
+    Prices::cables(
+        prices_or_zeros(total, rows),
+        prices_or_zeros(total, columns),
+    )
+    .unwrap()
+}
+
+/// The prices for bars and rows: `rows` and `columns`, or only zeros if the assignment's cost `total` is 0.
+fn bar_prices(total: u16, rows: [i16; 27], columns: [i16; 27]) -> Prices
+    requires rows { All (λ price. unsigned_abs price ≤ 4 * 27) rows }
+    requires columns { All (λ price. unsigned_abs price ≤ 4 * 27) columns }
+    ensures { result ≡ PriceParts.Bars
+        (if total == 0 then replicate (length rows) (pos 0) else rows)
+        (if total == 0 then replicate (length columns) (pos 0) else columns) }
+{
+    Prices::bars(
+        prices_or_zeros(total, rows),
+        prices_or_zeros(total, columns),
+    )
+    .unwrap()
 }
 
 /// `prices`, or only zeros if the assignment's cost `total` is 0.

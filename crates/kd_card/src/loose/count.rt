@@ -42,8 +42,15 @@ fn loose_slots(slots: &[Option<Wheel>], wheels: &[SheetWheel]) -> usize
     slots
         .iter()
         .zip(wheels)
-        .filter(|(seated, wanted)| **seated != Some(wanted.wheel))
+        .filter(|(slot, wanted)| !holds(slot, wanted))
         .count()
+}
+
+/// Whether `slot` holds the wheel of `wanted`.
+fn holds(slot: &Option<Wheel>, wanted: &SheetWheel) -> bool
+    ensures { result ≡ option_map_or (same_wheel wanted.now.wheel) slot.now false }
+{
+    *slot == Some(wanted.wheel)
 }
 
 /// Counts the day's wheels whose rings aren't set to the day's letters.

@@ -41,6 +41,12 @@ sum_of_prices-requires-clause-few_columns g c =
 pub returns : goal.returns
 returns g c =
     to_z-of_z w32 c.sum_of_prices.result (search rules)
-    ∙ (rw (c.as_slice-3.ensures.value, c.as_slice-4.ensures.value, c.prices_of_kinds-rows.ensures.items,
-    c.prices_of_kinds-columns.ensures.items, c.as_slice.ensures.value, c.as_slice-2.ensures.value)
+    ∙ (rw (
+      c.as_slice-3.ensures.value,
+      c.as_slice-4.ensures.value,
+      c.prices_of_kinds-rows.ensures.items,
+      c.prices_of_kinds-columns.ensures.items,
+      c.as_slice.ensures.value,
+      c.as_slice-2.ensures.value,
+    )
     at c.sum_of_prices.ensures)
