@@ -2,7 +2,7 @@
 ghost use Rattle.arrayvec.specs.ArrayString.{array_string_len};
 ghost use Rattle.kd_card.specs.Reading.{words_after_first, EndsKindsAt, IsBadKindAt, IsKindOfWords};
 ghost use Rattle.kd_card.specs.{Kinds.{kinds_text, ComesAfter, HasKindWords, IsKind}, CardFault.{IsNextKind, IsGroupAnswer}};
-ghost use Rattle.std.specs.Prelude.{◌≡◌, ◌+◌, ◌*◌, ◌<◌, ◌≤◌, [], ◌∷◌, ◌++◌, length, All, MatchOption, MatchResult, Ok};
+ghost use Rattle.std.specs.Prelude.{◌≡◌, ◌+◌, ◌*◌, ◌<◌, ◌≤◌, [], ◌∷◌, ◌++◌, length, map, All, MatchOption, MatchResult, Ok};
 ghost use Rattle.std.specs.Prelude.{Err};
 ghost use Rattle.std.specs.Option.{option_copied};
 
@@ -17,7 +17,6 @@ use kd_tables::{is_word, number_of_text, push_number, split_words};
 ///
 /// For the line `CABLE AB 1 0`, `behind` is `AB 1 0`. For a line with only one word, `behind` is `None`. The result is
 /// `None` if the words don't make a valid kind.
-#[tactic(auto, using(crate::proofs::OneCard::words_in_place))]
 fn kind_of_words<K: Kind>(behind: Option<&[u8]>) -> Option<K>
     ensures { let words = K.format.word ∷ words_after_first (option_copied behind.entry) in
         MatchOption result
@@ -25,7 +24,18 @@ fn kind_of_words<K: Kind>(behind: Option<&[u8]>) -> Option<K>
         (IsKindOfWords K.format words) }
 {
     let words = split_words::<3>(behind?)?;
-    let [key, count, price] = words.as_slice() else {
+    kind_of_list(words.as_slice())
+}
+
+/// Parses a kind from the words after the first in its line. `None` if there are more or fewer than three words.
+#[tactic(auto, using(crate::proofs::OneCard::words_in_place))]
+fn kind_of_list<K: Kind>(words: &[&[u8]]) -> Option<K>
+    ensures { let words = K.format.word ∷ map (λ word. word.now) words.now in
+        MatchOption result
+        ((kind : K) → ¬ (HasKindWords K.format words kind))
+        (IsKindOfWords K.format words) }
+{
+    let [key, count, price] = words else {
         return None;
     };
     kind_of_parts(key, count, price)
