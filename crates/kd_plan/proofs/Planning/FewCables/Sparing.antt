@@ -68,20 +68,23 @@ costs_no_more cables pairs xs ys spare place many size once swapped a b empty ta
     let costs = costs_by cable_cost cables (columns_of pairs) in
     let u = get_or xs spare 0 in
     let v = get_or xs place 0 in
-    let rows : length costs ≡ 13 = length-map cables (λ cable. map (cable_cost cable) (columns_of pairs)) ∙ many in
+    let rows : length costs ≡ length xs =
+    length-map cables (λ cable. map (cable_cost cable) (columns_of pairs)) ∙ many ∙ sym size in
     let stays : get_or (set xs spare v) place 0 ≡ v = get_or-set_other xs spare place v 0
     (λ e. omega (arith, ap (λ k. get_or xs k 0) e)) in
-    let first = cost_set costs xs spare v (omega arith) (omega arith) in
-    let second = cost_set costs (set xs spare v) place u (rw length-set (omega arith)) (rw length-set (omega arith)) in
-    let low = once.in_range spare 0 (omega arith) in
-    let high = once.in_range place 0 (omega arith) in
+    let here : spare < length xs = rw size a in
+    let there : place < length xs = rw size b in
+    let first = cost_set costs xs spare v here rows in
+    let second = cost_set costs (set xs spare v) place u (rw length-set there) (rw length-set rows) in
+    let low : u < 13 = rw size at (once.in_range spare 0 here) in
+    let high : v < 13 = rw size at (once.in_range place 0 there) in
     let nothing : column_at pairs v ≡ None = columns_are_the_pairs pairs v ∙ slice_get_past pairs v none in
     let gain = cable_cost-exchanged (cable_of cables spare) (cable_of cables place) (column_at pairs u) empty in
-    let one = cost_is cables pairs spare u (omega arith) (omega arith) in
-    let two = cost_is cables pairs spare v (omega arith) (omega arith) ∙ ap
+    let one = cost_is cables pairs spare u (rw many a) low in
+    let two = cost_is cables pairs spare v (rw many a) high ∙ ap
     (λ column. cable_cost (cable_of cables spare) column) nothing in
-    let three = cost_is cables pairs place u (omega arith) (omega arith) in
-    let four = cost_is cables pairs place v (omega arith) (omega arith) ∙ ap
+    let three = cost_is cables pairs place u (rw many b) low in
+    let four = cost_is cables pairs place v (rw many b) high ∙ ap
     (λ column. cable_cost (cable_of cables place) column) nothing in
     rw (swapped.3 0) (omega (arith, ap (λ j. cost_at costs place j) stays))
 
