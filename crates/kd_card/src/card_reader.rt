@@ -1,11 +1,11 @@
 //! Reads the text of a card.
 ghost use Rattle.kd_card.specs.CardFault.{BeginsWithHead, HasLineWords, IsValueAnswer, IsGroupsAnswer, IsListsAnswer};
-ghost use Rattle.kd_card.specs.CardFault.{IsAllPricesAnswer, IsTableAnswer, IsTablePricesAnswer, IsRestAnswer, IsCardFault};
-ghost use Rattle.kd_card.specs.{CardText.IsCard, Prices.price_sum, Reading.IsNoPriceLine};
+ghost use Rattle.kd_card.specs.CardFault.{IsAllPricesAnswer, IsTableAnswer, IsTablePricesAnswer, IsRestAnswer};
+ghost use Rattle.kd_card.specs.{CardFault.IsCardFault, CardText.IsCard, Prices.price_sum, Reading.IsNoPriceLine};
 ghost use Rattle.kd_state.specs.declared.setting.Setting.{Setting};
 ghost use Rattle.kd_tables.specs.LineWords.{words_of, IsWithout};
-ghost use Rattle.std.specs.Prelude.{◌≡◌, ◌≢◌, ℕ, ◌<◌, ◌≤◌, ◌∷◌, ◌++◌, ◌+◌, List, MatchOption, MatchResult, Ok, Err, true};
-ghost use Rattle.std.specs.{Prelude.{codes, decimal, false}, Fmt.signed_decimal};
+ghost use Rattle.std.specs.Prelude.{◌≡◌, ◌≢◌, ℕ, ◌<◌, ◌≤◌, ◌∷◌, ◌++◌, ◌+◌, List, MatchOption, MatchResult, Ok, Err};
+ghost use Rattle.std.specs.{Prelude.{codes, decimal, false, true}, Fmt.signed_decimal};
 
 use super::card::Card;
 use super::fault::CardFault;

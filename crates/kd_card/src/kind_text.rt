@@ -1,9 +1,10 @@
 //! Reads and writes the lines of kinds: one line for each kind of cables, columns, bars or rows.
 ghost use Rattle.arrayvec.specs.ArrayString.{array_string_len};
 ghost use Rattle.kd_card.specs.Reading.{words_after_first, EndsKindsAt, IsBadKindAt, IsKindOfWords};
-ghost use Rattle.kd_card.specs.{Kinds.{kinds_text, ComesAfter, HasKindWords, IsKind}, CardFault.{IsNextKind, IsGroupAnswer}};
-ghost use Rattle.std.specs.Prelude.{◌≡◌, ◌+◌, ◌*◌, ◌<◌, ◌≤◌, [], ◌∷◌, ◌++◌, length, map, All, MatchOption, MatchResult, Ok};
-ghost use Rattle.std.specs.Prelude.{Err};
+ghost use Rattle.kd_card.specs.Kinds.{kinds_text, ComesAfter, HasKindWords, IsKind};
+ghost use Rattle.kd_card.specs.CardFault.{IsNextKind, IsGroupAnswer};
+ghost use Rattle.std.specs.Prelude.{◌≡◌, ◌+◌, ◌*◌, ◌<◌, ◌≤◌, [], ◌∷◌, ◌++◌, length, map, All, MatchOption, MatchResult};
+ghost use Rattle.std.specs.Prelude.{Ok, Err};
 ghost use Rattle.std.specs.Option.{option_copied};
 
 use super::fault::CardFault;

@@ -1,7 +1,8 @@
 //! The prices of a card, by number or by kind. With prices by number, each cable, column, bar or row has its own price.
 //! With prices by kind, all cables, columns, bars or rows of one kind share a price.
 ghost use Rattle.kd_card.specs.Prices.{price_sum, version_of, ArePricesInRange, IsPriceList, ArePrices};
-ghost use Rattle.kd_card.specs.{CardFault.first_text, CardText.price_lines, Kinds.{prices_of_kinds, IsGroup}, Reading.head_prefix};
+ghost use Rattle.kd_card.specs.{CardFault.first_text, CardText.price_lines, Reading.head_prefix};
+ghost use Rattle.kd_card.specs.Kinds.{prices_of_kinds, IsGroup};
 ghost use Rattle.std.specs.Prelude.{◌≡◌, ◌↔◌, ◌+◌, ◌*◌, ◌≤◌, ◌++◌, length, fold, pos, unsigned_abs, ◌+ℤ◌, IsTrue};
 ghost use Rattle.std.specs.Prelude.{MatchOption};
 

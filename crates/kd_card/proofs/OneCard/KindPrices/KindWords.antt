@@ -136,11 +136,6 @@ module _ {K X : Type 0} {format : KindFormat K X} where
         → HasKindWords format words kind
     words_are next = record { good = next.good; written = (same_words next.line has).0 }
 
-    pub out_of_order : {last : Option K} {kind : K} → IsKindOfWords format words kind → ¬ (ComesAfter format last kind)
-        → HasNoNext format last text
-    out_of_order {last} {kind} is low other more next =
-        low (same_after format last kind other (is.only other (words_are next)) next.after)
-
 pub no_count : {K X : Type 0} (format : KindFormat K X) (key count price : List ℕ) → decimal 0 ≡ count
     → (kind : K) → ¬ (HasKindWords format (format.word ∷ key ∷ count ∷ price ∷ []) kind)
 no_count format key count price is kind has = grind (arith, common_steps, decimal_injective)

@@ -12,7 +12,8 @@ returns-in_default-split_settings c =
 pub returns-in_err-prices : goal.returns-in_err-prices
 returns-in_err-prices c =
     MatchResult-err _ _ _ _ c.from_residual.ensures.1
-    (up_to_settings c.in-Some.ensures c.in-Some-split_settings.ensures c.len.ensures.value (c.in_err-prices.ensures _ _))
+    (up_to_settings c.in-Some.ensures c.in-Some-split_settings.ensures c.len.ensures.value
+    (c.in_err-prices.ensures _ _))
 
 pub returns : goal.returns
 returns c =
