@@ -115,7 +115,6 @@ fn push_lists<const M: usize, const N: usize>(
 }
 
 /// Appends a line for each kind: first for `rows`, and then for `columns`.
-#[tactic(auto, using(crate::proofs::OneCard::groups_joined))]
 fn push_groups<R: Kind, C: Kind, const M: usize, const N: usize>(
     text: &mut ArrayString<N>,
     rows: &ArrayVec<R, M>,
