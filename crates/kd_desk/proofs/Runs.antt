@@ -1,5 +1,6 @@
 -- Files that are read one after another, and the program's answer to a command.
 use Rattle.kd_desk.specs.{Program.is_stopped_before_message, CallAnswers.is_refused_before_message, Stops.stop_after}
+use Rattle.kd_command.specs.CommandLine.{files_of}
 use Rattle.kd_desk.specs.declared.{fault.DeskFault.DeskFault, fault.DeskFault.TheVariants.{Device, File}}
 use Rattle.kd_desk.specs.declared.stop.Stop.TheVariants.{ReadFailed, Refused}
 use Rattle.kd_sheet.specs.declared.fault.SheetFault.TheVariants.{NoMemory}
@@ -43,6 +44,15 @@ module _ (names : List (List ℕ)) (asked : List AskedName) where
   pub asked_all : (left : KnownFile) (command : KnownCommand) (source sink : Port) (answer : Result (Unit {0}) Stop)
       → IsCommandDone left command source sink answer → AreAskedFor names [] asked true → Asks answer
   asked_all left command source sink answer done asks = subst Asks (sym done.answers) (asks_after _ done.told asks)
+
+-- If only the files of `said` were asked for, and `command` is the same command, then only the files of `command` were.
+pub asked_for : (said command : NamedCommand) → said ≡ command → (before asked after : List AskedName) (read : Bool)
+    → before ≡ [] → after ≡ asked → AreAskedFor (files_of said) before asked read
+    → AreAskedFor (files_of command) [] after read
+asked_for said command same before asked after read first last asks =
+    subst (λ n. AreAskedFor (files_of n) [] after read) same
+    (subst (λ b. AreAskedFor (files_of said) b after read) first
+    (subst (λ a. AreAskedFor (files_of said) before a read) (sym last) asks))
 
 -- ---- the program's answer
 

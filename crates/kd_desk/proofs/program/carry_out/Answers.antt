@@ -1,4 +1,4 @@
-use Rattle.kd_desk.proofs.{Prelude.refl}
+use Rattle.kd_desk.proofs.{Prelude.{false, refl}, Runs.{early, refused_before}}
 use Rattle.kd_host.proofs.Failing.{FailureAgrees-sink}
 use Rattle.kd_desk.proofs.program.carry_out.Goals as goal
 
@@ -23,3 +23,26 @@ returns-in-Apply-clause-does g c =
 
 pub returns-clause-failed : goal.returns-clause-failed
 returns-clause-failed g c = FailureAgrees-sink _ _ _ refl c.carry_task.ensures.failed
+
+pub returns-in-Type-clause-untouched : goal.returns-in-Type-clause-untouched
+returns-in-Type-clause-untouched g c =
+    λ stopped. c.run_type.ensures.untouched (refused_before false _ _ c.of_answer.ensures stopped)
+
+pub returns-in-Apply-clause-untouched : goal.returns-in-Apply-clause-untouched
+returns-in-Apply-clause-untouched g c = λ stopped. (
+  refl,
+  early _ c.run_apply.ensures.untouched
+      (refused_before false _ _ c.of_answer-in-Apply.ensures stopped),
+)
+
+pub returns-clause-untouched : goal.returns-clause-untouched
+returns-clause-untouched g c = λ stopped. (refl, c.carry_task.ensures.untouched stopped)
+
+pub returns-clause-does : goal.returns-clause-does
+returns-clause-does g c =
+    let run = c.carry_task.ensures.does in
+    rw (c.in-OnDay.is, ← c.as_slice-machine.ensures, ← c.as_slice-in-OnDay.ensures) (record {
+      told = run.told;
+      does = (run.does, record { has = refl; well = refl });
+      answers = run.answers;
+    })
