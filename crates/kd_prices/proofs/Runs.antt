@@ -31,19 +31,22 @@ module _ {K X : Type 0} (format : KindFormat K X) where
     fine = All-tail (IsValidKeyAndPrice format) pair pairs can.fine;
   }
 
-  pub all_kinds : (pairs sorted rest : List (X × ℤ)) (pair : X × ℤ) (kinds : List K) → IsPermutation pairs sorted
-      → AreSorted format sorted → sorted ≡ pair ∷ rest → AppendsKinds format (kind_of_one pair) rest [] kinds
-      → HaveOnePriceEach pairs → All (IsValidKeyAndPrice format) pairs → AreKinds format None kinds
-  all_kinds pairs sorted rest pair kinds moved rise split appends one fine =
+  pub can_be_kinds : (pairs sorted : List (X × ℤ)) → IsPermutation pairs sorted → AreSorted format sorted
+      → HaveOnePriceEach pairs → All (IsValidKeyAndPrice format) pairs → CanBeKinds format sorted
+  can_be_kinds pairs sorted moved rise one fine =
       let back = Contains-permutation sorted pairs in
-      let moved_back = IsPermutation-sym pairs sorted moved in
-      let can : CanBeKinds format sorted = record {
+      let moved_back = IsPermutation-sym pairs sorted moved in record {
         sorted = rise;
         one_price = λ key price other a b.
             one key price other (back (key, price) moved_back a) (back (key, other) moved_back b);
         fine = All-permutation (IsValidKeyAndPrice format) pairs sorted moved fine;
-      } in
-      rw appends.is (appends.in_order None (rw split at can) (λ first same. tt))
+      }
+
+  pub all_kinds : (pairs rest : List (X × ℤ)) (pair : X × ℤ) (kinds : List K) → pairs ≡ pair ∷ rest
+      → AppendsKinds format (kind_of_one pair) rest [] kinds
+      → (expansion (map format.kind kinds) ≡ pairs) × (CanBeKinds format pairs → AreKinds format None kinds)
+  all_kinds pairs rest pair kinds split appends =
+      rw (split, appends.is) (appends.expand, λ can. appends.in_order None can (λ first same. tt))
 
   module _ (kind : KindOf X) (some : 1 ≤ kind.count) (few : kind.count ≤ 255) (old new : List K) where
     valid : (made : K) (pairs : List (X × ℤ)) → format.kind made ≡ kind

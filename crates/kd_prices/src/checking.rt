@@ -3,7 +3,7 @@ ghost use Rattle.std.specs.Prelude.{◌≡◌, ◌↔◌, ◌≤◌, length, IsO
 ghost use Rattle.kd_state.specs.{Costs.{cost_table}, Entry.{rotor_values, pin_values}};
 ghost use Rattle.kd_state.specs.{Machine.{IsMachine, model_of}, SheetDay.{day_model, IsLegalDay, Rotor, Pin}};
 ghost use Rattle.kd_state.specs.declared.machine.parts.Parts.TheVariants.{Rotor, Pin};
-ghost use Rattle.kd_card.specs.{Proving.Proves, declared.prices.PriceParts.TheVariants.{Bars, Cables}};
+ghost use Rattle.kd_card.specs.{Proving.{Proves, priced_count}, declared.prices.PriceParts.TheVariants.{Bars, Cables}};
 ghost use Rattle.kd_card.specs.Prices.{ArePrices, ArePricesInRange};
 ghost use Rattle.kd_prices.specs.Doubt.{IsDoubt, IsCheckedAnswer, IsByPricesAnswer, ArePricesFound};
 
@@ -126,9 +126,16 @@ fn check_by_prices<const N: usize>(
     if let Some((row, column)) = first_too_high(costs, &rows, &columns) {
         return Err(Doubt::PriceTooHigh(row as u8 + 1, column as u8 + 1));
     }
-    let priced = settings.iter().filter(|x| is_priced_setting(x)).count();
-    if sum_of_prices(&rows, &columns) != priced as i32 {
+    if sum_of_prices(&rows, &columns) != priced_count(settings) as i32 {
         return Err(Doubt::SumDiffers);
     }
     carried.need_result
+}
+
+/// Counts the settings that change a cable or a bar.
+fn priced_count(settings: &[Setting]) -> usize
+    ensures value { result ≡ priced_count settings.now }
+    ensures few { result ≤ length settings.now }
+{
+    settings.iter().filter(|x| is_priced_setting(x)).count()
 }

@@ -1,7 +1,8 @@
 //! Groups keys with prices into kinds, by sorting.
 ghost use Rattle.std.specs.Prelude.{◌≡◌, ◌↔◌, ◌+◌, ◌<◌, ◌≤◌, length, map, IsPermutation, All, IsTrue, None};
 ghost use Rattle.kd_card.specs.Kinds.{AreKinds, expansion};
-ghost use Rattle.kd_prices.specs.Grouping.{HaveOnePriceEach, IsValidKeyAndPrice, AppendsKinds, kind_of_one};
+ghost use Rattle.kd_prices.specs.Grouping.{HaveOnePriceEach, IsValidKeyAndPrice, AppendsKinds, AreSorted};
+ghost use Rattle.kd_prices.specs.Grouping.{CanBeKinds, kind_of_one};
 
 use super::kind_keys::is_same_key;
 use arrayvec::ArrayVec;
@@ -19,9 +20,27 @@ pub(crate) fn kinds_of<K: Kind, const N: usize>(pairs: ArrayVec<(K::Key, i16), N
         → AreKinds K.format None result.items }
 {
     let mut pairs = pairs;
+    sort_by_key::<K>(pairs.as_mut_slice());
+    kinds_of_sorted(pairs.as_slice())
+}
+
+/// Sorts `pairs`, which are keys with prices, by their keys.
+fn sort_by_key<K: Kind>(pairs: &mut [(K::Key, i16)])
+    ensures permutation { IsPermutation pairs.old pairs.new }
+    ensures sorted { AreSorted K.format pairs.new }
+{
     pairs.sort_unstable_by(|one, other| K::compare(&one.0, &other.0));
+}
+
+/// Groups `pairs`, which are sorted keys with prices, into kinds.
+fn kinds_of_sorted<K: Kind, const N: usize>(pairs: &[(K::Key, i16)]) -> ArrayVec<K, N>
+    requires small { N ≤ 255 }
+    requires room { length pairs.now ≤ N }
+    ensures expand { expansion (map K.format.kind result.items) ≡ pairs.now }
+    ensures in_order { CanBeKinds K.format pairs.now → AreKinds K.format None result.items }
+{
     let mut kinds = ArrayVec::new();
-    if let [pair, rest @ ..] = pairs.as_slice() {
+    if let Some((pair, rest)) = pairs.split_first() {
         push_kinds(kind_of_one(pair), rest, &mut kinds);
     }
     kinds
@@ -52,16 +71,16 @@ fn push_kinds<K: Kind, const N: usize>(
     requires few { kind.count + length pairs.now ≤ 255 }
     ensures { AppendsKinds K.format kind pairs.now kinds.old.items kinds.new.items }
 {
-    match pairs {
-        [] => kinds.push(K::of(kind)),
-        [pair, rest @ ..] if is_of_kind::<K>(pair, &kind) => {
-            let count = kind.count + 1;
-            push_kinds(KindOf { count, ..kind }, rest, kinds);
-        }
-        [pair, rest @ ..] => {
-            kinds.push(K::of(kind));
-            push_kinds(kind_of_one(pair), rest, kinds);
-        }
+    let Some((pair, rest)) = pairs.split_first() else {
+        kinds.push(K::of(kind));
+        return;
+    };
+    if is_of_kind::<K>(pair, &kind) {
+        let count = kind.count + 1;
+        push_kinds(KindOf { count, ..kind }, rest, kinds);
+    } else {
+        kinds.push(K::of(kind));
+        push_kinds(kind_of_one(pair), rest, kinds);
     }
 }
 

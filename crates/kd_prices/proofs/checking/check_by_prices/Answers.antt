@@ -37,8 +37,8 @@ returns-in-Some g c = rw c.in_ok-rows.was (λ prices row column many.
 same_sum : (sum : ℤ) (count : ℕ) → SFits w32 sum → count < 2 ^ 31 → of_z w32 sum ≡ count → sum ≡ pos count
 same_sum sum count small few e = sym (to_z-of_z w32 sum small) ∙ ap (to_z w32) e ∙ to_z_pos w32 count few
 
-pub returns-then-sum_of_prices-priced : goal.returns-then-sum_of_prices-priced
-returns-then-sum_of_prices-priced g c = rw c.in_ok-rows.was (λ prices row column many.
+pub returns-then-sum_of_prices-priced_count : goal.returns-then-sum_of_prices-priced_count
+returns-then-sum_of_prices-priced_count g c = rw c.in_ok-rows.was (λ prices row column many.
     let is : c.sum_of_prices.result ≡ price_sum prices = rw (row, column) c.sum_of_prices.ensures in
     let differs : price_sum prices ≢ pos (priced_count c.args.settings.now) = search rules in
     GoesOn c.in_ok-carried.carried.reached c.in_ok-carried.ensures.leads
@@ -48,12 +48,11 @@ returns-then-sum_of_prices-priced g c = rw c.in_ok-rows.was (λ prices row colum
 
 pub returns : goal.returns
 returns g c = rw c.in_ok-rows.was (λ prices row column many.
-    let value : c.count-priced.result ≡ priced_count c.args.settings.now = search rules in
-    let few : c.count-priced.result < 2 ^ 31 = search rules in
+    let few : c.priced_count.result < 2 ^ 31 = omega (arith, c.priced_count.ensures.few, c.requires.few) in
     let same =
-    same_sum c.sum_of_prices.result c.count-priced.result (search rules) few c.if-sum_of_prices-priced.false in
+    same_sum c.sum_of_prices.result c.priced_count.result (search rules) few c.if-sum_of_prices-priced_count.false in
     let is : c.sum_of_prices.result ≡ price_sum prices = rw (row, column) c.sum_of_prices.ensures in
     GoesOn c.in_ok-carried.carried.reached c.in_ok-carried.ensures.leads
     (GoesOn tt (c.reads_as.ensures.0 c.if-not-reads_as.false)
     (GoesOn tt (rw (row, column, many) (rw c.requires.costs at c.in_default.ensures))
-    (GoesOn tt (sym is ∙ same ∙ ap pos value) c.in_ok-carried.ensures.needed))))
+    (GoesOn tt (sym is ∙ same ∙ ap pos c.priced_count.ensures.value) c.in_ok-carried.ensures.needed))))
