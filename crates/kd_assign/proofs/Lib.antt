@@ -5,3 +5,4 @@ pub mod TreeGrowth
 pub mod Places
 pub mod Sums
 pub mod AllRows
+pub mod Differences

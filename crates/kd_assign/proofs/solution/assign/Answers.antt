@@ -1,33 +1,44 @@
 use Rattle.kd_assign.proofs.ScanCounts.{scans_of_trees-all, scans_of_trees-most}
 use Rattle.kd_assign.proofs.AllRows.{columns_at_most, fits, is_least, price_sum_is, rows_at_most}
-use Rattle.std.proofs.Common.{arith, sym}
+use Rattle.std.proofs.Common.{ap, arith, pos, sym, ◌∙◌}
 use Rattle.kd_assign.proofs.solution.assign.Goals as goal
 
 pub assign_row-requires : goal.assign_row-requires
 assign_row-requires g c = grind (arith, scans_of_trees-most)
 
 pub returns-clause-price_sum : goal.returns-clause-price_sum
-returns-clause-price_sum g c = grind (arith, price_sum_is)
+returns-clause-price_sum g c =
+    price_sum_is _ _ c.loop-row.auto.row-end c.loop-row.invariant.solved c.told-cost c.loop-row.invariant.len
+    c.row_prices-row.ensures.len c.columns_of_rows-to.ensures.len c.columns_of_rows-to.ensures.columns
+    c.row_prices-row.ensures.prices c.columns_of_rows-to.ensures.one_to_one
+    ∙ ap pos (sym c.assignment_cost-total.ensures)
 
 pub returns-clause-fits : goal.returns-clause-fits
-returns-clause-fits g c = grind (arith, fits)
+returns-clause-fits g c =
+    fits _ _ c.loop-row.auto.row-end c.loop-row.invariant.solved c.told-cost c.loop-row.invariant.len
+    c.row_prices-row.ensures.len c.columns_of_rows-to.ensures.len c.columns_of_rows-to.ensures.columns
+    c.row_prices-row.ensures.prices
 
 pub returns-clause-row_prices : goal.returns-clause-row_prices
 returns-clause-row_prices g c =
-    rows_at_most _ _ (omega arith) c.loop-row.invariant.solved (omega arith) (omega arith) (omega arith) (omega arith)
-    c.columns_of_rows-to.ensures.columns c.row_prices-row.ensures.prices c.requires.costs
-    c.columns_of_rows-to.ensures.one_to_one
+    rows_at_most _ _ c.loop-row.auto.row-end c.loop-row.invariant.solved c.told-cost c.loop-row.invariant.len
+    c.row_prices-row.ensures.len c.columns_of_rows-to.ensures.len c.columns_of_rows-to.ensures.columns
+    c.row_prices-row.ensures.prices c.requires.costs c.columns_of_rows-to.ensures.one_to_one
 
 pub returns-clause-col_prices : goal.returns-clause-col_prices
-returns-clause-col_prices g c = grind (arith, columns_at_most)
+returns-clause-col_prices g c =
+    columns_at_most _ _ c.loop-row.auto.row-end c.loop-row.invariant.solved c.told-cost c.loop-row.invariant.len
+    c.row_prices-row.ensures.len c.columns_of_rows-to.ensures.len c.columns_of_rows-to.ensures.columns
+    c.row_prices-row.ensures.prices
 
 pub returns-clause-cheapest : goal.returns-clause-cheapest
 returns-clause-cheapest g c = record {
   one_to_one = c.columns_of_rows-to.ensures.one_to_one;
   cost_is = sym c.assignment_cost-total.ensures;
   least =
-      is_least _ _ (omega arith) c.loop-row.invariant.solved (omega arith) (omega arith) (omega arith) (omega arith)
-      c.columns_of_rows-to.ensures.columns c.row_prices-row.ensures.prices c.columns_of_rows-to.ensures.one_to_one
+      is_least _ _ c.loop-row.auto.row-end c.loop-row.invariant.solved c.told-cost c.loop-row.invariant.len
+      c.row_prices-row.ensures.len c.columns_of_rows-to.ensures.len c.columns_of_rows-to.ensures.columns
+      c.row_prices-row.ensures.prices c.columns_of_rows-to.ensures.one_to_one
       c.assignment_cost-total.ensures;
 }
 
