@@ -1,6 +1,6 @@
--- The difference of two numbers from -128 to 4, such as a price and a cost, is exact in 16 bits.
+-- The difference of two numbers from -128 to 4, such as a price and a cost, is exact in 16 bits. So is a level plus a cost.
 use Rattle.kd_assign.proofs.Prelude.{AreWithinCeilings, ints, price_at, to_z-of_z}
-use Rattle.std.proofs.Common.{List, SFits, arith, of_z, pos, rules, to_z, w16, ℕ, ℤ, ◌-ℤ◌, ◌<◌, ◌≡◌, ◌≤ℤ◌, ◌≤◌}
+use Rattle.std.proofs.Common.{List, SFits, arith, of_z, pos, rules, to_z, w16, ℕ, ℤ, ◌+ℤ◌, ◌-ℤ◌, ◌<◌, ◌≡◌, ◌≤ℤ◌, ◌≤◌}
 use Rattle.std.specs.Prelude.{neg_ℤ}
 
 -- The number is from -128 to 4.
@@ -36,3 +36,12 @@ module _ (x y : ℤ) (small : IsSmall x) (small' : IsSmall y) where
   difference-exact =
       rw (to_z-of_z w16 x (SFits-small x small), to_z-of_z w16 y (SFits-small y small')) (to_z-of_z w16 (x -ℤ y)
       SFits-exact)
+
+-- The sum of a level from -256 to 4 and a cost of at most 4 is exact in 16 bits.
+pub sum-exact : (level : ℤ) (cost : ℕ) → SFits w16 level → neg_ℤ (pos 256) ≤ℤ level → level ≤ℤ pos 4 → cost ≤ 4
+    → to_z w16 (of_z w16 (to_z w16 (of_z w16 level) +ℤ to_z w16 (of_z w16 (pos cost))))
+    ≡ (to_z w16 (of_z w16 level) +ℤ pos cost)
+sum-exact level cost fits low high few =
+    let fits_sum : SFits w16 (level +ℤ pos cost) = first_of (search rules, grind (arith, ints)) in
+    rw (to_z-of_z w16 level fits, to_z-of_z w16 (pos cost) (SFits-small (pos cost) (IsSmall-cost cost few)))
+    (to_z-of_z w16 (level +ℤ pos cost) fits_sum)

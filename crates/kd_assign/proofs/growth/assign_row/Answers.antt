@@ -1,22 +1,23 @@
-use Rattle.std.proofs.Common.{add-one, ◌+◌, ◌∙◌, count_by, is_some, None, set, false, w16, rules, arith}
+use Rattle.std.proofs.Common.{[], add-one, ◌+◌, ◌∙◌, count_by, is_some, None, set, false, w16, rules, arith}
 use Rattle.kd_assign.proofs.ScanCounts.{scans_of_tree-grows, scans_of_tree-most}
 use Rattle.kd_assign.proofs.TreeGrowth.{IsSolvedUpTo-with_root, IsGrownTree-root_alone, IsGrownTree-with_end}
 use Rattle.kd_assign.proofs.TreeGrowth.{outside-exists}
+use Rattle.kd_assign.proofs.Differences.{IsSmall-ceiling}
 use Rattle.kd_assign.proofs.Places.{count-reached, count_at_most}
-use Rattle.kd_assign.proofs.Prelude.{common_steps, length-set, to_z-of_z, count_by-le-length}
+use Rattle.kd_assign.proofs.Prelude.{common_steps, get_or-set_same, length-set, to_z-of_z, count_by-le-length}
 use Rattle.kd_assign.proofs.growth.assign_row.Goals as goal
 
 pub loop-holders-init : goal.loop-holders-init
 loop-holders-init g c = record {
-  prices = search rules;
-  rows = search rules;
-  ceilings = search rules;
-  solved = search rules;
+  prices = c.told-prices;
+  rows = c.join.ensures.rows;
+  ceilings = c.join.ensures.ceilings;
+  solved = c.requires.solved;
   grown =
       IsGrownTree-root_alone c.requires.few c.requires.row c.requires.costs c.requires.solved
       (grind (arith, common_steps))
       (λ j. grind (arith, common_steps)) (search rules) c.new-nearest.ensures.far c.join.ensures.compared
-      (grind (arith, common_steps)) (grind (arith, common_steps));
+      (rw length-set c.told-plans) (get_or-set_same c.args.plans.now c.args.root c.args.holders.now [] (rw c.told-plans c.requires.row));
   scans = grind (arith, common_steps);
 }
 
@@ -25,6 +26,37 @@ column-column-requires g c =
     let so_far = c.loop-holders.invariant in
     let some = outside-exists so_far.solved so_far.grown (omega arith) in
     (search rules, (search rules, (search rules, (search rules, (so_far.grown.close, some)))))
+
+pub bounds-plans-row : goal.bounds-plans-row
+bounds-plans-row g c =
+    let grown = c.loop-holders.invariant.grown in
+    let nearest = c.column-column.ensures in
+    let plan = grown.plan c.column-column.result nearest.within nearest.outside in
+    omega (arith, grown.plan_places, plan.out_in_range)
+
+pub bounds-plans-holder : goal.bounds-plans-holder
+bounds-plans-holder g c =
+    let so_far = c.loop-holders.invariant in
+    omega (arith, so_far.grown.plan_places, so_far.solved.rows c.in-Some.holder _ c.in-Some.is)
+
+pub level-level-requires : goal.level-level-requires
+level-level-requires g c =
+    let so_far = c.loop-holders.invariant in
+    let within = c.column-column.ensures.within in
+    let small = IsSmall-ceiling c.column-column.result so_far.grown.close within in (
+      search rules,
+      (
+        search rules,
+        (
+          search rules,
+          (so_far.solved.rows c.in-Some.holder _ c.in-Some.is, (within, (c.requires.costs, small))),
+        ),
+      ),
+    )
+
+pub room-by-requires : goal.room-by-requires
+room-by-requires g c =
+    (search rules, (search rules, (c.column-column.ensures.within, c.loop-holders.invariant.grown.close)))
 
 pub join-requires-in-Some : goal.join-requires-in-Some
 join-requires-in-Some g c = grind (arith, to_z-of_z, scans_of_tree-most, count_by-le-length)
@@ -37,10 +69,10 @@ loop-holders-preserved g c =
     let so_far = c.loop-holders.invariant in
     let level = to_z-of_z w16 c.level-level.result (search rules) ∙ c.level-level.ensures.value in
     record {
-      prices = search rules;
-      rows = search rules;
-      ceilings = search rules;
-      solved = search rules;
+      prices = so_far.prices;
+      rows = c.join-in-Some.ensures.rows;
+      ceilings = c.join-in-Some.ensures.ceilings;
+      solved = so_far.solved;
       grown =
           IsGrownTree-with_end so_far.solved so_far.grown c.column-column.ensures c.in-Some.is level
           c.join-in-Some.ensures.compared;

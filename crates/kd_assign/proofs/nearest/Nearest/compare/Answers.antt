@@ -1,0 +1,43 @@
+use Rattle.kd_assign.proofs.Prelude.{IsCompared, get_or-set_other, get_or-set_same, ints, price_at, to_z-of_z}
+use Rattle.std.proofs.Common.{SFits, arith, false, inr, length, pos, refl, rules, w16, ℕ, ℤ, ◌<◌}
+use Rattle.std.specs.Prelude.{◌<ℤ◌}
+use Rattle.kd_assign.proofs.nearest.Nearest.compare.Goals as goal
+
+lower_offer : (row near : ℕ) (offer ceiling : ℤ) → offer <ℤ ceiling
+    → IsCompared false row offer near ceiling row offer
+lower_offer row near offer ceiling less = record {
+  one = inr (refl, refl, refl);
+  least = omega (arith, ints);
+  here = λ outside. omega (arith, ints);
+}
+
+pub returns-then-closer-clause-compared : goal.returns-then-closer-clause-compared
+returns-then-closer-clause-compared g c =
+    let nearest = c.args.self.now in
+    let column = c.args.column in
+    let offer = to_z-of_z w16 c.args.offer c.ranges.offer in
+    let fits : SFits w16 (price_at nearest.ceiling column) = search rules in
+    let less = rw (offer, to_z-of_z w16 _ fits) at (c.closer.ensures.less.0 c.if-closer.true) in
+    let in_rows : column < length nearest.row = search rules in
+    let in_ceilings : column < length nearest.ceiling = search rules in
+    rw (
+      c.if-not-reached.true,
+      offer,
+      get_or-set_same nearest.row column c.args.row 0 in_rows,
+      get_or-set_same nearest.ceiling column c.args.offer (pos 0) in_ceilings,
+    )
+    (lower_offer _ _ _ _ less)
+
+pub returns-then-closer-clause-other_rows : goal.returns-then-closer-clause-other_rows
+returns-then-closer-clause-other_rows g c = λ j other.
+    get_or-set_other c.args.self.now.row c.args.column j c.args.row 0 other
+
+pub returns-then-closer-clause-other_ceilings : goal.returns-then-closer-clause-other_ceilings
+returns-then-closer-clause-other_ceilings g c = λ j other.
+    get_or-set_other c.args.self.now.ceiling c.args.column j _ (pos 0) other
+
+pub returns-else-not-reached-clause-other_rows : goal.returns-else-not-reached-clause-other_rows
+returns-else-not-reached-clause-other_rows g c = λ j other. refl
+
+pub returns-else-not-reached-clause-other_ceilings : goal.returns-else-not-reached-clause-other_ceilings
+returns-else-not-reached-clause-other_ceilings g c = λ j other. refl
