@@ -1,8 +1,8 @@
 -- Lists with the row of each column: which columns are taken, and what changing one entry changes.
-use Rattle.std.proofs.Common.{◌≡◌, ◌≢◌, ℕ, suc, ◌+◌, ◌<◌, ◌≤◌, List, [], ◌∷◌, length, get_or, set, Bool, true, false}
+use Rattle.std.proofs.Common.{◌≡◌, ◌≢◌, ℕ, suc, ◌+◌, ◌-◌, ◌<◌, ◌≤◌, List, [], ◌∷◌, length, get_or, set, Bool, true, false}
 use Rattle.std.proofs.Common.{Option, Some, None, is_some, count_by, cond, ◌⊎◌, refl, arith}
 use Rattle.kd_assign.proofs.Prelude.{cases_eq, cases_lt, get_or_past, get_or-set_same, get_or-set_other, sum_by-set}
-use Rattle.kd_assign.proofs.Prelude.{none-some, sum_by-cons, IsColumnTakenBy, IsColumnFree, has_column}
+use Rattle.kd_assign.proofs.Prelude.{count_by-le-length, length-set, none-some, sum_by-cons, IsColumnTakenBy, IsColumnFree, has_column}
 
 -- a column that is taken lies within the list
 pub length-IsColumnTakenBy : (xs : List (Option ℕ)) (j i : ℕ) → IsColumnTakenBy xs j i → j < length xs
@@ -21,6 +21,11 @@ count-set xs k v h = sum_by-set (λ x. cond (is_some x) 1 0) xs k v None h
 pub count-reached : (reached : List Bool) (k : ℕ) → k < length reached → has_column reached k ≡ false →
     count_by (λ r. r) (set reached k true) ≡ count_by (λ r. r) reached + 1
 count-reached reached k h e = grind (arith, sum_by-set (λ (r : Bool). cond r 1 0) reached k true false h)
+
+-- once column `k` has joined the tree, fewer columns are outside
+pub fewer-outside : (reached : List Bool) (k : ℕ) → k < length reached → has_column reached k ≡ false →
+    length (set reached k true) - count_by (λ r. r) (set reached k true) < length reached - count_by (λ r. r) reached
+fewer-outside reached k h e = grind (arith, count-reached, count_by-le-length, length-set)
 
 -- if not all columns are taken, one is free
 pub free_column : (xs : List (Option ℕ)) → count_by is_some xs < length xs → (j : ℕ) × (j < length xs)

@@ -1,6 +1,8 @@
 -- How many comparisons trees take: bounds, and sums in closed form.
-use Rattle.std.proofs.Common.{◌≡◌, ℕ, zero, suc, ◌+◌, ◌*◌, ◌/◌, ◌≤◌, inl, inr, arith}
-use Rattle.kd_assign.proofs.Prelude.{cases_eq, scans_of_tree}
+use Rattle.std.proofs.Common.{◌≡◌, ℕ, zero, suc, ◌+◌, ◌*◌, ◌/◌, ◌<◌, ◌≤◌, ◌^◌, inl, inr, arith, add-one}
+use Rattle.std.proofs.Common.{Bool, List, count_by, false, length, set, true}
+use Rattle.kd_assign.proofs.Places.{count-reached}
+use Rattle.kd_assign.proofs.Prelude.{cases_eq, count_by-le-length, has_column, length-set, scans_of_tree}
 
 -- the number of comparisons for `trees` trees: the first tree has one row, and each next tree has one row more
 abbrev pub scans_of_trees : ℕ → ℕ → ℕ
@@ -19,6 +21,25 @@ scans_of_tree-grows n few (suc rows) h = elim (cases_eq few (suc rows)) [
 pub scans_of_tree-most : (n rows : ℕ) → n ≤ 32 → scans_of_tree n rows ≤ 32 * rows
 scans_of_tree-most n zero h = omega arith
 scans_of_tree-most n (suc rows) h = let fewer = scans_of_tree-most n rows h in omega arith
+
+-- a tree has at least one row, which takes `n` comparisons
+pub scans_of_tree-least : (n rows : ℕ) → n ≤ scans_of_tree n (rows + 1)
+scans_of_tree-least n rows = grind (arith, scans_of_tree-grows n 1 (rows + 1) (omega arith))
+
+-- once column `k` and the row that holds it have joined the tree, this row is compared with the columns outside
+pub scans_of_tree-more : (n start scans new : ℕ) (reached : List Bool) (k : ℕ) → length reached ≡ n → k < n
+    → has_column reached k ≡ false → scans ≡ start + scans_of_tree n (count_by (λ r. r) reached + 1)
+    → new + count_by (λ r. r) (set reached k true) ≡ scans + n
+    → new ≡ start + scans_of_tree n (count_by (λ r. r) (set reached k true) + 1)
+scans_of_tree-more n start scans new reached k places inside outside is counted =
+    grind (arith, count-reached, count_by-le-length, length-set, add-one)
+
+-- while a tree grows, the counter has room for one more row
+pub scans_of_tree-room : (n start scans : ℕ) (reached : List Bool) → n ≤ 32 → start ≤ 2 ^ 16 → length reached ≡ n
+    → scans ≡ start + scans_of_tree n (count_by (λ r. r) reached + 1) → scans + n < 2 ^ 32
+scans_of_tree-room n start scans reached few room places is =
+    let most = scans_of_tree-most n (count_by (λ r. r) reached + 1) few in
+    omega (arith, most, count_by-le-length (λ r. r) reached)
 
 pub scans_of_trees-most : (n trees : ℕ) → n ≤ 32 → trees ≤ n → scans_of_trees n trees ≤ 1024 * trees
 scans_of_trees-most n zero h few = omega arith

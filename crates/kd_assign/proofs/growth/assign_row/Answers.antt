@@ -1,10 +1,10 @@
-use Rattle.std.proofs.Common.{[], add-one, ◌+◌, ◌∙◌, count_by, is_some, None, set, false, w16, rules, arith}
-use Rattle.kd_assign.proofs.ScanCounts.{scans_of_tree-grows, scans_of_tree-most}
+use Rattle.std.proofs.Common.{[], ◌+◌, ◌∙◌, count_by, is_some, None, false, w16, rules, arith}
+use Rattle.kd_assign.proofs.ScanCounts.{scans_of_tree-grows, scans_of_tree-least, scans_of_tree-more, scans_of_tree-room}
 use Rattle.kd_assign.proofs.TreeGrowth.{IsSolvedUpTo-with_root, IsGrownTree-root_alone, IsGrownTree-with_end}
 use Rattle.kd_assign.proofs.TreeGrowth.{outside-exists}
 use Rattle.kd_assign.proofs.Differences.{IsSmall-ceiling}
-use Rattle.kd_assign.proofs.Places.{count-reached, count_at_most}
-use Rattle.kd_assign.proofs.Prelude.{common_steps, get_or-set_same, length-set, to_z-of_z, count_by-le-length}
+use Rattle.kd_assign.proofs.Places.{count_at_most, fewer-outside}
+use Rattle.kd_assign.proofs.Prelude.{common_steps, get_or-set_same, length-set, to_z-of_z}
 use Rattle.kd_assign.proofs.growth.assign_row.Goals as goal
 
 pub loop-holders-init : goal.loop-holders-init
@@ -59,10 +59,33 @@ room-by-requires g c =
     (search rules, (search rules, (c.column-column.ensures.within, c.loop-holders.invariant.grown.close)))
 
 pub join-requires-in-Some : goal.join-requires-in-Some
-join-requires-in-Some g c = grind (arith, to_z-of_z, scans_of_tree-most, count_by-le-length)
+join-requires-in-Some g c =
+    let so_far = c.loop-holders.invariant in
+    let call = c.level-level.ensures in
+    let exact = to_z-of_z w16 c.level-level.result (search rules) in
+    let room =
+    scans_of_tree-room _ _ _ c.loop-holders.reached c.requires.few c.requires.room so_far.grown.places so_far.scans in (
+      search rules,
+      (
+        search rules,
+        (
+          search rules,
+          (
+            search rules,
+            (
+              so_far.solved.rows c.in-Some.holder _ c.in-Some.is,
+              (c.requires.costs, (rw exact call.low, (rw exact call.high, room))),
+            ),
+          ),
+        ),
+      ),
+    )
 
 pub loop-holders-smaller : goal.loop-holders-smaller
-loop-holders-smaller g c = grind (arith, count-reached, count_by-le-length, length-set)
+loop-holders-smaller g c =
+    let nearest = c.column-column.ensures in
+    fewer-outside c.loop-holders.reached c.column-column.result
+    (rw c.loop-holders.invariant.grown.places nearest.within) nearest.outside
 
 pub loop-holders-preserved : goal.loop-holders-preserved
 loop-holders-preserved g c =
@@ -76,7 +99,9 @@ loop-holders-preserved g c =
       grown =
           IsGrownTree-with_end so_far.solved so_far.grown c.column-column.ensures c.in-Some.is level
           c.join-in-Some.ensures.compared;
-      scans = grind (arith, count-reached, set, count_by-le-length, length-set, add-one);
+      scans =
+          scans_of_tree-more _ _ _ _ c.loop-holders.reached c.column-column.result so_far.grown.places
+          c.column-column.ensures.within c.column-column.ensures.outside so_far.scans c.join-in-Some.ensures.counted;
     }
 
 pub lower_prices-requires : goal.lower_prices-requires
@@ -91,7 +116,8 @@ returns-in-None-clause-solved g c =
 
 pub returns-in-None-clause-least_scans : goal.returns-in-None-clause-least_scans
 returns-in-None-clause-least_scans g c =
-    grind (arith, scans_of_tree-grows g.row.N 1 (count_by (λ r. r) c.loop-holders.reached + 1) (omega arith))
+    let least = scans_of_tree-least g.row.N (count_by (λ r. r) c.loop-holders.reached) in
+    omega (arith, least, c.loop-holders.invariant.scans)
 
 pub returns-in-None-clause-most_scans : goal.returns-in-None-clause-most_scans
 returns-in-None-clause-most_scans g c =
@@ -99,4 +125,7 @@ returns-in-None-clause-most_scans g c =
     let same = so_far.solved.places in
     let few = count_at_most (λ r. r) is_some false None c.loop-holders.reached c.loop-holders.holders
     (omega (arith, so_far.grown.places)) so_far.grown.taken in
-    grind (arith, scans_of_tree-grows)
+    let grows =
+    scans_of_tree-grows g.row.N (count_by (λ r. r) c.loop-holders.reached + 1) (c.args.root + 1)
+    (omega (arith, few, so_far.solved.count)) in
+    omega (arith, grows, so_far.scans)
