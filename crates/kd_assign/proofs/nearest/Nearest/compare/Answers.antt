@@ -1,7 +1,10 @@
-use Rattle.kd_assign.proofs.Prelude.{IsCompared, get_or-set_other, get_or-set_same, ints, price_at, to_z-of_z}
-use Rattle.std.proofs.Common.{SFits, arith, false, inr, length, pos, refl, rules, w16, ℕ, ℤ, ◌<◌}
+use Rattle.kd_assign.proofs.Prelude.{IsCompared, false≢true, get_or-set_other, get_or-set_same, ints, price_at, to_z-of_z}
+use Rattle.std.proofs.Common.{Bool, SFits, arith, false, inl, inr, length, pos, refl, rules, sym, w16, ℕ, ℤ}
+use Rattle.std.proofs.Common.{◌<◌, ◌∙◌, ◌≡◌, ◌≤ℤ◌}
 use Rattle.std.specs.Prelude.{◌<ℤ◌}
 use Rattle.kd_assign.proofs.nearest.Nearest.compare.Goals as goal
+use Rattle.kd_assign.proofs.nearest.Nearest.compare.Goals.{else-not-reached-via-else-not-reached}
+use Rattle.kd_assign.proofs.nearest.Nearest.compare.Goals.{else-not-reached-via-then-not-reached+else-closer}
 
 lower_offer : (row near : ℕ) (offer ceiling : ℤ) → offer <ℤ ceiling
     → IsCompared false row offer near ceiling row offer
@@ -10,6 +13,13 @@ lower_offer row near offer ceiling less = record {
   least = omega (arith, ints);
   here = λ outside. omega (arith, ints);
 }
+
+not_lower : (offer ceiling : ℤ) → ¬ (offer <ℤ ceiling) → ceiling ≤ℤ offer
+not_lower offer ceiling none = grind (arith, ints)
+
+kept : (reached : Bool) (row near : ℕ) (offer ceiling : ℤ) → (reached ≡ false → ceiling ≤ℤ offer)
+    → IsCompared reached row offer near ceiling near ceiling
+kept reached row near offer ceiling here = record { one = inl (refl, refl); least = omega (arith, ints); here = here }
 
 pub returns-then-closer-clause-compared : goal.returns-then-closer-clause-compared
 returns-then-closer-clause-compared g c =
@@ -41,3 +51,21 @@ returns-else-not-reached-clause-other_rows g c = λ j other. refl
 
 pub returns-else-not-reached-clause-other_ceilings : goal.returns-else-not-reached-clause-other_ceilings
 returns-else-not-reached-clause-other_ceilings g c = λ j other. refl
+
+pub returns-else-not-reached-clause-compared : goal.returns-else-not-reached-clause-compared
+returns-else-not-reached-clause-compared g c =
+    let offer = to_z-of_z w16 c.args.offer c.ranges.offer in
+    kept _ _ _ _ _ (λ outside. elim c.else-not-reached.branch [
+      | else-not-reached-via-then-not-reached+else-closer w ↦
+          let fits : SFits w16 (price_at c.args.self.now.ceiling c.args.column) = search rules in
+          not_lower _ _ (λ less.
+          false≢true (sym w.if-closer.false ∙ w.closer.ensures.less.1 (rw (offer, to_z-of_z w16 _ fits) less)))
+      | else-not-reached-via-else-not-reached w ↦ absurd (false≢true (sym outside ∙ w.if-not-reached.false))
+    ])
+
+pub returns-else-not-reached-clause-counted : goal.returns-else-not-reached-clause-counted
+returns-else-not-reached-clause-counted g c = elim c.else-not-reached.branch [
+  | else-not-reached-via-then-not-reached+else-closer w ↦
+      rw (w.scans-is, w.if-not-reached.true) (omega (arith, w.closer.ensures.counted))
+  | else-not-reached-via-else-not-reached w ↦ rw (w.scans-is, w.if-not-reached.false) refl
+]
