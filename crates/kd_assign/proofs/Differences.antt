@@ -1,4 +1,5 @@
--- The difference of two numbers from -128 to 4, such as a price and a cost, is exact in 16 bits. So is a level plus a cost.
+-- The difference of two numbers from -128 to 4, such as a price and a cost, is exact in 16 bits. The sum of a level
+-- and a cost is exact, too.
 use Rattle.kd_assign.proofs.Prelude.{AreWithinCeilings, ints, price_at, to_z-of_z}
 use Rattle.std.proofs.Common.{List, SFits, arith, of_z, pos, rules, to_z, w16, ℕ, ℤ, ◌+ℤ◌, ◌-ℤ◌, ◌<◌, ◌≡◌, ◌≤ℤ◌, ◌≤◌}
 use Rattle.std.specs.Prelude.{neg_ℤ}

@@ -1,8 +1,10 @@
 -- Lists with the row of each column: which columns are taken, and what changing one entry changes.
-use Rattle.std.proofs.Common.{◌≡◌, ◌≢◌, ℕ, suc, ◌+◌, ◌-◌, ◌<◌, ◌≤◌, List, [], ◌∷◌, length, get_or, set, Bool, true, false}
+use Rattle.std.proofs.Common.{◌≡◌, ◌≢◌, ℕ, suc, ◌+◌, ◌-◌, ◌<◌, ◌≤◌}
+use Rattle.std.proofs.Common.{List, [], ◌∷◌, length, get_or, set, Bool, true, false}
 use Rattle.std.proofs.Common.{Option, Some, None, is_some, count_by, cond, ◌⊎◌, refl, arith}
 use Rattle.kd_assign.proofs.Prelude.{cases_eq, cases_lt, get_or_past, get_or-set_same, get_or-set_other, sum_by-set}
-use Rattle.kd_assign.proofs.Prelude.{count_by-le-length, length-set, none-some, sum_by-cons, IsColumnTakenBy, IsColumnFree, has_column}
+use Rattle.kd_assign.proofs.Prelude.{count_by-le-length, length-set, none-some}
+use Rattle.kd_assign.proofs.Prelude.{sum_by-cons, IsColumnTakenBy, IsColumnFree, has_column}
 
 -- a column that is taken lies within the list
 pub length-IsColumnTakenBy : (xs : List (Option ℕ)) (j i : ℕ) → IsColumnTakenBy xs j i → j < length xs

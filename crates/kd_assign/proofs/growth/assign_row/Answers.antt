@@ -1,5 +1,6 @@
 use Rattle.std.proofs.Common.{[], ◌+◌, ◌∙◌, count_by, is_some, None, false, w16, rules, arith}
-use Rattle.kd_assign.proofs.ScanCounts.{scans_of_tree-grows, scans_of_tree-least, scans_of_tree-more, scans_of_tree-room}
+use Rattle.kd_assign.proofs.ScanCounts.{scans_of_tree-grows, scans_of_tree-least, scans_of_tree-more}
+use Rattle.kd_assign.proofs.ScanCounts.{scans_of_tree-room}
 use Rattle.kd_assign.proofs.TreeGrowth.{IsSolvedUpTo-with_root, IsGrownTree-root_alone, IsGrownTree-with_end}
 use Rattle.kd_assign.proofs.TreeGrowth.{outside-exists}
 use Rattle.kd_assign.proofs.Differences.{IsSmall-ceiling}
@@ -17,7 +18,8 @@ loop-holders-init g c = record {
       IsGrownTree-root_alone c.requires.few c.requires.row c.requires.costs c.requires.solved
       (grind (arith, common_steps))
       (λ j. grind (arith, common_steps)) (search rules) c.new-nearest.ensures.far c.join.ensures.compared
-      (rw length-set c.told-plans) (get_or-set_same c.args.plans.now c.args.root c.args.holders.now [] (rw c.told-plans c.requires.row));
+      (rw length-set c.told-plans) (get_or-set_same
+      c.args.plans.now c.args.root c.args.holders.now [] (rw c.told-plans c.requires.row));
   scans = grind (arith, common_steps);
 }
 

@@ -18,7 +18,8 @@ loop-place-preserved g c =
     let key = c.index-keys-place in (
       c.push.ensures.len ∙ ap (λ n. n + 1) at.invariant.0,
       rw c.push.ensures.items
-          (one_more c.args.keys.now c.args.prices.now at.pairs.items (zip c.args.keys.now c.args.prices.now) at.place key.result _ c.loop-place-test.true
+          (one_more c.args.keys.now c.args.prices.now at.pairs.items (zip c.args.keys.now c.args.prices.now)
+          at.place key.result _ c.loop-place-test.true
           (omega arith) key.is (to_z-of_z w16 (get_or c.args.prices.now at.place (pos 0)) (search rules))
           at.invariant.1),
     )

@@ -1,4 +1,5 @@
-use Rattle.kd_assign.proofs.Prelude.{IsCompared, false≢true, get_or-set_other, get_or-set_same, ints, price_at, to_z-of_z}
+use Rattle.kd_assign.proofs.Prelude.{IsCompared, false≢true, get_or-set_other}
+use Rattle.kd_assign.proofs.Prelude.{get_or-set_same, ints, price_at, to_z-of_z}
 use Rattle.std.proofs.Common.{Bool, SFits, arith, false, inl, inr, length, pos, refl, rules, sym, w16, ℕ, ℤ}
 use Rattle.std.proofs.Common.{◌<◌, ◌∙◌, ◌≡◌, ◌≤ℤ◌}
 use Rattle.std.specs.Prelude.{◌<ℤ◌}
