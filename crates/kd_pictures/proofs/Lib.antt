@@ -1,3 +1,4 @@
+pub mod Choices
 pub mod Drawings
 pub mod Templates
 pub mod PlainValues
