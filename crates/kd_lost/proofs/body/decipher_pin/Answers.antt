@@ -51,6 +51,15 @@ returns c =
       },
     )
 
+pub overflow_sub-received : goal.overflow_sub-received
+overflow_sub-received c = omega arith
+
+pub split_at-requires : goal.split_at-requires
+split_at-requires c = omega arith
+
+pub slice_bounds-keys_of_copies-end : goal.slice_bounds-keys_of_copies-end
+slice_bounds-keys_of_copies-end c = omega (arith, length-take-le 8 c.args.received.now (omega (arith, c.requires.some)))
+
 pub slice_bounds-keys_of_copies-end-2 : goal.slice_bounds-keys_of_copies-end-2
 slice_bounds-keys_of_copies-end-2 c = grind (arith, common_steps)
 
@@ -60,11 +69,35 @@ keys_of_copies-requires-clause-start c = grind (arith, common_steps)
 pub keys_of_copies-requires-clause-end : goal.keys_of_copies-requires-clause-end
 keys_of_copies-requires-clause-end c = grind (arith, common_steps)
 
+pub overflow_sub-text : goal.overflow_sub-text
+overflow_sub-text c = omega arith
+
+pub slice_bounds-text-count : goal.slice_bounds-text-count
+slice_bounds-text-count c = omega arith
+
 pub slice_bounds-text-start : goal.slice_bounds-text-start
 slice_bounds-text-start c = grind (arith, common_steps)
+
+pub slice_bounds-text-end : goal.slice_bounds-text-end
+slice_bounds-text-end c = omega arith
 
 pub decipher_with_keys-requires : goal.decipher_with_keys-requires
 decipher_with_keys-requires c = grind (arith, common_steps)
 
 pub split_at-requires-2 : goal.split_at-requires-2
 split_at-requires-2 c = grind (arith, common_steps)
+
+pub list_of-requires : goal.list_of-requires
+list_of-requires c = omega arith
+
+pub slice_bounds-test_list-count : goal.slice_bounds-test_list-count
+slice_bounds-test_list-count c = omega arith
+
+pub slice_bounds-test_list-start : goal.slice_bounds-test_list-start
+slice_bounds-test_list-start c = omega arith
+
+pub slice_bounds-test_list-end : goal.slice_bounds-test_list-end
+slice_bounds-test_list-end c = omega arith
+
+pub slice_bounds-has_lost_letter-end : goal.slice_bounds-has_lost_letter-end
+slice_bounds-has_lost_letter-end c = omega (arith, length-take-le 10 c.args.received.now (omega (arith, c.requires.some)))
