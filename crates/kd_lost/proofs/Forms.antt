@@ -31,30 +31,27 @@ an_end byte bytes ends = rw ends refl
 pub cut_begun : (form : List ℕ) → IsCutTo form 0
 cut_begun form = record { part = refl; others = refl }
 
-pub cut_further : (form : List ℕ) (i x : ℕ) → i < length form → get_or form i x ≡ x
-    → ends_part x (drop (i + 1) form) ≡ false → IsCutTo form i → IsCutTo form (i + 1)
-cut_further form i x inside is off before =
-    let rest : drop i form ≡ x ∷ drop (i + 1) form = drop_more form i x inside ∙ ap (λ y. y ∷ drop (i + 1) form) is in
-    let cut = ap cut_at_heading_lines rest ∙ no_end x (drop (i + 1) form) off in
-    let front : take (i + 1) form ≡ take i form ++ x ∷ [] =
-    take_more form i x inside ∙ ap (λ y. take i form ++ y ∷ []) is in
+pub cut_further : (form : List ℕ) (i : ℕ) → i < length form → ends_part (get_or form i 0) (drop (i + 1) form) ≡ false
+    → IsCutTo form i → IsCutTo form (i + 1)
+cut_further form i inside off before =
+    let x = get_or form i 0 in
+    let cut = ap cut_at_heading_lines (drop_more form i 0 inside) ∙ no_end x (drop (i + 1) form) off in
     record {
       part =
           before.part ∙ ap (λ c. take i form ++ c.0) cut
           ∙ sym (append_assoc (take i form) (x ∷ []) (cut_at_heading_lines (drop (i + 1) form)).0)
-          ∙ ap (λ l. l ++ (cut_at_heading_lines (drop (i + 1) form)).0) (sym front);
+          ∙ ap (λ l. l ++ (cut_at_heading_lines (drop (i + 1) form)).0) (sym (take_more form i 0 inside));
       others = before.others ∙ ap (λ c. c.1) cut;
     }
 
-pub cut_there : (form : List ℕ) (i x : ℕ) → i < length form → get_or form i x ≡ x
-    → ends_part x (drop (i + 1) form) ≡ true → IsCutTo form i
+pub cut_there : (form : List ℕ) (i : ℕ) → i < length form → ends_part (get_or form i 0) (drop (i + 1) form) ≡ true
+    → IsCutTo form i
     → ((cut_at_heading_lines form).0 ≡ take (i + 1) form) × ((cut_at_heading_lines form).1 ≡ parts_cut (drop (i + 1) form))
-cut_there form i x inside is ends before =
-    let rest : drop i form ≡ x ∷ drop (i + 1) form = drop_more form i x inside ∙ ap (λ y. y ∷ drop (i + 1) form) is in
-    let cut = ap cut_at_heading_lines rest ∙ an_end x (drop (i + 1) form) ends in
-    let front : take (i + 1) form ≡ take i form ++ x ∷ [] =
-    take_more form i x inside ∙ ap (λ y. take i form ++ y ∷ []) is in
-    (before.part ∙ ap (λ c. take i form ++ c.0) cut ∙ sym front, before.others ∙ ap (λ c. c.1) cut)
+cut_there form i inside ends before =
+    let cut = ap cut_at_heading_lines (drop_more form i 0 inside) ∙ an_end (get_or form i 0) (drop (i + 1) form) ends in (
+      before.part ∙ ap (λ c. take i form ++ c.0) cut ∙ sym (take_more form i 0 inside),
+      before.others ∙ ap (λ c. c.1) cut,
+    )
 
 pub cut_nowhere : (form : List ℕ) (i : ℕ) → length form ≤ i → IsCutTo form i
     → ((cut_at_heading_lines form).0 ≡ form) × ((cut_at_heading_lines form).1 ≡ [])

@@ -1,4 +1,6 @@
-use Rattle.std.proofs.Common.{◌∙◌, drop, refl, ap, sym}
+use Rattle.std.proofs.Common.{◌∙◌, arith, drop, refl, ap, sym}
+use Rattle.std.proofs.lemmas.Grind.{common_steps}
+use Rattle.kd_form.proofs.MadeParts.{key_is_window}
 use Rattle.kd_lost.specs.Lost.{covered}
 use Rattle.kd_lost.proofs.Completions.{rest_completes}
 use Rattle.kd_lost.proofs.KeyLetters.{all_but}
@@ -20,3 +22,36 @@ returns c =
       from_keys = shown;
       warnings = (c.test_group.ensures, refl);
     }
+
+pub encipher_text-message_key-requires : goal.encipher_text-message_key-requires
+encipher_text-message_key-requires c = grind (arith, common_steps)
+
+pub decipher_covered-requires-clause-window : goal.decipher_covered-requires-clause-window
+decipher_covered-requires-clause-window c = grind (arith, key_is_window)
+
+pub slice_bounds-decipher_covered-count : goal.slice_bounds-decipher_covered-count
+slice_bounds-decipher_covered-count c = omega arith
+
+pub slice_bounds-decipher_covered-start : goal.slice_bounds-decipher_covered-start
+slice_bounds-decipher_covered-start c = omega arith
+
+pub slice_bounds-decipher_covered-end : goal.slice_bounds-decipher_covered-end
+slice_bounds-decipher_covered-end c = omega arith
+
+pub list_of-requires : goal.list_of-requires
+list_of-requires c = omega arith
+
+pub slice_bounds-test_group-count : goal.slice_bounds-test_group-count
+slice_bounds-test_group-count c = omega arith
+
+pub slice_bounds-test_group-start : goal.slice_bounds-test_group-start
+slice_bounds-test_group-start c = omega arith
+
+pub slice_bounds-test_group-end : goal.slice_bounds-test_group-end
+slice_bounds-test_group-end c = omega arith
+
+pub decipher_covered-requires-clause-few : goal.decipher_covered-requires-clause-few
+decipher_covered-requires-clause-few c = grind (arith, common_steps)
+
+pub test_group-requires : goal.test_group-requires
+test_group-requires c = grind (arith, common_steps)

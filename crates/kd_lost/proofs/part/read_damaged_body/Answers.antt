@@ -1,5 +1,6 @@
 use Rattle.std.proofs.Common.{◌∙◌, length, sym, ap, arith, refl, None, subst}
 use Rattle.std.proofs.lemmas.Bool.{false≢true}
+use Rattle.std.proofs.lemmas.Grind.{common_steps}
 use Rattle.std.proofs.lemmas.List.{length-take}
 use Rattle.kd_state.specs.AnswerRules.{GoesOn, HasFault}
 use Rattle.kd_form.proofs.Headings.{at_most}
@@ -45,3 +46,24 @@ returns-in-None c =
     (omega (arith, c.len.ensures.value, c.if-len-heading.false))
     (rw c.in-None.is (subst (λ l. IsDamagedLettersAnswer c.args.day.now None l c.decipher_pin.result)
     c.as_slice-in-None.ensures.value c.decipher_pin.ensures))
+
+pub prove-unreachable-requires : goal.prove-unreachable-requires
+prove-unreachable-requires c = grind (arith, common_steps)
+
+pub decipher_rotor-requires-clause-indicator : goal.decipher_rotor-requires-clause-indicator
+decipher_rotor-requires-clause-indicator c = grind (arith, common_steps)
+
+pub decipher_rotor-requires-clause-some : goal.decipher_rotor-requires-clause-some
+decipher_rotor-requires-clause-some c = grind (arith, common_steps)
+
+pub decipher_rotor-requires-clause-few : goal.decipher_rotor-requires-clause-few
+decipher_rotor-requires-clause-few c = grind (arith, common_steps)
+
+pub decipher_pin-requires-clause-pins : goal.decipher_pin-requires-clause-pins
+decipher_pin-requires-clause-pins c = grind (arith, common_steps)
+
+pub decipher_pin-requires-clause-some : goal.decipher_pin-requires-clause-some
+decipher_pin-requires-clause-some c = grind (arith, common_steps)
+
+pub decipher_pin-requires-clause-few : goal.decipher_pin-requires-clause-few
+decipher_pin-requires-clause-few c = grind (arith, common_steps)

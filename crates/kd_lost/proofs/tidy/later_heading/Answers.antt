@@ -1,0 +1,21 @@
+use Rattle.std.proofs.Common.{arith}
+use Rattle.std.proofs.lemmas.Grind.{common_steps}
+use Rattle.kd_lost.proofs.tidy.later_heading.Goals as goal
+
+pub returns-then-ends_part : goal.returns-then-ends_part
+returns-then-ends_part c = grind (arith, common_steps)
+
+pub returns-then-may_be_part : goal.returns-then-may_be_part
+returns-then-may_be_part c = grind (arith, common_steps)
+
+pub loop-index-preserved : goal.loop-index-preserved
+loop-index-preserved c = grind (arith, common_steps)
+
+pub returns : goal.returns
+returns c = grind (arith, common_steps)
+
+pub overflow_add-index : goal.overflow_add-index
+overflow_add-index c = omega arith
+
+pub split_at-requires : goal.split_at-requires
+split_at-requires c = omega arith
