@@ -48,3 +48,33 @@ returns-in_default-clause-came c = c.letter_count.ensures.count ∙ letters_coun
 
 pub returns-in-Some-clause-came : goal.returns-in-Some-clause-came
 returns-in-Some-clause-came c = c.letter_count.ensures.count ∙ letters_counted c.args.body.now
+
+pub returns-in-Some-clause-heading : goal.returns-in-Some-clause-heading
+returns-in-Some-clause-heading c = c.heading_signs.ensures
+
+pub returns-in-Some-clause-body : goal.returns-in-Some-clause-body
+returns-in-Some-clause-body c = c.body_letters.ensures
+
+pub returns-in-Some-clause-wrong_sign : goal.returns-in-Some-clause-wrong_sign
+returns-in-Some-clause-wrong_sign c = c.first_wrong_sign.ensures
+
+pub returns-in-Some-clause-short_line : goal.returns-in-Some-clause-short_line
+returns-in-Some-clause-short_line c = c.first_short_line.ensures
+
+pub returns-in-Some-clause-short_group : goal.returns-in-Some-clause-short_group
+returns-in-Some-clause-short_group c = c.first_short_group.ensures
+
+pub returns-in_default-clause-heading : goal.returns-in_default-clause-heading
+returns-in_default-clause-heading c = c.heading_signs.ensures
+
+pub returns-in_default-clause-body : goal.returns-in_default-clause-body
+returns-in_default-clause-body c = c.body_letters.ensures
+
+pub returns-in_default-clause-wrong_sign : goal.returns-in_default-clause-wrong_sign
+returns-in_default-clause-wrong_sign c = c.first_wrong_sign.ensures
+
+pub returns-in_default-clause-short_line : goal.returns-in_default-clause-short_line
+returns-in_default-clause-short_line c = c.first_short_line.ensures
+
+pub returns-in_default-clause-short_group : goal.returns-in_default-clause-short_group
+returns-in_default-clause-short_group c = c.first_short_group.ensures
