@@ -23,7 +23,6 @@ use kd_state::SheetDay;
 use kd_tables::Letter;
 
 /// Deciphers the letters of a message part that was enciphered on a rotor machine. Lost letters stay lost.
-#[tactic(auto, using(kd_form::proofs::MadeParts::key_is_window))]
 pub(crate) fn decipher_rotor(
     day: &SheetDay,
     indicator: &Indicator,

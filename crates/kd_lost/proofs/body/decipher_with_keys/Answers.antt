@@ -25,3 +25,6 @@ returns-in-None c =
     let on_wheels = rw c.new-machine.ensures at (c.can_show.ensures.window.0 c.if-not-can_show.false) in
     let spent = rw own at c.in-None.ensures.key in
     GoesOn tt on_wheels (HasFault _ ((λ key is. spent is.places key is.picked), refl) refl)
+
+pub decipher_covered-shown-requires-clause-few : goal.decipher_covered-shown-requires-clause-few
+decipher_covered-shown-requires-clause-few c = omega arith
