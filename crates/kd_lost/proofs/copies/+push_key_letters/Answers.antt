@@ -1,3 +1,5 @@
+use Rattle.std.proofs.Common.{arith}
+use Rattle.std.proofs.lemmas.Grind.{common_steps}
 use Rattle.kd_form.proofs.Prelude.{err_is}
 use Rattle.kd_lost.proofs.KeyLetters.{all_but, step_fails, step_goes}
 use Rattle.kd_lost.proofs.copies.+push_key_letters.Goals as goal
@@ -15,3 +17,9 @@ returns t c =
     c.in-len1-up.len_at_least c.one-item.is c.in-len1-up-end.len_at_least c.other-item.is c.in_ok-letter.ensures
     c.push.ensures.items
     (rw (all_but c.args.start.now 1, all_but c.args.end.now 1) at c.push_key_letters.ensures)
+
+pub returns-2 : goal.returns-2
+returns-2 t c = grind (arith, common_steps)
+
+pub push-requires : goal.push-requires
+push-requires t c = omega arith

@@ -1,4 +1,5 @@
 use Rattle.std.proofs.Common.{◌≡◌, ◌+◌, ◌∙◌, ◌++◌, ◌∷◌, [], refl, subst, sym, ap, arith, length, length-append}
+use Rattle.std.proofs.lemmas.Grind.{common_steps}
 use Rattle.kd_lost.specs.DamagedForm.{AreReadOf, IsReadOf, TooMany, completed_parts, damaged_parts_of}
 use Rattle.kd_lost.specs.Repetitions.{completed_at}
 use Rattle.kd_lost.proofs.Forms.{as_many_read, completed_length, left_on, less_left, read_more, too_many}
@@ -57,3 +58,6 @@ loop-left-preserved c =
 pub loop-left-smaller : goal.loop-left-smaller
 loop-left-smaller c =
     less_left (λ r. r.now) c.loop-left.left c.split_part.result.1 c.in-Some.rest c.in-Some.is c.split_part.ensures.shorter
+
+pub returns : goal.returns
+returns c = grind (arith, common_steps)

@@ -1,4 +1,5 @@
-use Rattle.std.proofs.Common.{◌∙◌}
+use Rattle.std.proofs.Common.{◌∙◌, arith}
+use Rattle.std.proofs.lemmas.Grind.{common_steps}
 use Rattle.kd_lost.proofs.Bytes.{letters_more, kept_already}
 use Rattle.kd_lost.proofs.received.received_letters.Goals as goal
 
@@ -8,3 +9,6 @@ loop-byte-preserved c =
     at (c.keep_letter.ensures (kept_already 525 c.loop-byte.letters.items _ c.loop-byte.invariant))
     ∙ letters_more c.args.body.now c.loop-byte.byte-index 0 c.loop-byte.letters.items c.loop-byte-test.true
     c.loop-byte.invariant
+
+pub returns : goal.returns
+returns c = grind (arith, common_steps)

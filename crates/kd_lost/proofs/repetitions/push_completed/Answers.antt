@@ -1,4 +1,5 @@
 use Rattle.std.proofs.Common.{◌∙◌, ◌++◌, ◌∷◌, [], ap, arith}
+use Rattle.std.proofs.lemmas.Grind.{common_steps}
 use Rattle.kd_lost.proofs.CompletedParts.{completed_step, place_after}
 use Rattle.kd_lost.proofs.repetitions.push_completed.Goals as goal
 
@@ -11,3 +12,6 @@ loop-byte-preserved c =
       rw c.letters_after-place.ensures (place_after _ _ _ c.loop-byte.invariant.0),
       rw (pushed, c.letters_after-place.ensures) (c.loop-byte.invariant.1 ∙ step),
     )
+
+pub returns : goal.returns
+returns c = grind (arith, common_steps)

@@ -1,4 +1,5 @@
 use Rattle.std.proofs.Common.{arith, is_some, slice_index_or}
+use Rattle.std.proofs.lemmas.Grind.{common_steps}
 use Rattle.kd_lost.specs.Lost.{received_letter}
 use Rattle.kd_lost.specs.ShortGroup.{EndsShortGroup}
 use Rattle.kd_lost.proofs.ShortGroups.{few_counted, letters_on_more, none_up_to, not_at_letter, not_at_end, not_after_whole}
@@ -28,3 +29,6 @@ loop-byte-preserved c =
           c.letters_after-letters.ensures,
       none_up_to body i c.loop-byte.invariant.2 here,
     )
+
+pub returns : goal.returns
+returns c = grind (arith, common_steps)
