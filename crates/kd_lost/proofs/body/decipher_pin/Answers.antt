@@ -58,7 +58,8 @@ pub split_at-requires : goal.split_at-requires
 split_at-requires c = omega arith
 
 pub slice_bounds-keys_of_copies-end : goal.slice_bounds-keys_of_copies-end
-slice_bounds-keys_of_copies-end c = omega (arith, length-take-le 8 c.args.received.now (omega (arith, c.requires.some)))
+slice_bounds-keys_of_copies-end c =
+    omega (arith, length-take-le 8 c.args.received.now (omega (arith, c.requires.some)))
 
 pub slice_bounds-keys_of_copies-end-2 : goal.slice_bounds-keys_of_copies-end-2
 slice_bounds-keys_of_copies-end-2 c = grind (arith, common_steps)
@@ -100,4 +101,5 @@ pub slice_bounds-test_list-end : goal.slice_bounds-test_list-end
 slice_bounds-test_list-end c = omega arith
 
 pub slice_bounds-has_lost_letter-end : goal.slice_bounds-has_lost_letter-end
-slice_bounds-has_lost_letter-end c = omega (arith, length-take-le 10 c.args.received.now (omega (arith, c.requires.some)))
+slice_bounds-has_lost_letter-end c =
+    omega (arith, length-take-le 10 c.args.received.now (omega (arith, c.requires.some)))

@@ -9,20 +9,23 @@ loop-index-init c = cut_begun c.args.form.now
 pub loop-index-preserved : goal.loop-index-preserved
 loop-index-preserved c =
     cut_further c.args.form.now c.loop-index.index c.loop-index-test.true
-    (sym (c.ends_part.ensures ∙ ap (ends_part _) c.split_at.ensures.back) ∙ c.if-ends_part.false) c.loop-index.invariant
+    (sym (c.ends_part.ensures ∙ ap (ends_part _) c.split_at.ensures.back) ∙ c.if-ends_part.false)
+    c.loop-index.invariant
 
 pub returns-then-ends_part-clause-part : goal.returns-then-ends_part-clause-part
 returns-then-ends_part-clause-part c =
     let there =
     cut_there c.args.form.now c.loop-index.index c.loop-index-test.true
-    (sym (c.ends_part.ensures ∙ ap (ends_part _) c.split_at.ensures.back) ∙ c.if-ends_part.true) c.loop-index.invariant in
+    (sym (c.ends_part.ensures ∙ ap (ends_part _) c.split_at.ensures.back) ∙ c.if-ends_part.true)
+    c.loop-index.invariant in
     c.split_at-then-ends_part.ensures.front ∙ sym there.0
 
 pub returns-then-ends_part-clause-others : goal.returns-then-ends_part-clause-others
 returns-then-ends_part-clause-others c =
     let there =
     cut_there c.args.form.now c.loop-index.index c.loop-index-test.true
-    (sym (c.ends_part.ensures ∙ ap (ends_part _) c.split_at.ensures.back) ∙ c.if-ends_part.true) c.loop-index.invariant in
+    (sym (c.ends_part.ensures ∙ ap (ends_part _) c.split_at.ensures.back) ∙ c.if-ends_part.true)
+    c.loop-index.invariant in
     there.1 ∙ sym (ap parts_cut c.split_at.ensures.back)
 
 pub returns-clause-part : goal.returns-clause-part

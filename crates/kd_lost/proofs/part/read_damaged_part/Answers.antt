@@ -24,7 +24,8 @@ pub returns-clause-heading : goal.returns-clause-heading
 returns-clause-heading c = c.read_lines-read.ensures.heading ∙ ap heading_signs c.line_and_body.ensures.line
 
 pub returns-clause-came : goal.returns-clause-came
-returns-clause-came c = c.read_lines-read.ensures.came ∙ ap (λ b. length (received_letters b)) c.line_and_body.ensures.body
+returns-clause-came c =
+    c.read_lines-read.ensures.came ∙ ap (λ b. length (received_letters b)) c.line_and_body.ensures.body
 
 pub returns-clause-body : goal.returns-clause-body
 returns-clause-body c = c.read_lines-read.ensures.body ∙ ap body_letters c.line_and_body.ensures.body
@@ -33,7 +34,9 @@ pub returns-clause-group : goal.returns-clause-group
 returns-clause-group c = c.read_lines-read.ensures.group
 
 pub returns-clause-wrong_sign : goal.returns-clause-wrong_sign
-returns-clause-wrong_sign c = subst (λ b. IsFirstWrongSign b c.read_lines-read.result.wrong_sign) c.line_and_body.ensures.body c.read_lines-read.ensures.wrong_sign
+returns-clause-wrong_sign c =
+    subst (λ b. IsFirstWrongSign b c.read_lines-read.result.wrong_sign) c.line_and_body.ensures.body
+    c.read_lines-read.ensures.wrong_sign
 
 pub returns-clause-by_count : goal.returns-clause-by_count
 returns-clause-by_count c = c.read_lines-read.ensures.by_count
@@ -42,7 +45,9 @@ pub returns-clause-short_line : goal.returns-clause-short_line
 returns-clause-short_line c = c.read_lines-read.ensures.short_line ∙ ap short_line c.line_and_body.ensures.body
 
 pub returns-clause-short_group : goal.returns-clause-short_group
-returns-clause-short_group c = subst (λ b. IsFirstShortGroup b c.read_lines-read.result.short_group) c.line_and_body.ensures.body c.read_lines-read.ensures.short_group
+returns-clause-short_group c =
+    subst (λ b. IsFirstShortGroup b c.read_lines-read.result.short_group) c.line_and_body.ensures.body
+    c.read_lines-read.ensures.short_group
 
 pub returns-clause-as_it_stands : goal.returns-clause-as_it_stands
 returns-clause-as_it_stands c = c.read_lines-read.ensures.as_it_stands
