@@ -1,5 +1,6 @@
 pub mod Drawings
 pub mod Alphabets
+pub mod Pieces
 pub mod Headings
 pub mod Groups
 pub mod PageOrders
