@@ -4,8 +4,11 @@ use Rattle.std.proofs.Common.{Option, Some, None, option_map, Result, Ok, Err, I
 use Rattle.std.proofs.lemmas.Option.{slice_get-get_or, slice_get-map}
 use Rattle.kd_state.specs.SameParts.{numbered_item}
 use Rattle.kd_tables.proofs.Failing.{err_is}
+use Rattle.kd_sheet.specs.declared.fault.SheetFault.{SheetFault}
 use Rattle.kd_sheet.specs.declared.fault.SheetFault.TheVariants.{BadRow}
-use Rattle.kd_slips.specs.Items.{HasFault, IsOfItem}
+use Rattle.kd_sheet.specs.declared.key.Key.{Key}
+use Rattle.toml.specs.Data.{Data}
+use Rattle.kd_slips.specs.Items.{HasFault, IsOfItem, IsOfItsRow, row_in, type_fault}
 use Rattle.kd_slips.specs.declared.slip.Slip.{Slip}
 use Rattle.kd_slips.specs.declared.slip.Slip.TheVariants as slips
 use Rattle.std.proofs.lemmas.Bool.{cases_lt}
@@ -70,3 +73,31 @@ pub same_item : {T : Type 0} (answer : Result T Slip) (told other : Option ℕ) 
     → IfErr answer (IsOfItem told) → IfErr answer (IsOfItem other)
 same_item (Ok value) told other same is = tt
 same_item (Err slip) told other same is = item-same told other slip same is
+
+-- ---- slips without an item number
+
+-- a slip without an item number is right if no item is refused
+pub no_item : (fault : SheetFault) (told : Option ℕ) (slip : Slip) → told ≡ None → HasFault fault None slip
+    → IsOfItem told slip
+no_item fault told (slips.Fault found item words) none is = is.1 ∙ sym none
+no_item fault told slips.NoMemory none is = tt
+
+pub type_fault-row : (key : Key) (value : Option Data) → row_in (type_fault key value) ≡ None
+type_fault-row key None = refl
+type_fault-row key (Some value) = refl
+
+-- a slip without an item number is right if its fault gives no row number
+pub no_row : (fault : SheetFault) (slip : Slip) → row_in fault ≡ None → HasFault fault None slip → IsOfItsRow slip
+no_row fault (slips.Fault found item words) none is = is.1 ∙ sym none ∙ ap row_in (sym is.0)
+no_row fault slips.NoMemory none is = tt
+
+pub refused-no_row : {T : Type 0} (answer : Result T Slip) (fault : SheetFault) → row_in fault ≡ None
+    → IfErr answer (HasFault fault None) → IfErr answer IsOfItsRow
+refused-no_row (Ok value) fault none is = tt
+refused-no_row (Err slip) fault none is = no_row fault slip none is
+
+pub of_its_row : {T : Type 0} (answer : Result T Slip) (number : ℕ)
+    → IfErr answer (HasFault (BadRow number) (Some number)) → IfErr answer IsOfItsRow
+of_its_row (Ok value) number is = tt
+of_its_row (Err (slips.Fault found item words)) number is = is.1 ∙ ap row_in (sym is.0)
+of_its_row (Err slips.NoMemory) number is = tt
