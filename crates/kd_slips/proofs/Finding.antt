@@ -1,6 +1,6 @@
 -- The first number of a range that passes a test.
 use Rattle.std.proofs.Common.{◌≡◌, ℕ, suc, zero, ◌+◌, ◌<◌, ◌≤◌, Bool, true, false, List, length, map, get_or, slice_get}
-use Rattle.std.proofs.Common.{Option, Some, None, option_map, Result, Ok, Err, IfErr, IfOk, IsErr, IsErrAnd, OnErr, OnOk, find, add-one, ap, sym, ◌∙◌, inl, inr, subst, arith, refl}
+use Rattle.std.proofs.Common.{Option, Some, None, option_map, Result, Ok, Err, IfErr, IsErr, IsErrAnd, OnErr, OnOk, find, add-one, ap, sym, ◌∙◌, inl, inr, subst, arith, refl}
 use Rattle.std.proofs.lemmas.Option.{slice_get-get_or, slice_get-map}
 use Rattle.kd_state.specs.SameParts.{numbered_item}
 use Rattle.kd_tables.proofs.Failing.{err_is}
@@ -67,10 +67,6 @@ item-same told other slips.NoMemory same is = tt
 pub no_value : {T : Type 0} (answer : Result T Slip) (P : Type 0) → IsErr answer → OnOk answer P
 no_value (Ok value) P refused = cc
 no_value (Err slip) P refused = tt
-
-pub no_ok : {T : Type 0} (answer : Result T Slip) (P : T → Type 0) → IsErr answer → IfOk answer P
-no_ok (Ok value) P refused = cc
-no_ok (Err slip) P refused = tt
 
 pub on_err : {T : Type 0} (answer : Result T Slip) (P : Type 0) → P → OnErr answer P
 on_err (Ok value) P holds = tt
