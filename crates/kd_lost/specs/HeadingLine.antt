@@ -16,15 +16,14 @@ abbrev pub after_blanks : List ℕ → List ℕ
 after_blanks [] = []
 after_blanks (byte ∷ bytes) = if is_blank byte then after_blanks bytes else byte ∷ bytes
 
--- for how many signs of `word` the first line of `bytes` has the same sign at this place; small letters mean
--- capitals
+-- in how many places the first line of `bytes` has the sign of `word`; small letters mean capitals
 unfoldable pub right_signs : List ℕ → List ℕ → ℕ
 right_signs (letter ∷ word) (byte ∷ bytes) =
     if byte == 10 then 0 else (if meant_byte byte == letter then 1 else 0) + right_signs word bytes
 right_signs [] bytes = 0
 right_signs (letter ∷ word) [] = 0
 
--- for how many signs of `word` the first line of `bytes` has the same sign or a lost one at this place
+-- in how many places the first line of `bytes` has the sign of `word`, or a lost sign
 unfoldable pub fitting_signs : List ℕ → List ℕ → ℕ
 fitting_signs (letter ∷ word) (byte ∷ bytes) =
     if byte == 10 then 0

@@ -227,14 +227,14 @@ fn are_right(least: usize, word: &[u8], bytes: &[u8]) -> bool
     right_signs(word, bytes) >= least
 }
 
-/// Whether the first line of `bytes` has the same sign or a lost one at the places of at least `least` signs of `word`.
+/// Whether the first line of `bytes` has the sign of `word`, or a lost sign, in at least `least` places.
 fn are_fitting(least: usize, word: &[u8], bytes: &[u8]) -> bool
     ensures { result ≡ nat_le least (fitting_signs word.now bytes.now) }
 {
     fitting_signs(word, bytes) >= least
 }
 
-/// For how many signs of `word` the first line of `bytes` has the same sign at this place.
+/// In how many places the first line of `bytes` has the sign of `word`.
 fn right_signs(word: &[u8], bytes: &[u8]) -> usize
     ensures signs { result ≡ right_signs word.now bytes.now }
     ensures few { result ≤ length word.now }
@@ -249,7 +249,7 @@ fn right_signs(word: &[u8], bytes: &[u8]) -> usize
     0
 }
 
-/// For how many signs of `word` the first line of `bytes` has the same sign or a lost one at this place.
+/// In how many places the first line of `bytes` has the sign of `word`, or a lost sign.
 fn fitting_signs(word: &[u8], bytes: &[u8]) -> usize
     ensures signs { result ≡ fitting_signs word.now bytes.now }
     ensures few { result ≤ length word.now }
