@@ -1,6 +1,5 @@
 pub mod Drawings
 pub mod Alphabets
-pub mod Pieces
 pub mod Headings
 pub mod Groups
 pub mod PageOrders

@@ -1,13 +1,8 @@
 use Rattle.std.proofs.Common.{arith}
 use Rattle.std.proofs.lemmas.Grind.{common_steps}
-use Rattle.kd_pictures.proofs.Choices.{is_empty}
 use Rattle.kd_pictures.proofs.Drawings.{joined}
-use Rattle.kd_page.proofs.Pieces.{draws_nothing}
 use Rattle.kd_page.proofs.wheel_steps.+draw_boxed_wheels.Goals as goal
 
 pub returns-in-len1-up : goal.returns-in-len1-up
 returns-in-len1-up g t c =
     joined c.draw_boxed_wheel.ensures c.draw_boxed_wheels.ensures (grind (arith, common_steps))
-
-pub returns-in_default : goal.returns-in_default
-returns-in_default g t c = rw (is_empty _ c.in_default.len_below) draws_nothing
