@@ -7,6 +7,3 @@ pub returns-in-len1-up : goal.returns-in-len1-up
 returns-in-len1-up g t c =
     joined c.draw_lone_if.ensures c.draw_lone_after.ensures
     (grind (arith, common_steps))
-
-pub returns-in_default : goal.returns-in_default
-returns-in_default g t c = grind (arith, common_steps)

@@ -8,6 +8,3 @@ pub returns-then-count-gt0 : goal.returns-then-count-gt0
 returns-then-count-gt0 g t c =
     joined c.draw_number.ensures c.draw_numbers.ensures
     (grind (arith, common_steps, range_first))
-
-pub returns-else-count-gt0 : goal.returns-else-count-gt0
-returns-else-count-gt0 g t c = grind (arith, common_steps)

@@ -7,9 +7,3 @@ pub returns-in-Some : goal.returns-in-Some
 returns-in-Some g t c =
     joined (both c.draw.ensures c.draw_count.ensures) c.draw_numbers.ensures
     (grind (arith, common_steps))
-
-pub returns-in_default : goal.returns-in_default
-returns-in_default g t c = grind (arith, common_steps)
-
-pub returns-in_default-numbers : goal.returns-in_default-numbers
-returns-in_default-numbers g t c = grind (arith, common_steps)
