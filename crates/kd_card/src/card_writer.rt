@@ -101,7 +101,8 @@ fn push_lists<const M: usize, const N: usize>(
     column_word: &str,
     columns: &[i16; M],
 )
-    requires room { array_string_len text.old + length row_word.now + length column_word.now + 14 * M + 2 ≤ N }
+    requires room { let words = length row_word.now + length column_word.now in
+        array_string_len text.old + words + 14 * M + 2 ≤ N }
     requires rows { IsPriceList M rows.now }
     requires columns { IsPriceList M columns.now }
     ensures bytes { let lines = (row_word.now ∷ map signed_decimal rows.now)

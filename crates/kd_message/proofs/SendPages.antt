@@ -1,7 +1,6 @@
 -- The page for sending an order: its parts, one after another.
 use Rattle.std.proofs.Common.{◌≡◌, ℕ, zero, suc, ◌+◌, ◌-◌, ◌<◌, Bool, List, [], ◌∷◌, ◌++◌, length, take, drop, flat_map}
 use Rattle.std.proofs.Common.{arith, refl, ap, ◌∙◌, Ok, Err, Option, inl, inr}
-use Rattle.std.proofs.lemmas.Grind.{common_steps}
 use Rattle.std.proofs.lemmas.List.{length-take, nil_from_length}
 use Rattle.std.proofs.lemmas.List.Elements.{All-head, All-tail}
 use Rattle.std.specs.Simd.{first_chunks}
@@ -72,10 +71,6 @@ next_part s part parts all k keys text piece later same is left are =
         few = are.few;
       };
     }
-
-pub nothing_drawn : {W : Type 0} (taken : W → Option (List ℕ)) (failed : W → Bool) (old : W)
-    → Draws taken failed old old []
-nothing_drawn taken failed old = grind (arith, common_steps)
 
 pub none_left : (s : Day) (part parts : ℕ) (keys : List Keys) (text : List ℕ) → length keys < 1
     → AreKeysOfText s part parts keys text → (keys ≡ []) × (text_pieces s text ≡ [])

@@ -1,5 +1,5 @@
 -- Texts written one after another.
-use Rattle.std.proofs.Common.{◌≡◌, ℕ, ◌+◌, Bool, true, false, ◌||◌, List, ◌∷◌, ◌++◌, length, take, Option, Result}
+use Rattle.std.proofs.Common.{◌≡◌, ℕ, ◌+◌, Bool, true, false, ◌||◌, List, [], ◌∷◌, ◌++◌, length, take, Option, Result}
 use Rattle.std.proofs.Common.{Err, None, Some, append-nil, arith, is_err, refl, sym, subst, ◌∙◌, length-append}
 use Rattle.std.proofs.KnownBytes.{Appends-trans, Keeps-trans}
 use Rattle.std.proofs.Math.Seq.{take-append-add}
@@ -48,6 +48,9 @@ front_of_both taken failed old mid new a b true e one two well ill =
       subst (Appends (taken old) (taken new)) (sym (take-append-le part.0 a b (omega (arith, part.1))))
           (Appends-keeps (taken old) (taken mid) (taken new) (take part.0 a) part.2 (two.none e).1),
     )
+
+pub nothing_drawn : {W : Type 0} {taken : W → Option (List ℕ)} {failed : W → Bool} {old : W} → Draws taken failed old old []
+nothing_drawn = grind (arith, common_steps)
 
 pub Draws_then : {W : Type 0} (taken : W → Option (List ℕ)) (failed : W → Bool) (old mid new : W) (a b : List ℕ)
     → Draws taken failed old mid a → Draws taken failed mid new b → Draws taken failed old new (a ++ b)

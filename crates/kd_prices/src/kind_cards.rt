@@ -47,7 +47,7 @@ fn prices_by_kind(machine: &Machine, day: &SheetDay, prices: &Prices) -> Option<
     }
 }
 
-/// Converts the prices of cables and columns, `rows` and `columns`, to prices by kind. Returns `None` if two equal
+/// Converts prices to prices by kind: those of cables (`rows`) and of columns (`columns`). Returns `None` if two equal
 /// cables or columns have different prices.
 fn cable_prices_by_kind(
     parts: &RotorParts,
@@ -71,7 +71,7 @@ fn cable_prices_by_kind(
     )
 }
 
-/// Converts the prices of bars and rows of the sheet, `rows` and `columns`, to prices by kind. Returns `None` if two
+/// Converts prices to prices by kind: those of bars (`rows`) and of the sheet's rows (`columns`). Returns `None` if two
 /// equal bars or rows have different prices.
 fn bar_prices_by_kind(
     parts: &PinParts,

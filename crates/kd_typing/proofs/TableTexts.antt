@@ -1,9 +1,7 @@
 -- Tables as text, line by line.
-use Rattle.std.proofs.Common.{◌≡◌, ◌∙◌, ℕ, ◌%◌, ◌+◌, Bool, List, [], ◌∷◌, ◌++◌, Option, Some, None, ap, append-nil, arith}
-use Rattle.std.proofs.Common.{length, map, refl, sym}
+use Rattle.std.proofs.Common.{◌≡◌, ◌∙◌, ℕ, ◌%◌, ◌+◌, Bool, List, [], ◌∷◌, ◌++◌, Option, ap, append-nil, arith}
+use Rattle.std.proofs.Common.{length, map, sym}
 use Rattle.std.specs.List.{flat_map, range_with_len}
-use Rattle.std.specs.Io.KnownBytes.{Appends, Keeps}
-use Rattle.std.proofs.lemmas.Bool.{true≢false}
 use Rattle.std.proofs.lemmas.List.{append_assoc, map_push}
 use Rattle.std.proofs.lemmas.List.Concat.{flat_map-append}
 use Rattle.std.proofs.lemmas.List.Folds.{flat_map-map}
@@ -39,21 +37,6 @@ one_more row n before one =
     joined before one (ap (flat_map row_line) (map-range_with_len_more row 0 n n (omega arith))
     ∙ flat_map-append row_line (map row (range_with_len 0 n)) (row n ∷ [])
     ∙ ap (λ last. flat_map row_line (map row (range_with_len 0 n)) ++ last) (append-nil (row_line (row n))))
-
-appends_nothing : (bytes : Option (List ℕ)) → Appends bytes bytes []
-appends_nothing None = tt
-appends_nothing (Some x) = sym (append-nil x)
-
-keeps : (bytes : Option (List ℕ)) → Keeps bytes bytes
-keeps None = tt
-keeps (Some x) = refl
-
-pub none_yet : {W : Type 0} {taken : W → Option (List ℕ)} {failed : W → Bool} {old : W} → Draws taken failed old old []
-none_yet {taken = taken} {old = old} = record {
-  whole = λ well. (well, appends_nothing (taken old));
-  front = λ well ill. absurd (true≢false (sym ill ∙ well));
-  none = λ ill. (ill, keeps (taken old));
-}
 
 pub digits_more : (f : ℕ → ℕ) (n digit : ℕ) → digit ≡ 48 + f n
     → digits_text (map f (range_with_len 0 (n + 1))) ≡ digits_text (map f (range_with_len 0 n)) ++ digit ∷ []

@@ -47,7 +47,7 @@ impl PinRows {
     }
 
     /// Writes the rows, with an LF before each.
-    #[tactic(auto, using(crate::proofs::TableTexts::none_yet))]
+    #[tactic(auto, using(kd_pictures::proofs::Drawings::nothing_drawn))]
     fn draw_rows<W: Sink>(&self, sink: &mut W)
         ensures { Draws W.taken W.has_failed sink.old sink.new
             (flat_map row_line (pin_table self.now).rows) }

@@ -50,7 +50,7 @@ impl RotorRows {
     }
 
     /// Writes the rows of the right wheel, with an LF before each.
-    #[tactic(auto, using(crate::proofs::TableTexts::one_more, crate::proofs::TableTexts::none_yet))]
+    #[tactic(auto, using(crate::proofs::TableTexts::one_more, kd_pictures::proofs::Drawings::nothing_drawn))]
     fn draw_into<W: Sink>(&self, sink: &mut W)
         ensures { Draws W.taken W.has_failed sink.old sink.new
             (flat_map row_line (rotor_table self.now).into) }
@@ -61,7 +61,7 @@ impl RotorRows {
     }
 
     /// Writes the rows of the core, with an LF before each.
-    #[tactic(auto, using(crate::proofs::TableTexts::none_yet), unfolding(crate::specs::RotorTable::core_rows))]
+    #[tactic(auto, using(kd_pictures::proofs::Drawings::nothing_drawn), unfolding(crate::specs::RotorTable::core_rows))]
     fn draw_core<W: Sink>(&self, sink: &mut W)
         ensures { Draws W.taken W.has_failed sink.old sink.new
             (flat_map row_line (rotor_table self.now).core) }

@@ -88,12 +88,6 @@ module _ {K X : Type 0} {format : KindFormat K X} (is : IsFormat format) where
 one_word : {bytes word other : List ℕ} → BeginsWithWord word bytes → BeginsWithWord other bytes → word ≡ other
 one_word a b = ap (λ words. get_or words 0 []) (same_words a.has b.has).0
 
-same_after : {K X : Type 0} (format : KindFormat K X) (last : Option K) (kind other : K)
-    → (format.kind other).key ≡ (format.kind kind).key → ComesAfter format last other → ComesAfter format last kind
-same_after format None kind other same after = tt
-same_after format (Some before) kind other same after =
-    subst (KeyComesBefore format (format.kind before).key) same after
-
 module _ {K X : Type 0} {format : KindFormat K X} where
   -- The line of a kind begins with the word of its format.
   pub kind_begins : {last : Option K} {bytes : List ℕ} {kind : K} {rest : List ℕ}

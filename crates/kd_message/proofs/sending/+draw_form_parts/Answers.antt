@@ -1,5 +1,6 @@
 use Rattle.std.proofs.Common.{[], ap, arith, length, refl}
-use Rattle.kd_message.proofs.SendPages.{nothing_drawn, parts_next}
+use Rattle.kd_pictures.proofs.Drawings.{nothing_drawn}
+use Rattle.kd_message.proofs.SendPages.{parts_next}
 use Rattle.kd_message.proofs.sending.+draw_form_parts.Goals as goal
 
 pub draw_made_part-requires-clause-suits : goal.draw_made_part-requires-clause-suits
@@ -20,4 +21,4 @@ returns-in-Some g t c =
 pub returns-in_default : goal.returns-in_default
 returns-in_default g t c =
     let none = c.in_default.ensures in
-    ([], rw (none.0, none.1) refl, nothing_drawn _ _ _)
+    ([], rw (none.0, none.1) refl, nothing_drawn)

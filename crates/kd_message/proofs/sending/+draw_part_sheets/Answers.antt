@@ -1,5 +1,6 @@
 use Rattle.std.proofs.Common.{[], ap, arith, length, refl}
-use Rattle.kd_message.proofs.SendPages.{nothing_drawn, sheets_next}
+use Rattle.kd_pictures.proofs.Drawings.{nothing_drawn}
+use Rattle.kd_message.proofs.SendPages.{sheets_next}
 use Rattle.kd_message.proofs.sending.+draw_part_sheets.Goals as goal
 
 pub draw_part_sheets-requires : goal.draw_part_sheets-requires
@@ -18,4 +19,4 @@ returns-in-Some g t c =
 pub returns-in_default : goal.returns-in_default
 returns-in_default g t c =
     let none = c.in_default.ensures in
-    ([], rw (none.0, none.1) refl, nothing_drawn _ _ _)
+    ([], rw (none.0, none.1) refl, nothing_drawn)

@@ -6,7 +6,7 @@ pub use Rattle.std.proofs.Common.{false, List, ltb, None, Option, Some, subst, t
 pub use Rattle.std.proofs.Common.{eqb, Err, MatchOption, min, Ok, Result, suc, w16, ◌+◌, ◌^◌, ◌↔◌, append_assoc, fold}
 pub use Rattle.std.proofs.Common.{get_or, is_some, length-append, MatchResult, of_z, ℕ, ◌∙◌, ◌≤◌, codes, FitsSigned}
 pub use Rattle.std.proofs.Common.{IsTrue, map, pos, refl, rules, sym, to_z, ◌*◌, ◌∷◌, ◌≡◌}
-pub use Rattle.std.specs.Result.{IsErrAnd, IsOkAnd}
+pub use Rattle.std.specs.Result.{IsErrAnd}
 pub use Rattle.std.proofs.lemmas.{Grind.common_steps, Int.{fits_signed_from_abs, to_z-of_z}, Result.err_from_is_err_and}
 pub use Rattle.std.proofs.lemmas.List.{append_cancel_left, Folds.flat_map-map, Sums.AllPass-from_list_all, get_or-map}
 pub use Rattle.std.proofs.lemmas.List.{get_or_at, length-replicate, take_all, Splits.slice_split_none}
@@ -19,8 +19,8 @@ pub use Rattle.std.proofs.lemmas.Fmt.{decimal_injective, decimal_nonempty, digit
 pub use Rattle.std.proofs.{Common.bytes_eq, lemmas.Slice.Eq.bytes_eq-Decides}
 pub use Rattle.std.specs.{Bool.then_some, Result.result_ok, Str.{IsUtf8, Parse.ParsesSigned}}
 pub use Rattle.std.proofs.lemmas.{Fmt.{IsAscii-signed, parse-signed_decimal}, Str.IsUtf8-from_ascii}
-pub use Rattle.kd_card.specs.Kinds.{AreEnds, bar_format, cable_format, ComesAfter, HasText, IsOnlyKey, letters_text}
-pub use Rattle.kd_card.specs.Kinds.{IsGroup, IsKind, KeyComesBefore, KindFormat, pair_format, prices_of_kinds, AreKinds}
+pub use Rattle.kd_card.specs.Kinds.{AreEnds, bar_format, cable_format, HasText, IsOnlyKey, letters_text}
+pub use Rattle.kd_card.specs.Kinds.{IsGroup, IsKind, KindFormat, pair_format, prices_of_kinds, AreKinds}
 pub use Rattle.kd_card.specs.Kinds.{HasKindWords, kind_words, kinds_text, row_format, total_count}
 pub use Rattle.kd_card.specs.CardFault.{first_text, AtNothing, BeginsWithWord, IsAllPricesAnswer, IsPricesAnswer}
 pub use Rattle.kd_card.specs.CardFault.{last_of, BeginsWithKinds, IsDigit, IsGroupsAnswer, IsPriceLineAnswer}
@@ -261,16 +261,6 @@ module _ (number line : ℕ) {words : List (List ℕ)} where
 pub MatchResult-err : {F Y : Type 0} (answer : Result Y F) (fault : F) (Good : Y → Type 0) (Bad : F → Type 0)
     → IsErrAnd answer (λ made. made ≡ fault) → Bad fault → MatchResult answer Good Bad
 MatchResult-err answer fault Good Bad made bad = let is = err_from_is_err_and answer made in rw (is.1, is.2) bad
-
--- If a step's value is turned into another by a call, and faults are passed on, what holds of the step carries over.
-pub MatchResult-map : {X Y F : Type 0} (step : Result X F) (mapped : Result Y F) (Read : X → Type 0)
-    (Fault : F → Type 0) (Called : X → Y → Type 0) (Good : Y → Type 0) (Bad : F → Type 0) → MatchResult step Read Fault
-    → MatchResult step (λ x. IsOkAnd mapped (Called x)) (λ fault. mapped ≡ Err fault)
-    → ((x : X) (y : Y) → Read x → Called x y → Good y) → ((fault : F) → Fault fault → Bad fault)
-    → MatchResult mapped Good Bad
-MatchResult-map (Ok x) (Ok y) Read Fault Called Good Bad read called good bad = good x y read called
-MatchResult-map (Ok x) (Err fault) Read Fault Called Good Bad read called good bad = absurd called
-MatchResult-map (Err fault) mapped Read Fault Called Good Bad read called good bad = rw called (bad fault read)
 
 -- A test that is false refutes what it decides.
 pub not_from_false : {P : Type 0} {test : Bool} → Decides test P → test ≡ false → ¬ P

@@ -1,10 +1,10 @@
 use Rattle.std.proofs.Common.{ap, refl, rules, sym, ◌∙◌, ◌≡◌, ℕ}
 use Rattle.kd_tables.specs.Rings.{ring_of}
 use Rattle.kd_pins.specs.PinWheels.{pins_on}
-use Rattle.kd_pictures.proofs.Drawings.{both}
+use Rattle.kd_pictures.proofs.Drawings.{both, nothing_drawn}
 use Rattle.kd_typing.specs.PinTable.{acting_pins}
 use Rattle.kd_typing.specs.TableText.{pins_text}
-use Rattle.kd_typing.proofs.TableTexts.{acting_line, none_yet, wheel_drawn}
+use Rattle.kd_typing.proofs.TableTexts.{acting_line, wheel_drawn}
 use Rattle.kd_typing.proofs.pin_rows.PinRows.draw_wheels.Goals as goal
 
 pub returns : goal.returns
@@ -20,4 +20,4 @@ returns g c =
     (both (wheel_drawn key 3 13 pins.w3 c.draw_wheel-2.ensures (on 3) refl (search rules))
     (both (wheel_drawn key 4 12 pins.w4 c.draw_wheel-3.ensures (on 4) refl (search rules))
     (both (wheel_drawn key 5 11 pins.w5 c.draw_wheel-4.ensures (on 5) refl (search rules))
-    (both (wheel_drawn key 6 10 pins.w6 c.draw_wheel-5.ensures (on 6) refl (search rules)) none_yet)))))
+    (both (wheel_drawn key 6 10 pins.w6 c.draw_wheel-5.ensures (on 6) refl (search rules)) nothing_drawn)))))
