@@ -28,7 +28,8 @@ fn kind_of_words<K: Kind>(behind: Option<&[u8]>) -> Option<K>
     kind_of_list(words.as_slice())
 }
 
-/// Parses a kind from the words after the first in its line. `None` unless these are three words that make a valid kind.
+/// Parses a kind from the words after the first in its line. `None` unless these are three words that make a valid
+/// kind.
 #[tactic(auto, using(crate::proofs::OneCard::words_in_place))]
 fn kind_of_list<K: Kind>(words: &[&[u8]]) -> Option<K>
     ensures { let words = K.format.word ∷ map (λ word. word.now) words.now in

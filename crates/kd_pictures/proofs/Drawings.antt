@@ -49,7 +49,8 @@ front_of_both taken failed old mid new a b true e one two well ill =
           (Appends-keeps (taken old) (taken mid) (taken new) (take part.0 a) part.2 (two.none e).1),
     )
 
-pub nothing_drawn : {W : Type 0} {taken : W → Option (List ℕ)} {failed : W → Bool} {old : W} → Draws taken failed old old []
+pub nothing_drawn : {W : Type 0} {taken : W → Option (List ℕ)} {failed : W → Bool} {old : W}
+    → Draws taken failed old old []
 nothing_drawn = grind (arith, common_steps)
 
 pub Draws_then : {W : Type 0} (taken : W → Option (List ℕ)) (failed : W → Bool) (old mid new : W) (a b : List ℕ)

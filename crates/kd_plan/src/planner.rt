@@ -103,7 +103,8 @@ fn cable_prices(total: u16, rows: [i16; 13], columns: [i16; 13]) -> Prices
     .unwrap()
 }
 
-/// The prices of bars (`rows`) and of the sheet's rows (`columns`), or only zeros if the assignment's cost `total` is 0.
+/// The prices of bars (`rows`) and of the sheet's rows (`columns`), or only zeros if the assignment's cost `total` is
+/// 0.
 fn bar_prices(total: u16, rows: [i16; 27], columns: [i16; 27]) -> Prices
     requires rows { All (λ price. unsigned_abs price ≤ 4 * 27) rows }
     requires columns { All (λ price. unsigned_abs price ≤ 4 * 27) columns }

@@ -54,7 +54,8 @@ impl RotorEntry {
     ghost use Rattle.kd_state.specs.SheetDay.{rotor_day_of, IsLegalRotorDay, AreOneOfGroups};
     ghost use Rattle.kd_state.specs.Entry.{rotor_values};
 
-    /// The entry with these values. `None` unless it has three or four wheels, at most 13 pairs and at most four groups.
+    /// The entry with these values. `None` unless there are three or four wheels, at most 13 pairs and at most four
+    /// groups.
     pub(crate) fn new(
         day: u8,
         model: Model,
