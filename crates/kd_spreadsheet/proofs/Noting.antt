@@ -15,7 +15,7 @@ use Rattle.kd_spreadsheet.specs.Cells.{has_columns, row_cells, row_model}
 use Rattle.kd_spreadsheet.specs.Columns.{cell_at, columns_of}
 use Rattle.kd_spreadsheet.specs.Items.{is_blank}
 use Rattle.kd_options.specs.TableOptions.{OptionTexts}
-use Rattle.kd_spreadsheet.specs.Notes.{NextCell, NoCells, TellsCells, TellsPlacedRow, TellsText, cell_place, line_at, unread_line, unread_note, unread_words, HasRowsNote, HasSomeLine, OfRows, TellsRow, TellsTable, day_of_row, lacks_column, needs_note, repeats_day, row_place}
+use Rattle.kd_spreadsheet.specs.Notes.{NextCell, NoCells, TellsCells, TellsPlacedRow, TellsText, cell_place, line_at, unread_line, unread_note, unread_words, HasRowsNote, HasSomeLine, OfRows, TellsRow, TellsTable, day_of_row, lacks_column, row_place, AreCellWords, IsEarlierRow}
 use Rattle.kd_spreadsheet.specs.NearNames.{is_misnamed}
 use Rattle.kd_spreadsheet.specs.Row.{IsDayOfRow, IsNoDay, is_column_read, row_values}
 use Rattle.kd_spreadsheet.specs.Rows.{is_well_quoted}
@@ -58,33 +58,36 @@ pub line_first : (place old middle new line : List ℕ) → middle ≡ old ++ li
 line_first place old middle new line first (lines, some, rest) =
     (line ∷ lines, omega arith, two_parts old middle new (line_at place line) (flat_map (line_at place) lines) first rest)
 
+pub one_line : (place old new line : List ℕ) → new ≡ old ++ line_at place line
+    → new ≡ old ++ flat_map (line_at place) (line ∷ [])
+one_line place old new line is = is ∙ ap (λ t. old ++ t) (sym (append-nil (line_at place line)))
+
 pub line_alone : (place old new line : List ℕ) → new ≡ old ++ line_at place line → HasLines place old new
-line_alone place old new line is =
-    (line ∷ [], omega arith, is ∙ ap (λ t. old ++ t) (sym (append-nil (line_at place line))))
+line_alone place old new line is = (line ∷ [], omega arith, one_line place old new line is)
 
 -- ---- the note on a row's cells
 
-module _ (options : OptionTexts) (columns : Columns) (head : List (List ℕ)) (place : List ℕ) (row : List (List ℕ))
-    (repeated : Bool) where
+module _ (l : Language) (options : OptionTexts) (columns : Columns) (head : List (List ℕ)) (place : List ℕ)
+    (row : List (List ℕ)) (earlier : Option ℕ) where
   abbrev pub TellsCell : Cell → List ℕ → List ℕ → Type 0
   TellsCell cell old new = (lines : List (List ℕ))
       × (new ≡ old ++ flat_map (line_at (cell_place columns head place cell)) lines)
-      × (needs_note options columns row repeated cell ≡ true → 0 < length lines)
+      × AreCellWords l options columns row earlier cell lines
 
   abbrev pub TellsMore : List Cell → List ℕ → List ℕ → Type 0
   TellsMore cells old new =
-      (more : List ℕ) × (new ≡ old ++ more) × TellsCells options columns head place row repeated cells more
+      (more : List ℕ) × (new ≡ old ++ more) × TellsCells l options columns head place row earlier cells more
 
   pub cell_first : (cell : Cell) (cells all : List Cell) (old middle new : List ℕ) → all ≡ cell ∷ cells
       → TellsCell cell old middle → TellsMore cells middle new → TellsMore all old new
   cell_first cell cells all old middle new split (lines, first, some) (more, rest, told) =
       let of_cell = flat_map (line_at (cell_place columns head place cell)) lines in
-      let P : List Cell → Type 0 = λ cs. TellsCells options columns head place row repeated cs (of_cell ++ more) in
+      let P : List Cell → Type 0 = λ cs. TellsCells l options columns head place row earlier cs (of_cell ++ more) in
       (of_cell ++ more, two_parts old middle new of_cell more first rest, subst P (sym split) (NextCell cell cells lines more some told))
 
   pub no_cells : (cells : List Cell) (old : List ℕ) → cells ≡ [] → TellsMore cells old old
   no_cells cells old none =
-      let P : List Cell → Type 0 = λ cs. TellsCells options columns head place row repeated cs [] in
+      let P : List Cell → Type 0 = λ cs. TellsCells l options columns head place row earlier cs [] in
       ([], sym (append-nil old), subst P (sym none) NoCells)
 
   -- a line was appended, if nothing was said of the cells of a row that is no day
@@ -99,7 +102,7 @@ module _ (options : OptionTexts) (columns : Columns) (head : List (List ℕ)) (p
       → ((words : List (List ℕ)) × (n3 ≡ n2 ++ flat_map (line_at place) words) × (is_due ≡ true → 0 < length words))
       → (IsNoDay (row_values options columns row) → has_columns options columns row ≡ true → length n2 ≡ length n1
       → is_due ≡ true)
-      → TellsPlacedRow options columns head place row repeated n1 n3
+      → TellsPlacedRow l options columns head place row earlier n1 n3
   placed_told n1 n2 n3 is_due (of_cells, second, told) (words, third, some) due = record {
     of_cells = of_cells;
     words = words;
@@ -108,25 +111,25 @@ module _ (options : OptionTexts) (columns : Columns) (head : List (List ℕ)) (p
     some = λ none has. some_line of_cells words n1 n2 is_due second some (due none has);
   }
 
-  pub row_told : (l : Language) (number : ℕ) (old new : List ℕ) → place ≡ row_place l number (day_of_row columns row)
-      → TellsPlacedRow options columns head place row repeated old new
-      → (more : List ℕ) × (new ≡ old ++ more) × ((earlier : List (List (List ℕ)))
-      → repeated ≡ repeats_day columns earlier row → TellsRow l options columns head number earlier row more)
-  row_told l number old new same told =
+  pub row_told : (number : ℕ) (old new : List ℕ) → place ≡ row_place l number (day_of_row columns row)
+      → TellsPlacedRow l options columns head place row earlier old new
+      → (more : List ℕ) × (new ≡ old ++ more) × ((numbers : List ℕ) (rows : List (List (List ℕ)))
+      → IsEarlierRow columns numbers rows row earlier → TellsRow l options columns head numbers rows number row more)
+  row_told number old new same told =
       let of_row = flat_map (line_at place) told.words in
       let cells = row_cells (row_model options columns row) in
-      let P : List ℕ → Type 0 = λ p. TellsCells options columns head p row repeated cells told.of_cells in (
+      let P : List ℕ → Type 0 = λ p. TellsCells l options columns head p row earlier cells told.of_cells in (
         told.of_cells ++ of_row,
         told.appended,
-        λ earlier again.
-            let Q : Bool → Type 0 = λ r.
-            TellsCells options columns head (row_place l number (day_of_row columns row)) row r cells told.of_cells in
+        λ numbers rows is.
             record {
+              earlier = earlier;
+              is_earlier = is;
               of_cells = told.of_cells;
               of_row = of_row;
               words = told.words;
               joined = refl;
-              cells = subst Q again (subst P same told.cells);
+              cells = subst P same told.cells;
               whole = ap (λ p. flat_map (line_at p) told.words) same;
               some = told.some;
             },

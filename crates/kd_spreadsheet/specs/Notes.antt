@@ -2,12 +2,12 @@
 -- groups, are defined to the byte.
 --
 -- If the quotes of a refused table are right, the notes have at least one line for each unreadable cell that the row's
--- model needs, and for each cell with the day of an earlier row. They also have one for each row that is neither blank
--- nor a day. The exception: if the table lacks a column that the row needs, there may be only a line about the columns.
--- Each of these lines begins with the place of the cell, the row or the first row. The words after the place aren't
--- defined, nor is their language.
+-- model needs. They also have one for each row that is neither blank nor a day. The exception: if the table lacks a
+-- column that the row needs, there may be only a line about the columns. Each of these lines begins with the place of
+-- the cell, the row or the first row. The words after the place aren't defined, nor is their language. For a cell with
+-- the day of an earlier row, there is one line, which is defined to the byte.
 -- Test: tests/cases/curator-sheet.toml
-use Rattle.std.specs.Prelude.{◌≡◌, ◌<◌, ◌+◌, ◌==◌, ◌&&◌, ◌||◌, not, codes, decimal, nat_lt, ℕ, Bool, true, false, List, [], ◌∷◌, ◌++◌, drop, flat_map, is_some, length, map, slice_get, slice_index_or, take, Option, Some, None, IfSome, IsTrue, if◌then◌else◌}
+use Rattle.std.specs.Prelude.{◌≡◌, ◌<◌, ◌+◌, ◌==◌, ◌&&◌, ◌||◌, not, codes, decimal, nat_lt, ℕ, Bool, true, false, List, [], ◌∷◌, ◌++◌, drop, flat_map, length, map, slice_get, slice_index_or, take, Option, Some, None, IfSome, IsTrue, MatchOption, if◌then◌else◌}
 use Rattle.std.specs.Prelude.{Result, Ok, Err}
 use Rattle.std.specs.Io.KnownBytes.{Appends}
 use Rattle.std.specs.List.{list_all, list_any, range_with_len}
@@ -145,42 +145,67 @@ day_of_row columns row = day_in (cell_at columns.day row)
 abbrev pub has_day : Columns → ℕ → List (List ℕ) → Bool
 has_day columns day row = option_map_or (λ other. other == day) (day_of_row columns row) false
 
--- whether one of the rows `earlier` has the day of `row`; false if `row` has no day
-abbrev pub repeats_day : Columns → List (List (List ℕ)) → List (List ℕ) → Bool
-repeats_day columns earlier row =
-    option_map_or (λ day. list_any (has_day columns day) earlier) (day_of_row columns row) false
+-- `number` is the number of the first of `rows` with the day `day`. `numbers` are the numbers of `rows`.
+pub record IsFirstWith (columns : Columns) (day : ℕ) (numbers : List ℕ) (rows : List (List (List ℕ))) (number : ℕ)
+    : Type 0 where
+  pub front : List (List (List ℕ))
+  pub row : List (List ℕ)
+  pub rest : List (List (List ℕ))
+  pub split : rows ≡ front ++ row ∷ rest
+  pub has : has_day columns day row ≡ true
+  pub before : list_any (has_day columns day) front ≡ false
+  pub numbered : IfSome (slice_get numbers (length front)) (λ due. number ≡ due)
 
-abbrev pub is_day_cell : Cell → Bool
-is_day_cell cells.Day = true
-is_day_cell cell = false
+-- `found` is the number of the first of `rows` with the day `day`; `None` if none of them has this day
+abbrev pub FindsDay : Columns → ℕ → List ℕ → List (List (List ℕ)) → Option ℕ → Type 0
+FindsDay columns day numbers rows None = list_any (has_day columns day) rows ≡ false
+FindsDay columns day numbers rows (Some number) = IsFirstWith columns day numbers rows number
 
--- Whether there must be a note on a cell: its text can't be read, or it has the day of an earlier row (`repeated`).
-abbrev pub needs_note : OptionTexts → Columns → List (List ℕ) → Bool → Cell → Bool
-needs_note options columns row repeated cell = is_faulty options columns row cell || is_day_cell cell && repeated
+-- `found` is the number of the first of `rows` with the day of `row`; `None` if none of them has this day, or if `row`
+-- has no day
+abbrev pub IsEarlierRow : Columns → List ℕ → List (List (List ℕ)) → List (List ℕ) → Option ℕ → Type 0
+IsEarlierRow columns numbers rows row found =
+    MatchOption (day_of_row columns row) (found ≡ None) (λ day. FindsDay columns day numbers rows found)
+
+-- the words for a day that row `number` has, too
+abbrev pub same_day_words : Language → ℕ → List ℕ
+same_day_words l number = filled (text_in l texts.SAME_DAY) (decimal number ∷ [])
+
+-- `earlier` for the cell of the day, and `None` for any other cell
+abbrev pub of_day_cell : Option ℕ → Cell → Option ℕ
+of_day_cell earlier cells.Day = earlier
+of_day_cell earlier cell = None
+
+-- The lines on a cell. If row `earlier` has the day in the cell, there is one line, which says so. Otherwise, there is
+-- at least one line if the cell's text can't be read.
+abbrev pub AreCellWords : Language → OptionTexts → Columns → List (List ℕ) → Option ℕ → Cell → List (List ℕ) → Type 0
+AreCellWords l options columns row earlier cell words = MatchOption (of_day_cell earlier cell)
+    (is_faulty options columns row cell ≡ true → 0 < length words) (λ number. words ≡ same_day_words l number ∷ [])
 
 -- The notes on a list of cells of `row`. Each line of the notes begins with the place of the cell that the line is
--- about. There is at least one line for each cell that can't be read. If an earlier row has the day of `row`
--- (`repeated`), and the list has the cell of the day, this cell has at least one line.
-pub data TellsCells (options : OptionTexts) (columns : Columns) (head : List (List ℕ)) (place : List ℕ)
-    (row : List (List ℕ)) (repeated : Bool) : List Cell → List ℕ → Type 0 where
-  NoCells : TellsCells options columns head place row repeated [] []
+-- about. `earlier` is the number of an earlier row with the day of `row`; `None` if there is no such row.
+pub data TellsCells (l : Language) (options : OptionTexts) (columns : Columns) (head : List (List ℕ)) (place : List ℕ)
+    (row : List (List ℕ)) (earlier : Option ℕ) : List Cell → List ℕ → Type 0 where
+  NoCells : TellsCells l options columns head place row earlier [] []
   NextCell : (cell : Cell) (rest : List Cell) (words : List (List ℕ)) (note : List ℕ)
-      → (needs_note options columns row repeated cell ≡ true → 0 < length words)
-      → TellsCells options columns head place row repeated rest note
-      → TellsCells options columns head place row repeated (cell ∷ rest)
+      → AreCellWords l options columns row earlier cell words
+      → TellsCells l options columns head place row earlier rest note
+      → TellsCells l options columns head place row earlier (cell ∷ rest)
       (flat_map (line_at (cell_place columns head place cell)) words ++ note)
 
 -- The notes on a row: first on the row's cells, then on the row as a whole. If the row isn't a day, there is at least
--- one note. The exception: the table lacks a column that the row needs. `earlier` are the rows between the first row
--- and this row.
-pub record TellsRow (l : Language) (options : OptionTexts) (columns : Columns) (head : List (List ℕ)) (number : ℕ)
-    (earlier : List (List (List ℕ))) (row : List (List ℕ)) (note : List ℕ) : Type 0 where
+-- one note. The exception: the table lacks a column that the row needs. `rows` are the rows between the first row and
+-- this row, and `numbers` their numbers.
+pub record TellsRow (l : Language) (options : OptionTexts) (columns : Columns) (head : List (List ℕ))
+    (numbers : List ℕ) (rows : List (List (List ℕ))) (number : ℕ) (row : List (List ℕ)) (note : List ℕ) : Type 0 where
+  pub earlier : Option ℕ
+  pub is_earlier : IsEarlierRow columns numbers rows row earlier
   pub of_cells : List ℕ
   pub of_row : List ℕ
   pub words : List (List ℕ)
   pub joined : note ≡ of_cells ++ of_row
-  pub cells : TellsCells options columns head (row_place l number (day_of_row columns row)) row
-      (repeats_day columns earlier row) (row_cells (row_model options columns row)) of_cells
+  pub cells : TellsCells l options columns head (row_place l number (day_of_row columns row)) row earlier
+      (row_cells (row_model options columns row)) of_cells
   pub whole : of_row ≡ flat_map (line_at (row_place l number (day_of_row columns row))) words
   pub some : IsNoDay (row_values options columns row) → has_columns options columns row ≡ true
       → 0 < length of_cells + length words
@@ -196,7 +221,7 @@ pub data TellsRows (l : Language) (options : OptionTexts) (columns : Columns) (h
   RowTold : (rows : List (List (List ℕ))) (note : List ℕ) (row : List (List ℕ)) (number : ℕ) (more : List ℕ)
       → TellsRows l options columns head numbers rows note → is_blank_row columns row ≡ false
       → IfSome (slice_get numbers (length rows)) (λ due. number ≡ due)
-      → TellsRow l options columns head number rows row more
+      → TellsRow l options columns head numbers rows number row more
       → TellsRows l options columns head numbers (rows ++ row ∷ []) (note ++ more)
 
 abbrev pub quotes_note : Language → List ℕ
@@ -247,7 +272,8 @@ table_fault (Err (Unwritten fault)) = Some fault
 
 -- Which notes on `table` were written. The fourth argument says why no key sheet is made from the table:
 -- - `None`: the table means days. The note on such a table was written in language `l`.
--- - `Refused`: the notes on a refused table were written. The words after a place may be in any language.
+-- - `Refused`: the notes on a refused table were written. The words after a place may be in any language, except for a
+--   day that an earlier row has, too.
 -- - `NoMemory`: memory ran out. Notes may be missing, or in another language than `l`.
 abbrev pub HasNotesOn : Language → OptionTexts → List ℕ → Option SpreadsheetFault → Port → Type 0
 HasNotesOn l options table None notes = TellsTaken l options table notes
@@ -257,28 +283,29 @@ HasNotesOn l options table (Some faults.NoMemory) notes = Tells notes
 -- ---- Reading row by row. No public contract cites these definitions.
 
 -- `new` is `old`, followed by the notes on a row's cells and on the row as a whole. If the row isn't a day, there is at
--- least one note. The exception: the table lacks a column that the row needs. `repeated` says whether an earlier row
--- has the row's day.
-pub record TellsPlacedRow (options : OptionTexts) (columns : Columns) (head : List (List ℕ)) (place : List ℕ)
-    (row : List (List ℕ)) (repeated : Bool) (old new : List ℕ) : Type 0 where
+-- least one note. The exception: the table lacks a column that the row needs. `earlier` is the number of an earlier row
+-- with the row's day; `None` if there is no such row.
+pub record TellsPlacedRow (l : Language) (options : OptionTexts) (columns : Columns) (head : List (List ℕ))
+    (place : List ℕ) (row : List (List ℕ)) (earlier : Option ℕ) (old new : List ℕ) : Type 0 where
   pub of_cells : List ℕ
   pub words : List (List ℕ)
   pub appended : new ≡ old ++ (of_cells ++ flat_map (line_at place) words)
-  pub cells : TellsCells options columns head place row repeated (row_cells (row_model options columns row)) of_cells
+  pub cells : TellsCells l options columns head place row earlier (row_cells (row_model options columns row)) of_cells
   pub some : IsNoDay (row_values options columns row) → has_columns options columns row ≡ true
       → 0 < length of_cells + length words
 
--- For each day below 32, `found` has a number exactly if one of `rows` has this day.
-pub record KnowsDays (columns : Columns) (rows : List (List (List ℕ))) (found : List (Option ℕ)) : Type 0 where
+-- For each day below 32, `found` has the number of the first of `rows` with this day. `numbers` are the rows' numbers.
+pub record KnowsDays (columns : Columns) (numbers : List ℕ) (rows : List (List (List ℕ))) (found : List (Option ℕ))
+    : Type 0 where
   pub size : length found ≡ 32
-  pub known : (day : ℕ) → day < 32 → is_some (slice_index_or found day None) ≡ list_any (has_day columns day) rows
+  pub known : (day : ℕ) → day < 32 → FindsDay columns day numbers rows (slice_index_or found day None)
 
 -- `text` has the notes on `rows`, and `found` has the days of `rows`. `numbers` are the numbers of all rows under the
 -- first row.
 pub record HasReadRows (head : Head) (numbers : List ℕ) (rows : List (List (List ℕ))) (text : List ℕ) (found : Found)
     : Type 0 where
   pub told : TellsRows head.language head.options head.columns head.names numbers rows text
-  pub days : KnowsDays head.columns rows found.rows
+  pub days : KnowsDays head.columns numbers rows found.rows
 
 -- `new` is `old`, followed by the notes on `rows`, the rows under the first row `head`. If all these rows are blank, a
 -- line about the whole table follows.

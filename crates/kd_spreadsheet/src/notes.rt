@@ -1,7 +1,8 @@
 //! Writes notes on the faults of a table.
 //!
 //! It is proved which rows and cells must have notes, and when there must be a note on columns or on the whole table.
-//! The words after a note's place, and the language of these words, are only tested.
+//! The words after a note's place, and the language of these words, are only tested, except for a day that an earlier
+//! row has, too.
 ghost use Rattle.std.specs.Prelude.{◌≡◌, ◌<◌, ◌&&◌, ◌++◌, ◌∷◌, [], true, flat_map, length, map, slice_get, ℕ, List, IfOk, IfSome};
 ghost use Rattle.std.specs.List.{list_any};
 ghost use Rattle.csv.specs.Records.{fields_of};

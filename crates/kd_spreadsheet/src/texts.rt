@@ -96,12 +96,6 @@ pub const NO_NAMES: Text = (
 /// The words for a day that comes twice. The value is the number of the earlier row with this day.
 pub const SAME_DAY: Text = ("row ~ has this day, too", "diesen Tag hat schon Zeile ~");
 
-/// The words for a day that comes twice, if no other line says so.
-pub const DAY_AGAIN: Text = (
-    "an earlier row has this day, too",
-    "diesen Tag hat schon eine frühere Zeile",
-);
-
 /// The words for a row that is too short. The value is the name of the first column in which the row has no cell.
 pub const ROW_ENDS: Text = (
     "~: the row ends before this column",

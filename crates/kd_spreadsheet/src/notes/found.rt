@@ -1,7 +1,7 @@
 //! The days of all earlier rows, for the notes on later rows.
-ghost use Rattle.std.specs.Prelude.{◌≡◌, ◌++◌, ◌∷◌, [], is_some, ℕ, List};
+ghost use Rattle.std.specs.Prelude.{◌≡◌, ◌++◌, ◌∷◌, [], ℕ, List, IfSome, length, slice_get};
 ghost use Rattle.csv.specs.Records.{fields_of};
-ghost use Rattle.kd_spreadsheet.specs.Notes.{repeats_day, KnowsDays};
+ghost use Rattle.kd_spreadsheet.specs.Notes.{IsEarlierRow, KnowsDays};
 ghost use Rattle.kd_spreadsheet.specs.declared.columns.Columns.{Columns};
 
 use super::head::Head;
@@ -19,7 +19,7 @@ pub struct Found {
 impl Found {
     /// The state before the first row: no days.
     pub fn new() -> Self
-        ensures { (columns : Columns) → KnowsDays columns [] result.rows }
+        ensures { (columns : Columns) (numbers : List ℕ) → KnowsDays columns numbers [] result.rows }
     {
         Found { rows: [None; 32] }
     }
@@ -27,9 +27,11 @@ impl Found {
     /// The number of the first row with the day of `row`. `None` if `row` has no day, or if no earlier row has this
     /// day. Keeps `number`, the number of `row`, if the day is new.
     pub fn earlier_row(&mut self, head: &Head<'_>, row: &ByteRecord, number: u64) -> Option<u64>
-        ensures { (rows : List (List (List ℕ))) → KnowsDays head.now.columns rows self.old.rows
-            → (is_some result ≡ repeats_day head.now.columns rows (fields_of row.now))
-            × KnowsDays head.now.columns (rows ++ fields_of row.now ∷ []) self.new.rows }
+        ensures { (numbers : List ℕ) (rows : List (List (List ℕ)))
+            → IfSome (slice_get numbers (length rows)) (λ due. number ≡ due)
+            → KnowsDays head.now.columns numbers rows self.old.rows
+            → IsEarlierRow head.now.columns numbers rows (fields_of row.now) result
+            × KnowsDays head.now.columns numbers (rows ++ fields_of row.now ∷ []) self.new.rows }
     {
         let day = usize::from(day_in(cell_at(row, head.columns().day))?);
         if let Some(earlier) = self.rows[day] {

@@ -96,7 +96,6 @@ pub struct PlacedRow<'a> {
 }
 
 impl<'a> std::marker::Model for PlacedRow<'a> {
-    ghost use Rattle.std.specs.Prelude.{is_some};
     ghost use Rattle.csv.specs.Records.{fields_of};
     ghost use Rattle.kd_spreadsheet.specs.Head.{PlacedRow};
 
@@ -105,17 +104,17 @@ impl<'a> std::marker::Model for PlacedRow<'a> {
     ghost view = { λ row. record {
       place = row.place.now;
       cells = fields_of row.cells.now;
-      repeated = is_some row.earlier;
+      earlier = row.earlier;
     } };
 }
 
 impl<'a> PlacedRow<'a> {
-    ghost use Rattle.std.specs.Prelude.{◌≡◌, is_some};
+    ghost use Rattle.std.specs.Prelude.{◌≡◌};
     ghost use Rattle.csv.specs.Records.{fields_of};
     ghost use Rattle.kd_spreadsheet.specs.Head.{placed_row};
 
     pub fn new(place: &'a [u8], cells: &'a ByteRecord, earlier: Option<u64>) -> Self
-        ensures { result ≡ placed_row place.now (fields_of cells.now) (is_some earlier) }
+        ensures { result ≡ placed_row place.now (fields_of cells.now) earlier }
     {
         PlacedRow {
             place,
@@ -138,7 +137,7 @@ impl<'a> PlacedRow<'a> {
 
     /// The number of an earlier row with this row's day; `None` if there is no such row.
     pub fn earlier(&self) -> Option<u64>
-        ensures { is_some result ≡ self.now.repeated }
+        ensures { result ≡ self.now.earlier }
     {
         self.earlier
     }

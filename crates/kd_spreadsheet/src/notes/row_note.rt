@@ -1,26 +1,26 @@
 //! The notes on a row.
-ghost use Rattle.std.specs.Prelude.{◌≡◌, ◌&&◌, ◌++◌, ◌∷◌, ◌<◌, [], ℕ, List, true, flat_map, length, IfOk};
+ghost use Rattle.std.specs.Prelude.{◌≡◌, ◌++◌, ◌∷◌, ◌<◌, [], ℕ, List, true, flat_map, length, slice_get, IfOk, IfSome};
 ghost use Rattle.std.specs.Option.{option_map_or};
 ghost use Rattle.std.specs.String.{string_bytes};
 ghost use Rattle.csv.specs.Records.{fields_of};
 ghost use Rattle.kd_spreadsheet.specs.Cells.{cells_of, day_in, has_columns, is_faulty, row_cells, row_model};
 ghost use Rattle.kd_spreadsheet.specs.Columns.{cell_at};
-ghost use Rattle.kd_spreadsheet.specs.Notes.{cell_place, is_day_cell, line_at, needs_note, row_place, KnowsDays};
+ghost use Rattle.kd_spreadsheet.specs.Notes.{cell_place, line_at, of_day_cell, row_place, same_day_words, AreCellWords, KnowsDays};
 ghost use Rattle.kd_spreadsheet.specs.Notes.{TellsCells, TellsPlacedRow, TellsRow};
 ghost use Rattle.kd_spreadsheet.specs.Row.{row_values, IsNoDay};
 
 use super::cell_words::cell_words;
 use super::found::Found;
 use super::head::{Head, PlacedRow};
-use super::note::{cell_place, push_due_words, row_place};
+use super::note::{cell_place, push_due_words, push_line, row_place};
 use super::words::{Value, Words};
 use crate::cell::{Cell, day_in, has_columns, has_text, is_read, known_cells, row_model, text_of};
 use crate::columns::cell_at;
 use crate::items::is_blank;
 use crate::row::row_day;
-use crate::texts::{BEYOND, DAY_AGAIN, ROW_ENDS, ROW_IS_NO_DAY, SAME_DAY, UNREADABLE};
+use crate::texts::{BEYOND, ROW_ENDS, ROW_IS_NO_DAY, SAME_DAY, UNREADABLE};
 use csv::ByteRecord;
-use kd_language::Text;
+use itoa::Buffer;
 use std::alloc::AllocError;
 
 /// Appends the notes on a row that isn't blank. Adds the row's day to `found`.
@@ -32,10 +32,12 @@ pub fn push_row(
     row: &ByteRecord,
 ) -> Result<(), AllocError>
     ensures { IfOk result (λ _. (more : List ℕ) × (note.new.items ≡ note.old.items ++ more)
-        × ((rows : List (List (List ℕ))) → KnowsDays head.now.columns rows found.old.rows
-        → TellsRow head.now.language head.now.options head.now.columns head.now.names number rows
-        (fields_of row.now) more
-        × KnowsDays head.now.columns (rows ++ fields_of row.now ∷ []) found.new.rows)) }
+        × ((numbers : List ℕ) (rows : List (List (List ℕ)))
+        → IfSome (slice_get numbers (length rows)) (λ due. number ≡ due)
+        → KnowsDays head.now.columns numbers rows found.old.rows
+        → TellsRow head.now.language head.now.options head.now.columns head.now.names numbers rows
+        number (fields_of row.now) more
+        × KnowsDays head.now.columns numbers (rows ++ fields_of row.now ∷ []) found.new.rows)) }
 {
     let place = place_of_row(head, number, row)?;
     let earlier = found.earlier_row(head, row, number);
@@ -58,8 +60,8 @@ fn push_placed_row(
     head: &Head<'_>,
     row: &PlacedRow<'_>,
 ) -> Result<(), AllocError>
-    ensures { IfOk result (λ _. TellsPlacedRow head.now.options head.now.columns head.now.names
-        row.now.place row.now.cells row.now.repeated note.old.items note.new.items) }
+    ensures { IfOk result (λ _. TellsPlacedRow head.now.language head.now.options head.now.columns
+        head.now.names row.now.place row.now.cells row.now.earlier note.old.items note.new.items) }
 {
     let start = note.len();
     push_row_cells(note, head, row)?;
@@ -80,9 +82,9 @@ fn push_row_cells(
     row: &PlacedRow<'_>,
 ) -> Result<(), AllocError>
     ensures { IfOk result (λ _. (more : List ℕ) × (note.new.items ≡ note.old.items ++ more)
-        × TellsCells head.now.options head.now.columns head.now.names row.now.place row.now.cells
-        row.now.repeated (row_cells (row_model head.now.options head.now.columns row.now.cells))
-        more) }
+        × TellsCells head.now.language head.now.options head.now.columns head.now.names
+        row.now.place row.now.cells row.now.earlier
+        (row_cells (row_model head.now.options head.now.columns row.now.cells)) more) }
 {
     let known = cells_of_row(head, row);
     push_cell(note, head, row, Cell::Day)?;
@@ -98,6 +100,7 @@ fn cells_of_row(head: &Head<'_>, row: &PlacedRow<'_>) -> &'static [Cell]
     known_cells(head.options(), head.columns(), row.cells())
 }
 
+/// Appends the notes on `cell`.
 fn push_cell(
     note: &mut Vec<u8>,
     head: &Head<'_>,
@@ -107,38 +110,57 @@ fn push_cell(
     ensures { IfOk result (λ _. (lines : List (List ℕ))
         × (note.new.items ≡ note.old.items
         ++ flat_map (line_at (cell_place head.now.columns head.now.names row.now.place cell)) lines)
-        × (needs_note head.now.options head.now.columns row.now.cells row.now.repeated cell ≡ true
-        → 0 < length lines)) }
+        × AreCellWords head.now.language head.now.options head.now.columns row.now.cells
+        row.now.earlier cell lines) }
 {
     let place = cell_place(head, row.place(), cell)?;
-    let words = words_of(head, row, cell);
-    let is_due = needs_note(head, row, cell);
-    let otherwise = head.language().text(cell_fault(row, cell));
-    push_due_words(note, place.as_slice(), &words, is_due, otherwise)
-}
-
-/// Whether there must be a note on `cell`: its text can't be read, or it has the day of an earlier row.
-fn needs_note(head: &Head<'_>, row: &PlacedRow<'_>, cell: Cell) -> bool
-    ensures { result ≡ needs_note head.now.options head.now.columns row.now.cells
-        row.now.repeated cell }
-{
-    is_faulty(head, row, cell) || has_earlier_day(row, cell)
-}
-
-/// Whether `cell` has the day of an earlier row.
-fn has_earlier_day(row: &PlacedRow<'_>, cell: Cell) -> bool
-    ensures { result ≡ (is_day_cell cell && row.now.repeated) }
-{
-    matches!(cell, Cell::Day) && row.earlier().is_some()
-}
-
-/// The words for `cell`, if no other line says what is wrong with it.
-fn cell_fault(row: &PlacedRow<'_>, cell: Cell) -> Text {
-    if has_earlier_day(row, cell) {
-        DAY_AGAIN
-    } else {
-        UNREADABLE
+    match earlier_row(row, cell) {
+        Some(earlier) => push_same_day(note, head, place.as_slice(), earlier),
+        None => push_cell_words(note, head, row, place.as_slice(), cell),
     }
+}
+
+/// The number of an earlier row with the day in `cell`; `None` if there is no such row, or if `cell` isn't for a day.
+fn earlier_row(row: &PlacedRow<'_>, cell: Cell) -> Option<u64>
+    ensures { result ≡ of_day_cell row.now.earlier cell }
+{
+    match cell {
+        Cell::Day => row.earlier(),
+        _ => None,
+    }
+}
+
+/// Appends the line that row `earlier` has the day in the cell at `place`, too.
+fn push_same_day(
+    note: &mut Vec<u8>,
+    head: &Head<'_>,
+    place: &[u8],
+    earlier: u64,
+) -> Result<(), AllocError>
+    ensures { IfOk result (λ _. note.new.items
+        ≡ note.old.items ++ line_at place.now (same_day_words head.now.language earlier)) }
+{
+    let mut buffer = Buffer::new();
+    let words = head.wording().fill(SAME_DAY, &[buffer.format(earlier)])?;
+    push_line(note, place, words.as_str().as_bytes())
+}
+
+/// Appends the lines that say what is wrong with the text of the cell at `place`.
+fn push_cell_words(
+    note: &mut Vec<u8>,
+    head: &Head<'_>,
+    row: &PlacedRow<'_>,
+    place: &[u8],
+    cell: Cell,
+) -> Result<(), AllocError>
+    ensures { IfOk result (λ _. (lines : List (List ℕ))
+        × (note.new.items ≡ note.old.items ++ flat_map (line_at place.now) lines)
+        × (is_faulty head.now.options head.now.columns row.now.cells cell ≡ true → 0 < length lines)) }
+{
+    let words = words_of(head, row, cell);
+    let is_due = is_faulty(head, row, cell);
+    let otherwise = head.language().text(UNREADABLE);
+    push_due_words(note, place, &words, is_due, otherwise)
 }
 
 /// Whether the text of `cell` can't be read. False if the table lacks the cell's column, and no option, such as
@@ -155,7 +177,7 @@ fn is_faulty(head: &Head<'_>, row: &PlacedRow<'_>, cell: Cell) -> bool
     !is_read(model, cell, text_of(options, columns, row.cells(), cell))
 }
 
-/// Says what is wrong with `cell`, or that an earlier row has the day in `cell`.
+/// Says what is wrong with the text of `cell`.
 fn words_of(head: &Head<'_>, row: &PlacedRow<'_>, cell: Cell) -> Words {
     let options = head.options();
     let columns = head.columns();
@@ -164,13 +186,7 @@ fn words_of(head: &Head<'_>, row: &PlacedRow<'_>, cell: Cell) -> Words {
     }
     let model = row_model(options, columns, row.cells());
     let text = text_of(options, columns, row.cells(), cell);
-    let mut words = cell_words(head.language(), cell, model, text);
-    if let Some(earlier) = row.earlier()
-        && has_earlier_day(row, cell)
-    {
-        words.tell(SAME_DAY, &[Value::Number(earlier)]);
-    }
-    words
+    cell_words(head.language(), cell, model, text)
 }
 
 fn push_cells(
@@ -180,8 +196,8 @@ fn push_cells(
     cells: &[Cell],
 ) -> Result<(), AllocError>
     ensures { IfOk result (λ _. (more : List ℕ) × (note.new.items ≡ note.old.items ++ more)
-        × TellsCells head.now.options head.now.columns head.now.names row.now.place
-        row.now.cells row.now.repeated cells.now more) }
+        × TellsCells head.now.language head.now.options head.now.columns head.now.names
+        row.now.place row.now.cells row.now.earlier cells.now more) }
 {
     if let [cell, rest @ ..] = cells {
         push_cell(note, head, row, *cell)?;

@@ -14,7 +14,7 @@ returns-then-is_blank_row c =
       λ numbers rows text due read. record {
         told = rw (append-nil text) (BlankTold rows text (fields_of c.args.row.now) read.told
             (sym blank ∙ c.if-is_blank_row.true));
-        days = days_with_blank c.args.head.now.columns rows (fields_of c.args.row.now) c.args.found.now.rows
+        days = days_with_blank c.args.head.now.columns numbers rows (fields_of c.args.row.now) c.args.found.now.rows
             (sym blank ∙ c.if-is_blank_row.true) read.days;
       },
     )
@@ -26,7 +26,7 @@ returns c =
       pushed.0,
       pushed.1,
       λ numbers rows text due read.
-          let of_row = pushed.2 rows read.days in
+          let of_row = pushed.2 numbers rows due read.days in
           record {
             told = RowTold rows text (fields_of c.args.row.now) c.args.number pushed.0 read.told
                 (sym filled ∙ c.if-is_blank_row.false) due of_row.0;

@@ -14,7 +14,7 @@ pub loop-row-init : goal.loop-row-init
 loop-row-init c = (
   [],
   sym (append-nil c.args.note.now.items),
-  record { told = NoneTold; days = c.new-found.ensures c.args.head.now.columns },
+  record { told = NoneTold; days = c.new-found.ensures c.args.head.now.columns _ },
   refl,
   c.next_row.ensures.counted,
   under_first (row_numbers c.args.table.now) _ _ _

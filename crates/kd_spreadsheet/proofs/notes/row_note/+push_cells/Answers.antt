@@ -8,13 +8,13 @@ pub returns-in-len1-up : goal.returns-in-len1-up
 returns-in-len1-up t c =
     let head = c.args.head.now in
     let row = c.args.row.now in
-    IfOk-weaker c.push_cells.result _ _ (λ done rest. cell_first head.options head.columns head.names row.place row.cells row.repeated
-    _ _ _ _ _ _ (grind (arith, common_steps)) c.in_ok-push_cell.ensures rest)
+    IfOk-weaker c.push_cells.result _ _ (λ done rest. cell_first head.language head.options head.columns head.names row.place row.cells
+    row.earlier _ _ _ _ _ _ (grind (arith, common_steps)) c.in_ok-push_cell.ensures rest)
     c.push_cells.ensures
 
 pub returns : goal.returns
 returns t c =
     let head = c.args.head.now in
     let row = c.args.row.now in
-    no_cells head.options head.columns head.names row.place row.cells row.repeated c.args.cells.now c.args.note.now.items
+    no_cells head.language head.options head.columns head.names row.place row.cells row.earlier c.args.cells.now c.args.note.now.items
     (grind (arith, common_steps))

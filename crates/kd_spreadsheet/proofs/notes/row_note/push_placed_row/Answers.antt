@@ -9,8 +9,8 @@ returns c =
     let head = c.args.head.now in
     let row = c.args.row.now in
     let untold = rw c.cells.ensures at c.is_untold-is_due.ensures in
-    IfOk-weaker c.push_due_words.result _ _ (λ done told. placed_told head.options head.columns head.names
-    row.place row.cells row.repeated _ _ _ c.is_untold-is_due.result c.in_ok-push_row_cells.ensures told
+    IfOk-weaker c.push_due_words.result _ _ (λ done told. placed_told head.language head.options head.columns head.names
+    row.place row.cells row.earlier _ _ _ c.is_untold-is_due.result c.in_ok-push_row_cells.ensures told
     (λ none has same. let still : c.len.result ≡ c.len-start.result = grind (arith, common_steps) in
     untold none has still))
     (rw c.place.ensures at c.push_due_words.ensures)

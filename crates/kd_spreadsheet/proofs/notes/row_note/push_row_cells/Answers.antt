@@ -8,7 +8,7 @@ pub returns : goal.returns
 returns c =
     let head = c.args.head.now in
     let row = c.args.row.now in
-    let first = cell_first head.options head.columns head.names row.place row.cells row.repeated in
+    let first = cell_first head.language head.options head.columns head.names row.place row.cells row.earlier in
     let known = c.cells_of_row-known in
     IfOk-weaker c.push_cells.result _ _ (λ done rest.
     first cells.Day (cells.Model ∷ known.result.now) _ _ _ _
