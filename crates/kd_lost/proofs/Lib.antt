@@ -19,3 +19,4 @@ pub mod Counting
 pub mod WholeForms
 pub mod ShownParts
 pub mod OneMessage
+pub mod Clashes

@@ -15,4 +15,5 @@ pub mod Texts
 pub mod Repetitions
 pub mod DamagedForm
 pub mod ShownParts
+pub mod Clash
 pub mod Laws

@@ -7,6 +7,7 @@
 
 mod body;
 mod by_count;
+mod clash;
 mod copies;
 mod damage;
 mod damaged_text;
@@ -27,6 +28,7 @@ mod warnings;
 mod wrong_sign;
 
 pub use by_count::{heading_count, part_line};
+pub use clash::{Clash, Difference, clash_of};
 pub use damage::PartDamage;
 pub use damaged_text::{DamagedText, GroupTest, LostCopies, PinTextKeys, TextKeys};
 pub use form::{DamagedFormFault, read_damaged_form};

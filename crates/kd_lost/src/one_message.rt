@@ -1,12 +1,13 @@
 //! Whether the parts of a received form are of one message.
 ghost use Rattle.std.specs.Prelude.{◌≡◌};
-ghost use Rattle.kd_lost.specs.OneMessage.{agrees_with_each, are_of_one_message, headings_agree, letter_agrees};
+ghost use Rattle.kd_lost.specs.OneMessage.{are_of_one_message, headings_agree, letter_agrees};
 ghost use Rattle.kd_lost.specs.OneMessage.{letters_agree, numbers_agree, parts_agree, same_keys, same_letters};
 ghost use Rattle.kd_lost.specs.OneMessage.{bodies_agree, ends_within, key_signs, keys_agree, may_repeat};
 ghost use Rattle.kd_lost.specs.OneMessage.{count_signs, counts_agree, frames_agree, heading_repeats, is_stranger, same_count};
 ghost use Rattle.kd_lost.specs.OneMessage.{sign_agrees, signs_agree, texts_agree};
 
 use crate::by_count::{first_word, later_words};
+use crate::clash::clash_among;
 use crate::damage::PartDamage;
 use crate::damaged_text::{DamagedText, TextKeys};
 use crate::part::{DamagedPart, PartNumbers};
@@ -18,23 +19,11 @@ use kd_tables::Letter;
 pub fn are_of_one_message(parts: &[DamagedPart]) -> bool
     ensures { result ≡ are_of_one_message parts.now }
 {
-    match parts {
-        [part, rest @ ..] => agrees_with_each(part, rest) && are_of_one_message(rest),
-        [] => true,
-    }
-}
-
-fn agrees_with_each(part: &DamagedPart, others: &[DamagedPart]) -> bool
-    ensures { result ≡ agrees_with_each part.now others.now }
-{
-    match others {
-        [other, rest @ ..] => parts_agree(part, other) && agrees_with_each(part, rest),
-        [] => true,
-    }
+    clash_among(parts).is_none()
 }
 
 /// Whether two parts can be of one message.
-fn parts_agree(one: &DamagedPart, other: &DamagedPart) -> bool
+pub(crate) fn parts_agree(one: &DamagedPart, other: &DamagedPart) -> bool
     ensures { result ≡ parts_agree one.now other.now }
 {
     match (&one.numbers, &other.numbers) {
@@ -67,7 +56,7 @@ fn frames_agree(one: &DamagedPart, other: &DamagedPart) -> bool
 /// - Part `one` isn't read, not even by count.
 /// - The group or the list letters of part `one` are of another day.
 /// - The group or the list letters of part `other` aren't of another day.
-fn is_stranger(one: &DamagedPart, other: &DamagedPart) -> bool
+pub(crate) fn is_stranger(one: &DamagedPart, other: &DamagedPart) -> bool
     ensures { result ≡ is_stranger one.now other.now }
 {
     shown_text(one).is_none() && is_of_other_day(one) && !is_of_other_day(other)
@@ -104,7 +93,7 @@ fn count_signs(heading: &[u8]) -> &[u8]
 }
 
 /// Whether two headings may have the same keys: at each place that both keys have, the signs are equal or one is lost.
-fn keys_agree(one: &DamagedPart, other: &DamagedPart) -> bool
+pub(crate) fn keys_agree(one: &DamagedPart, other: &DamagedPart) -> bool
     ensures { result ≡ keys_agree one.now other.now }
 {
     let one = key_signs(one.heading.as_str().as_bytes());
@@ -200,7 +189,7 @@ fn letters_agree(one: &[Option<Letter>], other: &[Option<Letter>]) -> bool
 }
 
 /// Whether both letters may come from one sent letter: they are equal, or at least one is lost.
-fn letter_agrees(one: &Option<Letter>, other: &Option<Letter>) -> bool
+pub(crate) fn letter_agrees(one: &Option<Letter>, other: &Option<Letter>) -> bool
     ensures { result ≡ letter_agrees one.now other.now }
 {
     match (one, other) {

@@ -1,11 +1,11 @@
 //! Which part of a received form is shown under each number, and whether the form is one whole message.
 ghost use Rattle.std.specs.Prelude.{◌≡◌, ◌≢◌, ◌↔◌, ◌≤◌, ◌+◌, All, IsTrue, MatchOption, None, Some, length};
 ghost use Rattle.std.specs.List.{range_with_len};
-ghost use Rattle.kd_lost.specs.ShownParts.{IsNumberWhole, IsReadWhole, IsWhole, MayBeOfTheDay, are_covered};
+ghost use Rattle.kd_lost.specs.ShownParts.{IsNumberWhole, IsReadWhole, IsWhole, MayBeOfTheDay};
 ghost use Rattle.kd_lost.specs.ShownParts.{are_in_order, is_any_read, is_covered, is_number, is_one_message, is_worse};
 ghost use Rattle.kd_lost.specs.ShownParts.{numbers_of, shown_under, times_of, total_of};
 
-use crate::one_message::are_of_one_message;
+use crate::clash::clash_of;
 use crate::part::{DamagedPart, PartNumbers};
 use crate::texts::{is_of_other_day, is_text_within, lost_in, shown_text};
 use kd_tables::Letter;
@@ -105,24 +105,13 @@ fn is_worse(one: &DamagedPart, other: &DamagedPart) -> bool
 pub fn is_one_message(parts: &[DamagedPart]) -> bool
     ensures { result ≡ is_one_message parts.now }
 {
-    are_of_one_message(parts) && are_covered(parts, parts)
-}
-
-/// Whether the shown parts have all letters of `parts`: each part's letters must be in the part that is shown under
-/// its number. The shown parts are from `all`. Parts without a number don't count.
-fn are_covered(all: &[DamagedPart], parts: &[DamagedPart]) -> bool
-    ensures { result ≡ are_covered all.now parts.now }
-{
-    match parts {
-        [part, rest @ ..] => is_covered(all, part) && are_covered(all, rest),
-        [] => true,
-    }
+    clash_of(parts).is_none()
 }
 
 /// Whether the part that is shown under the number of `part` has all letters of `part`.
 ///
 /// The shown part is one of `all`. True if `part` has no number.
-fn is_covered(all: &[DamagedPart], part: &DamagedPart) -> bool
+pub(crate) fn is_covered(all: &[DamagedPart], part: &DamagedPart) -> bool
     ensures { result ≡ is_covered all.now part.now }
 {
     match &part.numbers {

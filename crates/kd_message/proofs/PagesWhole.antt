@@ -30,8 +30,9 @@ use Rattle.kd_lost.specs.OneMessage.{agrees_with_each, are_of_one_message, headi
 use Rattle.kd_lost.proofs.OneMessage.{agree_with_it, contains_none, first_or_later, same_number_agree}
 use Rattle.kd_lost.specs.OneMessage.{bodies_agree, ends_within, frames_agree, letters_agree, may_repeat, same_keys, texts_agree}
 use Rattle.kd_lost.specs.Repetitions.{are_kept, is_kept, is_same_part}
-use Rattle.kd_message.specs.ReceivePage.{as_they_came, by_number, counted_or_damage, name_at, number_in, number_or, part_at}
-use Rattle.kd_message.specs.ReceivePage.{part_in, section_text, sheet_to_receive, shown_in, text_or_damage}
+use Rattle.kd_message.specs.ReceivePage.{as_they_came, by_number, counted_or_damage, missing_reason, name_at, number_in}
+use Rattle.kd_message.specs.ReceivePage.{number_or, part_at, part_in, section_text, sheet_to_receive, shown_in}
+use Rattle.kd_message.specs.ReceivePage.{text_or_damage}
 unfoldable use Rattle.kd_message.specs.ReceivePage.{receive_text}
 use Rattle.kd_message.specs.SendPage.{part_name}
 use Rattle.kd_lost.specs.ShownParts.{IsNumberWhole, IsReadWhole, are_covered, better, is_covered, is_covered_by, is_number}
@@ -39,7 +40,7 @@ use Rattle.kd_lost.specs.ShownParts.{is_one_message, parts_or, shown_under, text
 use Rattle.kd_lost.specs.Texts.{letter_within, letters_within, lost_in, shown_text, text_or, text_within}
 unfoldable use Rattle.kd_message.specs.TextSheet.{counted_text, read_text}
 use Rattle.kd_message.specs.declared.texts.TheConstants.{TEXT_END}
-use Rattle.kd_message.specs.TextSheet.{ask_for_lost, came_text, text_begin, text_letters, text_part_head, warnings_of}
+use Rattle.kd_message.specs.TextSheet.{came_text, group_requests, text_begin, text_letters, text_part_head, warnings_of}
 use Rattle.kd_part_sheet.specs.declared.markup.TheConstants.{SECTION_END}
 use Rattle.kd_part_sheet.specs.PartSheet.{warnings_text}
 use Rattle.kd_message.proofs.ReceivePages.{better_holds, shown_holds}
@@ -465,7 +466,8 @@ number_on_page l s parts number part agree first last is =
     let piece = part_in (sections.Texts Shown) l s name times part in
     let same : 1 + (number - 1) ≡ number = omega (arith, first) in
     let shown : IsOn (number_in (sections.Texts Shown) l s parts number) piece =
-    on_left _ _ piece (subst (λ o. IsOn (shown_in (sections.Texts Shown) l s name times o) piece) (sym is) (on_itself piece)) in
+    on_left _ _ piece
+    (subst (λ o. IsOn (shown_in (sections.Texts Shown) l s name (missing_reason l parts) times o) piece) (sym is) (on_itself piece)) in
     let all : IsOn (by_number (sections.Texts Shown) l s parts) piece =
     on_right _ _ piece (on_range (number_in (sections.Texts Shown) l s parts) 1 (total_of parts) (number - 1) piece
     (omega (arith, first, last)) (subst (λ n. IsOn (number_in (sections.Texts Shown) l s parts n) piece) (sym same) shown)) in
@@ -576,7 +578,7 @@ clear_on_part l s name times part shown letters shows is known =
     let came = came_text l times in
     let begin = text_begin name.model in
     let warnings = warnings_text l (sheet_to_receive (day_model s)) (warnings_of shown) in
-    let asked = ask_for_lost l name shown.letters.items in (
+    let asked = group_requests l name shown in (
       [],
       warnings ++ asked ++ SECTION_END.now,
       ap (λ t. head ++ came ++ text_or_damage l s name part t ++ SECTION_END.now) is

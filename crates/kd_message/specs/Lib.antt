@@ -3,6 +3,7 @@ pub mod ReceivedWork
 pub mod FormSheet
 pub mod SendPage
 pub mod SendBooklet
+pub mod ClashWords
 pub mod TextSheet
 pub mod LoneParts
 pub mod Notes

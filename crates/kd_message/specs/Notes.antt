@@ -15,8 +15,8 @@ use Rattle.kd_part_sheet.specs.declared.part_sheet.PartName.{PartName}
 use Rattle.kd_part_sheet.specs.Rows.{pieces}
 use Rattle.kd_message.specs.declared.texts.TheConstants as texts
 use Rattle.kd_message.specs.LoneParts.{lone_asked, lone_reason, lone_words}
-use Rattle.kd_lost.specs.ShownParts.{is_one_message}
-use Rattle.kd_message.specs.TextSheet.{asked_words, count_asked, counted_reason, first_text_group, groups_told, has_lost}
+use Rattle.kd_message.specs.TextSheet.{asked_words, count_asked, counted_reason, day_groups, first_text_group}
+use Rattle.kd_message.specs.TextSheet.{groups_told, has_lost}
 use Rattle.kd_message.specs.TextSheet.{lost_groups, reason_text}
 use Rattle.kd_lost.specs.Texts.{is_wrong_day}
 
@@ -29,10 +29,13 @@ unfoldable pub note_line : Language → PartName → List ℕ → List ℕ → L
 note_line l name reason words =
     note_name l name ++ reason ++ text_in l texts.NOTE_ASK ++ words ++ texts.NOTE_END.now
 
--- the note that the form is from another day or network; empty if the part's indicator group or list letters don't
--- show this
+-- the note that the form may be from another day or network, and what to ask for
+abbrev pub other_day_note : Language → PartName → List ℕ
+other_day_note l name = note_line l name (text_in l texts.NOTE_OTHER_DAY) (day_groups l name.model)
+
+-- the note if the part's indicator group or list letters aren't the day's; otherwise empty
 abbrev pub day_note : Language → PartName → GroupTest → List ℕ
-day_note l name group = if is_wrong_day group then note_name l name ++ text_in l texts.NOTE_OTHER_DAY else []
+day_note l name group = if is_wrong_day group then other_day_note l name else []
 
 -- the note that letters are lost; it asks for the groups in which they are lost
 abbrev pub lost_line : Language → PartName → List (Option ℕ) → List ℕ
@@ -65,9 +68,9 @@ part_note_of l name part (Err damage) = damage_note l name part damage part.by_c
 abbrev pub part_note : Language → PartName → DamagedPart → List ℕ
 part_note l name part = part_note_of l name part part.text
 
--- the note on a part that didn't come
-abbrev pub missing_note : Language → PartName → List ℕ
-missing_note l name = note_line l name (text_in l texts.DID_NOT_COME) (text_in l texts.ALL_OF_IT)
+-- the note on a part that didn't come; `reason` is the sentence that says so
+abbrev pub missing_note : Language → PartName → List ℕ → List ℕ
+missing_note l name reason = note_line l name reason (text_in l texts.ALL_OF_IT)
 
 -- for a part without a number, the words that say what to ask for
 abbrev pub lone_asked_note : Language → ℕ → List ℕ
@@ -80,7 +83,3 @@ lone_ask_note l part = if part.is_order then [] else lone_asked_note l part.came
 unfoldable pub lone_note : Language → Model → ℕ → DamagedPart → List ℕ
 lone_note l model after part =
     lone_words l after ++ texts.COLON.now ++ lone_reason l model part ++ lone_ask_note l part ++ texts.LINE_END.now
-
--- the note that the parts aren't of one message; empty if the parts are of one message
-abbrev pub several_note : Language → List DamagedPart → List ℕ
-several_note l parts = if is_one_message parts then [] else text_in l texts.NOTE_SEVERAL

@@ -33,7 +33,8 @@ use Rattle.kd_message.specs.declared.receiving.Section.{Section}
 use Rattle.kd_message.specs.declared.receiving.Section.TheVariants as sections
 use Rattle.kd_message.specs.ReceivedWork.{AreShowable, received_work}
 use Rattle.kd_message.specs.LoneParts.{listed_lone, lone_text}
-use Rattle.kd_message.specs.Notes.{lone_note, missing_note, part_note, several_note}
+use Rattle.kd_message.specs.ClashWords.{several_note}
+use Rattle.kd_message.specs.Notes.{lone_note, missing_note, part_note}
 use Rattle.kd_message.specs.SendPage.{list_head, listed_sheet, part_name, title_text}
 use Rattle.kd_lost.specs.ShownParts.{IsWhole, is_any_read, is_one_message, shown_under, times_of, total_of}
 use Rattle.kd_lost.specs.Texts.{shown_text}
@@ -96,16 +97,26 @@ part_in (sections.Worked results) l s name times part = worked_text l s name (sh
 part_in sections.Noted l s name times part = part_note l name part
 part_in (sections.Texts results) l s name times part = part_text l s name times part
 
--- the section on a part that didn't come
-abbrev pub missing_part_text : Language → PartName → List ℕ
-missing_part_text l name = text_part_head l name ++ missing_text l name ++ SECTION_END.now
+-- whether one of the parts has no number
+abbrev pub has_lone : List DamagedPart → Bool
+has_lone [] = false
+has_lone (part ∷ parts) = is_none part.numbers || has_lone parts
 
--- the text of section `section` about a part that didn't come
-abbrev pub missing_in : Section → Language → PartName → List ℕ
-missing_in sections.Listed l name = listed_unread l name
-missing_in (sections.Worked results) l name = []
-missing_in sections.Noted l name = missing_note l name
-missing_in (sections.Texts results) l name = missing_part_text l name
+-- the sentence about a part that didn't come; if some part of the form has no number, this may be the part
+abbrev pub missing_reason : Language → List DamagedPart → List ℕ
+missing_reason l parts =
+    if has_lone parts then text_in l texts.CAME_WITHOUT_NUMBER else text_in l texts.DID_NOT_COME
+
+-- the section on a part that didn't come; `reason` is the sentence that says so
+abbrev pub missing_part_text : Language → PartName → List ℕ → List ℕ
+missing_part_text l name reason = text_part_head l name ++ missing_text l name reason ++ SECTION_END.now
+
+-- the text of section `section` about a part that didn't come; `reason` is the sentence that says so
+abbrev pub missing_in : Section → Language → PartName → List ℕ → List ℕ
+missing_in sections.Listed l name reason = listed_unread l name
+missing_in (sections.Worked results) l name reason = []
+missing_in sections.Noted l name reason = missing_note l name reason
+missing_in (sections.Texts results) l name reason = missing_part_text l name reason
 
 -- The text of section `section` about a part without a number. `after` is the number of the last numbered part before
 -- this part.
@@ -132,16 +143,16 @@ lone_after section l s after before (part ∷ parts) =
     ++ lone_after section l s after (number_or before part.numbers) parts
 
 -- The text of section `section` about the part that is shown under a part number. If no part is shown, the text about
--- a part that didn't come.
-abbrev pub shown_in : Section → Language → Day → PartName → ℕ → Option DamagedPart → List ℕ
-shown_in section l s name times (Some part) = part_in section l s name times part
-shown_in section l s name times None = missing_in section l name
+-- a part that didn't come; `reason` is the sentence that says so.
+abbrev pub shown_in : Section → Language → Day → PartName → List ℕ → ℕ → Option DamagedPart → List ℕ
+shown_in section l s name reason times (Some part) = part_in section l s name times part
+shown_in section l s name reason times None = missing_in section l name reason
 
 -- the text of section `section` about the part with number `number`, then about the unnumbered parts after this part
 abbrev pub number_in : Section → Language → Day → List DamagedPart → ℕ → List ℕ
 number_in section l s parts number =
-    shown_in section l s (part_name (results_of section) s number (total_of parts)) (times_of parts number)
-    (shown_under parts number)
+    shown_in section l s (part_name (results_of section) s number (total_of parts)) (missing_reason l parts)
+    (times_of parts number) (shown_under parts number)
     ++ lone_after section l s number 0 parts
 
 -- The text of section `section` about the parts of one message, in the order of their numbers. First come the

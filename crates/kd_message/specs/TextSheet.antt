@@ -5,16 +5,18 @@ use Rattle.std.specs.Prelude.{List, [], ◌∷◌, ◌++◌, drop, map, Option, 
 use Rattle.kd_tables.specs.declared.model.Model.{Model}
 use Rattle.kd_state.specs.SheetDay.{Day, day_model, day_number}
 use Rattle.kd_form.specs.Sending.{space_letter}
+use Rattle.kd_lost.specs.declared.clash.Clash.{Clash}
 use Rattle.kd_lost.specs.declared.damage.PartDamage.{PartDamage}
 use Rattle.kd_lost.specs.declared.damage.PartDamage.TheVariants as damages
 use Rattle.kd_lost.specs.declared.damaged_text.DamagedText.{DamagedText}
 use Rattle.kd_lost.specs.declared.damaged_text.GroupTest.{GroupTest}
 use Rattle.kd_lost.specs.declared.damaged_text.GroupTest.TheVariants as tests
 use Rattle.kd_lost.specs.declared.damaged_text.LostCopies.{LostCopies}
-use Rattle.kd_lost.specs.declared.part.{DamagedPart.{DamagedPart}, PartNumbers.{PartNumbers}}
+use Rattle.kd_lost.specs.declared.part.DamagedPart.{DamagedPart}
 use Rattle.kd_lost.specs.declared.short_line.ShortLine.{ShortLine}
 use Rattle.kd_lost.specs.declared.wrong_sign.WrongSign.{WrongSign}
 use Rattle.kd_lost.specs.ByCount.{heading_count, part_line}
+use Rattle.kd_lost.specs.Clash.{clash_of}
 use Rattle.kd_lost.specs.DamagedForm.{shown_byte}
 use Rattle.kd_language.specs.declared.language.Language.{Language}
 use Rattle.kd_language.specs.Language.{text_in}
@@ -27,9 +29,10 @@ use Rattle.kd_pictures.specs.declared.results.Results.TheVariants.{LeftOpen, Sho
 use Rattle.kd_part_sheet.specs.declared.part_sheet.Warnings.{Warnings}
 use Rattle.kd_part_sheet.specs.declared.sheet.Sheet.{Sheet}
 use Rattle.kd_message.specs.declared.texts.TheConstants as texts
+use Rattle.kd_message.specs.ClashWords.{clash_paragraph}
 use Rattle.kd_part_sheet.specs.PartSheet.{warnings_text}
 use Rattle.kd_part_sheet.specs.Rows.{pieces}
-use Rattle.kd_lost.specs.ShownParts.{are_in_order, is_one_message, numbers_of}
+use Rattle.kd_lost.specs.ShownParts.{are_in_order, numbers_of}
 use Rattle.kd_lost.specs.Texts.{is_wrong_day}
 
 -- the head of the sheet with the text: a title that gives the model and the day, and fields to fill in
@@ -50,36 +53,16 @@ numbers_after first (number ∷ numbers) = first ++ decimal number ++ numbers_af
 unfoldable pub order_words : Language → List ℕ → List ℕ
 order_words l numbers = text_in l texts.ORDER ++ numbers_after [] numbers ++ text_in l texts.ORDER_END
 
--- the two numbers in a heading: the part's number, and the number of parts
-unfoldable pub heading_words : PartNumbers → List ℕ
-heading_words numbers = decimal numbers.part ++ texts.OF_PARTS.now ++ decimal numbers.parts
-
--- The numbers in a heading, after the text `first` and before the text `more`. If the heading is damaged, only the text
--- `others`.
-abbrev pub heading_then : List ℕ → Option PartNumbers → List ℕ → List ℕ → List ℕ
-heading_then first (Some numbers) more others = first ++ heading_words numbers ++ more
-heading_then first None more others = others
-
--- The numbers in the undamaged headings. `first` stands before the numbers of the first heading, and a comma before the
--- numbers of each later heading.
-abbrev pub headings_after : List ℕ → List DamagedPart → List ℕ
-headings_after first [] = []
-headings_after first (part ∷ parts) =
-    heading_then first part.numbers (headings_after COMMA.now parts) (headings_after first parts)
-
--- the sentence which says that the parts aren't of one message, and gives the numbers from their headings
-unfoldable pub several_words : Language → List DamagedPart → List ℕ
-several_words l parts = text_in l texts.SEVERAL ++ headings_after [] parts ++ text_in l texts.SEVERAL_END
-
--- The sentence about all parts together:
--- - if the parts aren't of one message: the sentence which says so
+-- The sentence about all parts together. The last argument has the first two parts that aren't of one message, if any:
+-- - if there are such parts: the paragraph that names them
 -- - otherwise, if the parts came in the order of their numbers: no sentence
 -- - in all other cases: the sentence that gives the order in which the parts came
+abbrev pub order_text_of : Language → List DamagedPart → Option Clash → List ℕ
+order_text_of l parts (Some clash) = clash_paragraph l parts clash
+order_text_of l parts None = if are_in_order 0 (numbers_of parts) then [] else order_words l (numbers_of parts)
+
 abbrev pub order_text : Language → List DamagedPart → List ℕ
-order_text l parts =
-    if is_one_message parts
-    then (if are_in_order 0 (numbers_of parts) then [] else order_words l (numbers_of parts))
-    else several_words l parts
+order_text l parts = order_text_of l parts (clash_of parts)
 
 -- ---- What was passed over.
 
@@ -207,6 +190,19 @@ ask_for_lost l name letters =
     then ask_text l name.part (lost_groups l [] false (first_text_group name.model) (pieces 5 letters))
     else []
 
+-- the words for the groups that show the day: the group with the indicator group or, on a Converter, the two groups
+-- with list letters
+abbrev pub day_groups : Language → Model → List ℕ
+day_groups l model = if is_converter model then text_in l texts.LIST_GROUPS else text_in l texts.DAY_GROUP
+
+-- the checkbox to ask for the groups that show the day; empty if they don't show another day
+abbrev pub ask_for_day : Language → PartName → GroupTest → List ℕ
+ask_for_day l name group = if is_wrong_day group then ask_text l name.part (day_groups l name.model) else []
+
+-- for a part that is read, all checkboxes to ask for groups
+abbrev pub group_requests : Language → PartName → DamagedText → List ℕ
+group_requests l name shown = ask_for_day l name shown.group ++ ask_for_lost l name shown.letters.items
+
 -- `?` for a lost letter, otherwise `_`, a line to write on
 abbrev pub open_byte : Option ℕ → ℕ
 open_byte (Some letter) = 95
@@ -222,7 +218,7 @@ text_letters LeftOpen s letters = map open_byte letters
 unfoldable pub read_text : Language → Sheet → Day → PartName → DamagedText → List ℕ
 read_text l sheet s name shown =
     text_begin name.model ++ text_letters name.results s shown.letters.items ++ texts.TEXT_END.now
-    ++ warnings_text l sheet (warnings_of shown) ++ ask_for_lost l name shown.letters.items
+    ++ warnings_text l sheet (warnings_of shown) ++ group_requests l name shown
 
 -- ---- A part that isn't read.
 
@@ -338,20 +334,21 @@ unfoldable pub unread_text : Language → PartName → List ℕ → List ℕ →
 unread_text l name reason words =
     text_in l texts.UNREAD ++ reason ++ texts.REASON_END.now ++ ask_text l name.part words
 
--- the only possible warning about a part that isn't read: that the part is of another day
+-- the only possible warning about a part that isn't read: that the part may be of another day
 abbrev pub unread_warnings : GroupTest → Warnings
 unread_warnings group =
     record { letters_lost = false; copies_lost = false; wrong_day = is_wrong_day group; not_tested = false }
 
--- the paragraph about a part that isn't read, and the warning if the part is of another day
+-- The paragraph about a part that isn't read. If its group or list letters are of another day, a warning and a checkbox
+-- to ask for them follow.
 abbrev pub damage_text : Language → Sheet → PartName → DamagedPart → PartDamage → List ℕ
 damage_text l sheet name part damage =
     unread_text l name (reason_text l part damage) (asked_words l part damage)
-    ++ warnings_text l sheet (unread_warnings part.group)
+    ++ warnings_text l sheet (unread_warnings part.group) ++ ask_for_day l name part.group
 
--- the paragraph about a part that didn't come
-abbrev pub missing_text : Language → PartName → List ℕ
-missing_text l name = unread_text l name (text_in l texts.DID_NOT_COME) (text_in l texts.ALL_OF_IT)
+-- the paragraph about a part that didn't come; `reason` is the sentence that says so
+abbrev pub missing_text : Language → PartName → List ℕ → List ℕ
+missing_text l name reason = unread_text l name reason (text_in l texts.ALL_OF_IT)
 
 -- ---- A part that is read by the letters that came, since its count is wrong or damaged.
 

@@ -2,6 +2,7 @@
 #![tactic(auto)]
 
 mod booklet;
+mod clash_words;
 mod counted;
 mod form_sheet;
 mod groups;

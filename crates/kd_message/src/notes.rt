@@ -2,34 +2,22 @@
 ghost use Rattle.std.specs.Prelude.{◌≤◌, length, None, Some};
 ghost use Rattle.kd_pictures.specs.Drawing.{Draws};
 ghost use Rattle.kd_message.specs.Notes.{damage_note, day_note, lone_ask_note, lone_asked_note, lone_note, lost_line};
-ghost use Rattle.kd_message.specs.Notes.{lost_note, missing_note, note_name, part_note, read_note, several_note};
+ghost use Rattle.kd_message.specs.Notes.{lost_note, missing_note, note_name, other_day_note, part_note, read_note};
 
 use crate::counted::{draw_counted_reason, draw_groups_told};
 use crate::groups::{draw_lost_groups, has_lost};
 use crate::lone_parts::{draw_lone_reason, draw_lone_words, lone_asked};
-use crate::text_sheet::first_text_group;
+use crate::text_sheet::{day_groups, first_text_group};
 use crate::texts::{
-    ALL_OF_IT, ASKED_END, COLON, DID_NOT_COME, LINE_END, NOTE_ASK, NOTE_END, NOTE_LOST,
-    NOTE_OTHER_DAY, NOTE_PART, NOTE_SEVERAL,
+    ALL_OF_IT, ASKED_END, COLON, LINE_END, NOTE_ASK, NOTE_END, NOTE_LOST, NOTE_OTHER_DAY, NOTE_PART,
 };
 use crate::unread::{draw_asked, draw_count_asked, draw_reason};
 use kd_language::Language;
-use kd_lost::{DamagedPart, DamagedText, GroupTest, PartDamage, is_one_message, is_wrong_day};
+use kd_lost::{DamagedPart, DamagedText, GroupTest, PartDamage, is_wrong_day};
 use kd_part_sheet::part_sheet::PartName;
 use kd_pictures::template::{Value, fill_in};
 use kd_pictures::{draw, draw_in};
 use kd_tables::{Letter, Model, Sink};
-
-/// Writes the note that the parts aren't of one message. If the parts are of one message, writes nothing.
-pub(crate) fn draw_several_note<W: Sink>(sink: &mut W, language: Language, parts: &[DamagedPart])
-    ensures { Draws W.taken W.has_failed sink.old sink.new (several_note language parts.now) }
-{
-    if is_one_message(parts) {
-        draw(sink, "");
-    } else {
-        draw_in(sink, language, NOTE_SEVERAL);
-    }
-}
 
 /// Writes notes on what is wrong with a part. If nothing is wrong, writes nothing.
 pub(crate) fn draw_part_note<W: Sink>(
@@ -67,12 +55,15 @@ fn draw_day_note<W: Sink>(sink: &mut W, language: Language, name: PartName, grou
     }
 }
 
+/// Writes that the form may be of another day, and what to ask for.
 fn draw_other_day<W: Sink>(sink: &mut W, language: Language, name: PartName)
-    ensures { Draws W.taken W.has_failed sink.old sink.new
-        (day_note language name GroupTest.Wrong) }
+    ensures { Draws W.taken W.has_failed sink.old sink.new (other_day_note language name) }
 {
     draw_note_name(sink, language, name);
     draw_in(sink, language, NOTE_OTHER_DAY);
+    draw_in(sink, language, NOTE_ASK);
+    draw(sink, day_groups(language, name.model));
+    draw(sink, NOTE_END);
 }
 
 /// Writes the words for a part's number, at the start of a note about the part.
@@ -165,12 +156,17 @@ fn draw_unread_note<W: Sink>(
     draw(sink, NOTE_END);
 }
 
-/// Writes the note on a part that didn't come.
-pub(crate) fn draw_missing_note<W: Sink>(sink: &mut W, language: Language, name: PartName)
-    ensures { Draws W.taken W.has_failed sink.old sink.new (missing_note language name) }
+/// Writes the note on a part that didn't come. `reason` is the sentence that says so.
+pub(crate) fn draw_missing_note<W: Sink>(
+    sink: &mut W,
+    language: Language,
+    name: PartName,
+    reason: &str,
+)
+    ensures { Draws W.taken W.has_failed sink.old sink.new (missing_note language name reason.now) }
 {
     draw_note_name(sink, language, name);
-    draw_in(sink, language, DID_NOT_COME);
+    draw(sink, reason);
     draw_in(sink, language, NOTE_ASK);
     draw_in(sink, language, ALL_OF_IT);
     draw(sink, NOTE_END);

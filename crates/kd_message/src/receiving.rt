@@ -6,8 +6,9 @@ ghost use Rattle.kd_tables.specs.{Ports.{port}, WriteFault.{is_device}};
 ghost use Rattle.kd_pictures.specs.Drawing.{Draws};
 ghost use Rattle.kd_message.specs.ReceivedWork.{AreShowable};
 ghost use Rattle.kd_message.specs.ReceivePage.{AreWorkable, HasShowableKeys, IsReceivePageAnswer, as_they_came, by_number};
-ghost use Rattle.kd_message.specs.ReceivePage.{listed_text, listed_unread, lone_after, lone_in};
-ghost use Rattle.kd_message.specs.ReceivePage.{missing_in, missing_part_text, name_at, number_in, number_or};
+ghost use Rattle.kd_message.specs.ReceivePage.{has_lone, listed_text, listed_unread, lone_after, lone_in};
+ghost use Rattle.kd_message.specs.ReceivePage.{missing_in, missing_part_text, missing_reason, name_at};
+ghost use Rattle.kd_message.specs.ReceivePage.{number_in, number_or};
 ghost use Rattle.kd_message.specs.ReceivePage.{part_at, part_in, part_text, results_of};
 ghost use Rattle.kd_message.specs.ReceivePage.{IsFormNoted, receive_notes, receive_text, section_text, sheet_count};
 ghost use Rattle.kd_message.specs.ReceivePage.{sheet_of_text, sheet_to_receive, shown_in, text_or_damage, worked_text};
@@ -15,9 +16,10 @@ ghost use Rattle.kd_message.specs.SendPage.{part_name};
 ghost use Rattle.kd_lost.specs.ShownParts.{shown_under, times_of, total_of};
 ghost use Rattle.kd_lost.specs.Texts.{shown_text};
 
+use crate::clash_words::draw_several_note;
 use crate::counted::draw_counted_text;
 use crate::lone_parts::{draw_listed_lone, draw_lone_text};
-use crate::notes::{draw_lone_note, draw_missing_note, draw_part_note, draw_several_note};
+use crate::notes::{draw_lone_note, draw_missing_note, draw_part_note};
 use crate::page_options::PageOptions;
 use crate::received_work::received_work;
 use crate::sending::{draw_listed_part, draw_title, list_head, part_name};
@@ -25,7 +27,10 @@ use crate::text_sheet::{
     draw_came, draw_order, draw_passed, draw_read_text, draw_text_part_head, draw_text_sheet_head,
     warnings_of,
 };
-use crate::texts::{ARTICLE_END, LIST_END_WITH_TEXT, LISTED_UNREAD, TITLE_TO_RECEIVE};
+use crate::texts::{
+    ARTICLE_END, CAME_WITHOUT_NUMBER, DID_NOT_COME, LIST_END_WITH_TEXT, LISTED_UNREAD,
+    TITLE_TO_RECEIVE,
+};
 use crate::unread::{draw_damage, draw_missing};
 use kd_language::Language;
 use kd_lost::{
@@ -243,6 +248,7 @@ fn draw_shown<W: Sink>(
     ensures { Draws W.taken W.has_failed sink.old sink.new
         (shown_in page.section page.language day.now
         (part_name (results_of page.section) day.now number (total_of parts.now))
+        (missing_reason page.language parts.now)
         (times_of parts.now number) (shown_under parts.now number)) }
 {
     let name = part_name(page.section.results(), day, number as u8, total_of(parts));
@@ -251,7 +257,28 @@ fn draw_shown<W: Sink>(
             let times = times_of(parts, number);
             draw_part(sink, page, day, name, times, part)
         }
-        None => draw_missing_in(sink, page, name),
+        None => draw_missing_in(sink, page, name, missing_reason(page.language, parts)),
+    }
+}
+
+/// The sentence about a part that didn't come. If some part of the form has no number, this may be the part.
+fn missing_reason(language: Language, parts: &[DamagedPart]) -> &'static str
+    ensures { result.now ≡ missing_reason language parts.now }
+{
+    if has_lone(parts) {
+        language.text(CAME_WITHOUT_NUMBER)
+    } else {
+        language.text(DID_NOT_COME)
+    }
+}
+
+/// Whether one of the parts has no number.
+fn has_lone(parts: &[DamagedPart]) -> bool
+    ensures { result ≡ has_lone parts.now }
+{
+    match parts {
+        [part, rest @ ..] => part.numbers.is_none() || has_lone(rest),
+        [] => false,
     }
 }
 
@@ -545,25 +572,25 @@ fn draw_text_or_damage<W: Sink>(
     }
 }
 
-/// Writes the section's text about a part that didn't come.
-fn draw_missing_in<W: Sink>(sink: &mut W, page: PageSection, name: PartName)
+/// Writes the section's text about a part that didn't come. `reason` is the sentence that says so.
+fn draw_missing_in<W: Sink>(sink: &mut W, page: PageSection, name: PartName, reason: &str)
     ensures { Draws W.taken W.has_failed sink.old sink.new
-        (missing_in page.section page.language name) }
+        (missing_in page.section page.language name reason.now) }
 {
     let PageSection { section, language } = page;
     match section {
         Section::Listed => draw_listed_unread(sink, language, name),
         Section::Worked(_) => draw(sink, ""),
-        Section::Texts(_) => draw_missing_text(sink, language, name),
-        Section::Noted => draw_missing_note(sink, language, name),
+        Section::Texts(_) => draw_missing_text(sink, language, name, reason),
+        Section::Noted => draw_missing_note(sink, language, name, reason),
     }
 }
 
-fn draw_missing_text<W: Sink>(sink: &mut W, language: Language, name: PartName)
+fn draw_missing_text<W: Sink>(sink: &mut W, language: Language, name: PartName, reason: &str)
     ensures { Draws W.taken W.has_failed sink.old sink.new
-        (missing_part_text language name) }
+        (missing_part_text language name reason.now) }
 {
     draw_text_part_head(sink, language, name);
-    draw_missing(sink, language, name);
+    draw_missing(sink, language, name, reason);
     draw(sink, SECTION_END);
 }

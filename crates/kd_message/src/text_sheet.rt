@@ -1,27 +1,28 @@
 //! The sheet that gives the text of a received form, and says what to ask the other station for.
-ghost use Rattle.std.specs.Prelude.{◌≡◌, ◌∷◌, ◌≤◌, [], decimal, false, length, map};
+ghost use Rattle.std.specs.Prelude.{◌≡◌, ◌∷◌, ◌≤◌, [], None, decimal, false, length, map};
 ghost use Rattle.kd_pictures.specs.Drawing.{Draws};
 ghost use Rattle.kd_form.specs.Sending.{space_letter};
 ghost use Rattle.kd_lost.specs.DamagedForm.{shown_byte};
 ghost use Rattle.kd_part_sheet.specs.Rows.{pieces};
 ghost use Rattle.kd_lost.specs.ShownParts.{numbers_of};
 ghost use Rattle.kd_message.specs.TextSheet.{ask_for_lost, ask_text, begins_late, came_text, came_words};
-ghost use Rattle.kd_message.specs.TextSheet.{first_text_group, heading_words, headings_after, is_any_smoothed};
+ghost use Rattle.kd_message.specs.TextSheet.{ask_for_day, day_groups, first_text_group, group_requests, is_any_smoothed};
 ghost use Rattle.kd_message.specs.TextSheet.{is_copy_lost, is_not_tested, lost_groups, numbers_after, unread_warnings};
-ghost use Rattle.kd_message.specs.TextSheet.{order_text, order_words, passed_text, read_text, several_words};
+ghost use Rattle.kd_message.specs.TextSheet.{order_text, order_text_of, order_words, passed_text, read_text};
 ghost use Rattle.kd_message.specs.TextSheet.{open_byte, text_begin, text_letters, text_part_head, text_sheet_head, warnings_of};
 
+use crate::clash_words::draw_clash_paragraph;
 use crate::groups::{draw_lost_groups, has_lost};
 use crate::texts::{
-    ASK, ASK_END, CAME, CAME_END, OF_PARTS, OPEN_LETTER, ORDER, ORDER_END, PASSED_OVER, SEVERAL,
-    SEVERAL_END, TEXT_END, TEXT_LETTERS, TEXT_PART, TEXT_SHEET, TEXT_WORDS,
+    ASK, ASK_END, CAME, CAME_END, DAY_GROUP, LIST_GROUPS, OPEN_LETTER, ORDER, ORDER_END,
+    PASSED_OVER, TEXT_END, TEXT_LETTERS, TEXT_PART, TEXT_SHEET, TEXT_WORDS,
 };
+use crate::unread::draw_ask;
 use itoa::Buffer;
 use kd_form::text_bytes::space_letter;
 use kd_language::Language;
 use kd_lost::{
-    DamagedPart, DamagedText, GroupTest, LostCopies, PartNumbers, are_in_order, is_one_message,
-    is_wrong_day,
+    DamagedPart, DamagedText, GroupTest, LostCopies, are_in_order, clash_of, is_wrong_day,
 };
 use kd_part_sheet::markup::{COMMA, LOST_LETTER, SPACE};
 use kd_part_sheet::part_sheet::{PartName, PartPage, Warnings, draw_warnings};
@@ -86,48 +87,22 @@ fn is_any_smoothed(parts: &[DamagedPart]) -> bool
 pub(crate) fn draw_order<W: Sink>(sink: &mut W, language: Language, parts: &[DamagedPart])
     ensures { Draws W.taken W.has_failed sink.old sink.new (order_text language parts.now) }
 {
-    if !is_one_message(parts) {
-        draw_several_words(sink, language, parts);
-    } else if are_in_order(0, parts) {
+    match clash_of(parts) {
+        Some(clash) => draw_clash_paragraph(sink, language, parts, clash),
+        None => draw_arrival(sink, language, parts),
+    }
+}
+
+/// If the parts didn't come in the order of their numbers, writes in which order they came.
+fn draw_arrival<W: Sink>(sink: &mut W, language: Language, parts: &[DamagedPart])
+    ensures { Draws W.taken W.has_failed sink.old sink.new
+        (order_text_of language parts.now None) }
+{
+    if are_in_order(0, parts) {
         draw(sink, "");
     } else {
         draw_order_words(sink, language, parts);
     }
-}
-
-/// Writes that the parts aren't of one message, with the numbers in their headings.
-fn draw_several_words<W: Sink>(sink: &mut W, language: Language, parts: &[DamagedPart])
-    ensures { Draws W.taken W.has_failed sink.old sink.new (several_words language parts.now) }
-{
-    draw_in(sink, language, SEVERAL);
-    draw_headings(sink, "", parts);
-    draw_in(sink, language, SEVERAL_END);
-}
-
-/// Writes the numbers from the undamaged headings of `parts`. `first` stands before the numbers of the first undamaged
-/// heading, and a comma before the numbers of each later one.
-fn draw_headings<W: Sink>(sink: &mut W, first: &str, parts: &[DamagedPart])
-    ensures { Draws W.taken W.has_failed sink.old sink.new
-        (headings_after first.now parts.now) }
-{
-    if let [part, rest @ ..] = parts {
-        if let Some(numbers) = &part.numbers {
-            draw(sink, first);
-            draw_heading_words(sink, numbers);
-            draw_headings(sink, COMMA, rest);
-        } else {
-            draw_headings(sink, first, rest);
-        }
-    }
-}
-
-/// Writes the two numbers in a heading: the part's number, and the number of parts.
-fn draw_heading_words<W: Sink>(sink: &mut W, numbers: &PartNumbers)
-    ensures { Draws W.taken W.has_failed sink.old sink.new (heading_words numbers.now) }
-{
-    draw_count(sink, usize::from(numbers.part));
-    draw(sink, OF_PARTS);
-    draw_count(sink, usize::from(numbers.parts));
 }
 
 /// If a part came more than once, writes how often it came.
@@ -207,7 +182,7 @@ pub(crate) fn draw_read_text<W: Sink>(
     draw_text_letters(sink, page.name.results, day, shown.letters.as_slice());
     draw(sink, TEXT_END);
     draw_warnings(sink, page.language, page.sheet, warnings_of(shown));
-    draw_ask_for_lost(sink, page.language, page.name, shown.letters.as_slice());
+    draw_group_requests(sink, page.language, page.name, shown);
 }
 
 /// The start of a text. It says where lines may break: between any letters or, on a Converter, between words.
@@ -302,7 +277,7 @@ fn is_copy_lost(copies: &Option<LostCopies>) -> bool
     }
 }
 
-/// The only possible warning about a part that isn't read: that the part is of another day.
+/// The only possible warning about a part that isn't read: that the part may be of another day.
 pub(crate) fn unread_warnings(group: GroupTest) -> Warnings
     ensures { result ≡ unread_warnings group }
 {
@@ -322,6 +297,47 @@ fn is_not_tested(group: GroupTest) -> bool
     match group {
         GroupTest::NotTested => true,
         GroupTest::Right | GroupTest::Wrong => false,
+    }
+}
+
+/// Writes all checkboxes to ask for groups of a part that is read.
+fn draw_group_requests<W: Sink>(
+    sink: &mut W,
+    language: Language,
+    name: PartName,
+    shown: &DamagedText,
+)
+    ensures { Draws W.taken W.has_failed sink.old sink.new (group_requests language name shown.now) }
+{
+    draw_ask_for_day(sink, language, name, shown.group);
+    draw_ask_for_lost(sink, language, name, shown.letters.as_slice());
+}
+
+/// If the letters that show the day aren't the day's, writes the checkbox to ask for their groups.
+pub(crate) fn draw_ask_for_day<W: Sink>(
+    sink: &mut W,
+    language: Language,
+    name: PartName,
+    group: GroupTest,
+)
+    ensures { Draws W.taken W.has_failed sink.old sink.new (ask_for_day language name group) }
+{
+    if is_wrong_day(group) {
+        draw_ask(sink, language, name, day_groups(language, name.model));
+    } else {
+        draw(sink, "");
+    }
+}
+
+/// The words for the groups that show the day: the group with the indicator group or, on a Converter, the two groups
+/// with list letters.
+pub(crate) fn day_groups(language: Language, model: Model) -> &'static str
+    ensures { result.now ≡ day_groups language model }
+{
+    if is_converter(model) {
+        language.text(LIST_GROUPS)
+    } else {
+        language.text(DAY_GROUP)
     }
 }
 

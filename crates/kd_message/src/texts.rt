@@ -120,16 +120,58 @@ pub const ORDER: Text = (
 
 pub const ORDER_END: Text = (".</p>\n", ".</p>\n");
 
-/// The start of the sentence which says that the parts aren't of one message. The numbers from the headings follow, and
-/// then `SEVERAL_END`.
+/// The start of the paragraph which says that the parts aren't of one message. Words on two parts follow, then
+/// `SEVERAL_HEADINGS`, the numbers from the headings, and `SEVERAL_END`.
 pub const SEVERAL: Text = (
-    "<p class=reason><b>Not one message.</b> The headings give different numbers of parts, or parts with one number differ or can’t be put together: ",
-    "<p class=reason><b>Teile verschiedener Sprüche.</b> Die Spruchköpfe nennen verschiedene Zahlen von Teilen, oder Teile mit einer Nummer weichen voneinander ab oder passen nicht zusammen: ",
+    "<p class=reason><b>Not one message.</b> ",
+    "<p class=reason><b>Kein zusammengehöriger Spruch.</b> ",
+);
+
+pub const SEVERAL_HEADINGS: Text = (
+    ". The headings have these numbers: ",
+    ". Die Spruchköpfe haben diese Nummern: ",
 );
 
 pub const SEVERAL_END: Text = (
     ". All parts are shown, in the order in which they came.</p>\n",
     ". Alle Teile sind gezeigt, wie sie eingegangen sind.</p>\n",
+);
+
+/// The words on two parts that aren't of one message begin with the lines of the form on which the parts begin:
+/// `LINES`, a number, `AND_LINE`, and a number. How the parts differ follows.
+pub const LINES: Text = ("Lines ", "Zeilen ");
+
+pub const AND_LINE: Text = (" and ", " und ");
+
+pub const TOTALS_DIFFER: Text = (
+    ": the headings give different numbers of parts",
+    ": Die Spruchköpfe nennen verschiedene Zahlen von Teilen",
+);
+
+/// The words before the number of the first group that differs.
+pub const GROUP_DIFFERS: Text = (
+    ": the parts share a number, but have different letters, first in group ",
+    ": Die Teile haben dieselbe Nummer, aber verschiedene Buchstaben, zuerst in Gruppe ",
+);
+
+pub const KEYS_DIFFER: Text = (
+    ": the parts share a number, but have different keys",
+    ": Die Teile haben dieselbe Nummer, aber verschiedene Schlüssel",
+);
+
+pub const DAY_DIFFERS: Text = (
+    ": the parts share a number, but only one seems to be of another day",
+    ": Die Teile haben dieselbe Nummer, aber nur einer scheint von einem anderen Tag zu sein",
+);
+
+pub const LENGTH_DIFFERS: Text = (
+    ": the parts share a number, but have different lengths",
+    ": Die Teile haben dieselbe Nummer, aber verschiedene Längen",
+);
+
+pub const LETTERS_LACK: Text = (
+    ": the parts share a number, but one lacks letters of the other",
+    ": Die Teile haben dieselbe Nummer, aber einem fehlen Buchstaben des anderen",
 );
 
 /// The sign between a part's number and the number of parts.
@@ -151,6 +193,14 @@ pub const ASK: Text = (
 
 /// The word before a group's number.
 pub const GROUP: Text = ("group ", "Gruppe ");
+
+/// The group of an Enigma's part that shows the day. `LIST_GROUPS` is for a Converter.
+pub const DAY_GROUP: Text = ("group 1", "Gruppe 1");
+
+pub const LIST_GROUPS: Text = (
+    "group 2 and the last group",
+    "Gruppe 2 und die letzte Gruppe",
+);
 
 /// For several groups in a row: the word before the number of the first group. `TO_GROUP` stands before the number of
 /// the last group.
@@ -218,6 +268,11 @@ pub const IS_ORDER: Text = (
 );
 
 pub const DID_NOT_COME: Text = ("It didn’t come.", "Der Teil ist nicht eingegangen.");
+
+pub const CAME_WITHOUT_NUMBER: Text = (
+    "It didn’t come, unless it is a part without a number.",
+    "Der Teil ist nicht eingegangen, es sei denn als Teil ohne Nummer.",
+);
 
 pub const HEADING_KEY_LOST: Text = (
     ": a letter of the ground or of the key is lost.",
@@ -399,17 +454,14 @@ pub const LINE_END: &str = "\n";
 
 pub const NOTE_END: &str = ".\n";
 
-/// The words of a note about lost letters. `NOTE_OTHER_DAY` has the words of a note about a form of another day or
-/// network.
+/// The words of a note about lost letters. `NOTE_OTHER_DAY` has the words of a note about a form that may be of another
+/// day or network.
 pub const NOTE_LOST: Text = ("Letters are lost.", "Buchstaben fehlen.");
 
 pub const NOTE_OTHER_DAY: Text = (
-    "The form is another day’s, or another network’s.\n",
-    "Der Spruch ist von einem anderen Tag oder aus einem anderen Schlüsselkreis.\n",
+    "The form is another day’s or another network’s, or a letter is wrong.",
+    "Der Spruch ist von einem anderen Tag oder aus einem anderen Schlüsselkreis, oder ein Buchstabe ist falsch.",
 );
 
-/// The note that the parts aren't of one message.
-pub const NOTE_SEVERAL: Text = (
-    "Not one message: the headings give different numbers of parts, or parts with one number differ or can’t be put together.\n",
-    "Teile verschiedener Sprüche: Die Spruchköpfe nennen verschiedene Zahlen von Teilen, oder Teile mit einer Nummer weichen voneinander ab oder passen nicht zusammen.\n",
-);
+/// The start of the note that the parts aren't of one message. Words on two parts follow.
+pub const NOTE_SEVERAL: Text = ("Not one message. ", "Kein zusammengehöriger Spruch. ");

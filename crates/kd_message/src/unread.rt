@@ -11,12 +11,12 @@ ghost use Rattle.kd_message.specs.TextSheet.{count_text, short_groups, short_tex
 ghost use Rattle.kd_message.specs.TextSheet.{sign_text, sign_words};
 
 use crate::groups::{draw_group_words, draw_groups_words, draw_lost_groups, has_lost};
-use crate::text_sheet::{draw_count, unread_warnings};
+use crate::text_sheet::{draw_ask_for_day, draw_count, unread_warnings};
 use crate::texts::{
     ALL_OF_IT, ASK, ASK_END, BAD_BYTE, COLON, COPIES_DIFFER, COUNT_CAME, COUNT_END, COUNT_WRONG,
-    DID_NOT_COME, FULL_LINE, GAP, HEADING_DAMAGED, HEADING_KEY_LOST, ITS_COUNT, ITS_COUNT_OR_LINES,
-    ITS_HEADING, ITS_KEYS, KEY_LETTER_LOST, KEY_NOT_ON_WHEEL, LETTER_OF_LINE, LINE, LINE_HAS,
-    NO_INTERNAL_KEY, NO_LETTER, REASON_END, THIS_SIGN, UNREAD,
+    FULL_LINE, GAP, HEADING_DAMAGED, HEADING_KEY_LOST, ITS_COUNT, ITS_COUNT_OR_LINES, ITS_HEADING,
+    ITS_KEYS, KEY_LETTER_LOST, KEY_NOT_ON_WHEEL, LETTER_OF_LINE, LINE, LINE_HAS, NO_INTERNAL_KEY,
+    NO_LETTER, REASON_END, THIS_SIGN, UNREAD,
 };
 use itoa::Buffer;
 use kd_language::Language;
@@ -27,12 +27,12 @@ use kd_pictures::template::{Value, fill_in};
 use kd_pictures::{draw, draw_in};
 use kd_tables::{Letter, Sink};
 
-/// Writes that a part didn't come.
-pub(crate) fn draw_missing<W: Sink>(sink: &mut W, language: Language, name: PartName)
-    ensures { Draws W.taken W.has_failed sink.old sink.new (missing_text language name) }
+/// Writes the paragraph about a part that didn't come. `reason` is the sentence that says so.
+pub(crate) fn draw_missing<W: Sink>(sink: &mut W, language: Language, name: PartName, reason: &str)
+    ensures { Draws W.taken W.has_failed sink.old sink.new (missing_text language name reason.now) }
 {
     draw_in(sink, language, UNREAD);
-    draw_in(sink, language, DID_NOT_COME);
+    draw(sink, reason);
     draw(sink, REASON_END);
     draw_ask(sink, language, name, language.text(ALL_OF_IT));
 }
@@ -47,7 +47,7 @@ pub(crate) fn draw_ask<W: Sink>(sink: &mut W, language: Language, name: PartName
     draw(sink, ASK_END);
 }
 
-/// Writes why a part isn't read, and what to ask for. Warns if the part is of another day.
+/// Writes why a part isn't read, and what to ask for. Warns if the part may be of another day.
 pub(crate) fn draw_damage<W: Sink>(
     sink: &mut W,
     page: PartPage,
@@ -69,6 +69,7 @@ pub(crate) fn draw_damage<W: Sink>(
     draw_asked(sink, language, part, damage);
     draw(sink, ASK_END);
     draw_warnings(sink, language, sheet, unread_warnings(part.group));
+    draw_ask_for_day(sink, language, name, part.group);
 }
 
 /// Writes why a part isn't read.

@@ -192,21 +192,21 @@ const PIN_LOST_LETTER: Text = (
     "<br>? ist ein verlorener Buchstabe: dafür einen beliebigen eingeben und ? schreiben.",
 );
 
-/// The warning that the form is from another day or network. `NOT_TESTED` is the warning that the form's day can't be
-/// tested, because letters are lost.
+/// The warning that the form may be from another day or network. `NOT_TESTED` is the warning that the form's day can't
+/// be tested, because letters are lost.
 pub const WRONG_DAY: SheetText = (
     (ROTOR_WRONG_DAY, PIN_WRONG_DAY),
     (ROTOR_WRONG_DAY, PIN_WRONG_DAY),
 );
 
 const ROTOR_WRONG_DAY: Text = (
-    "<p>Letters 3 to 5 are no group of the day: the form is another day’s, or another network’s.</p>\n",
-    "<p>Buchstabe 3 bis 5 sind keine Kenngruppe des Tages: Der Spruch ist von einem anderen Tag oder aus einem anderen Schlüsselkreis.</p>\n",
+    "<p>Letters 3 to 5 are no group of the day: the form is another day’s or another network’s, or a letter is wrong.</p>\n",
+    "<p>Buchstabe 3 bis 5 sind keine Kenngruppe des Tages: Der Spruch ist von einem anderen Tag oder aus einem anderen Schlüsselkreis, oder ein Buchstabe ist falsch.</p>\n",
 );
 
 const PIN_WRONG_DAY: Text = (
-    "<p>The list letters aren’t the day’s: the form is another day’s, or another network’s.</p>\n",
-    "<p>Die Listenbuchstaben sind nicht die des Tages: Der Spruch ist von einem anderen Tag oder aus einem anderen Schlüsselkreis.</p>\n",
+    "<p>The list letters aren’t the day’s: the form is another day’s or another network’s, or a letter is wrong.</p>\n",
+    "<p>Die Listenbuchstaben sind nicht die des Tages: Der Spruch ist von einem anderen Tag oder aus einem anderen Schlüsselkreis, oder ein Buchstabe ist falsch.</p>\n",
 );
 
 pub const NOT_TESTED: SheetText = (

@@ -7,6 +7,6 @@ use Rattle.kd_message.proofs.notes.draw_missing_note.Goals as goal
 pub returns : goal.returns
 unfolding note_line
 returns g c =
-    joined (both (both (both c.draw_note_name.ensures c.draw_in.ensures) c.draw_in-2.ensures) c.draw_in-3.ensures)
-    c.draw.ensures
+    joined (both (both (both c.draw_note_name.ensures c.draw.ensures) c.draw_in.ensures) c.draw_in-2.ensures)
+    c.draw-2.ensures
     (grind (arith, common_steps))

@@ -2,7 +2,7 @@ use Rattle.kd_pictures.proofs.Drawings.{both, joined}
 use Rattle.kd_message.specs.declared.texts.TheConstants.{TEXT_END}
 use Rattle.kd_part_sheet.specs.PartSheet.{warnings_text}
 use Rattle.kd_message.proofs.ReceivePages.{five_joined}
-use Rattle.kd_message.specs.TextSheet.{ask_for_lost, text_begin, text_letters, warnings_of}
+use Rattle.kd_message.specs.TextSheet.{group_requests, text_begin, text_letters, warnings_of}
 unfoldable use Rattle.kd_message.specs.TextSheet.{read_text}
 use Rattle.kd_message.proofs.text_sheet.draw_read_text.Goals as goal
 
@@ -12,9 +12,8 @@ returns g c =
     let first = rw c.text_begin.ensures at c.draw.ensures in
     let letters = rw c.as_slice.ensures.value at c.draw_text_letters.ensures in
     let warnings = rw c.warnings_of.ensures at c.draw_warnings.ensures in
-    let asked = rw c.as_slice-2.ensures.value at c.draw_ask_for_lost.ensures in
-    joined (both (both (both first letters) c.draw-2.ensures) warnings) asked
+    joined (both (both (both first letters) c.draw-2.ensures) warnings) c.draw_group_requests.ensures
     (five_joined (text_begin c.args.page.name.model)
     (text_letters c.args.page.name.results c.args.day.now c.args.shown.now.letters.items)
     TEXT_END.now (warnings_text c.args.page.language c.args.page.sheet (warnings_of c.args.shown.now))
-    (ask_for_lost c.args.page.language c.args.page.name c.args.shown.now.letters.items))
+    (group_requests c.args.page.language c.args.page.name c.args.shown.now))

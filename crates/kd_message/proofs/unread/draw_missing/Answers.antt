@@ -7,5 +7,5 @@ use Rattle.kd_message.proofs.unread.draw_missing.Goals as goal
 pub returns : goal.returns
 unfolding unread_text
 returns g c =
-    joined (both (both c.draw_in.ensures c.draw_in-2.ensures) c.draw.ensures) c.draw_ask.ensures
+    joined (both (both c.draw_in.ensures c.draw.ensures) c.draw-2.ensures) c.draw_ask.ensures
     (grind (arith, common_steps))

@@ -1,7 +1,7 @@
 use Rattle.std.proofs.Common.{arith}
 use Rattle.std.proofs.lemmas.Grind.{common_steps}
 use Rattle.kd_pictures.proofs.Drawings.{both, joined}
-use Rattle.kd_message.proofs.text_sheet.+draw_headings.Goals as goal
+use Rattle.kd_message.proofs.clash_words.+draw_headings.Goals as goal
 
 pub returns-in-Some : goal.returns-in-Some
 returns-in-Some g t c =
